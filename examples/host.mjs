@@ -37,24 +37,38 @@ function tokensOf(text) {
 const NUMBER = (scale) => ({ kind: "number", scale });
 
 // What a host has to know of a query: the tables of FROM, the columns that it reads, its text literals, and of each result column the name
-// and the kind. Columns and literals come in the order in which ON, WHERE and then the select list name them; behind these columns stand the
-// first ones of the tables of which none is named. Column c of entry e of FROM has the number 64 * e + c. Kinds are those that a reader of the
-// query would come to; conditions have none. A module leaves its rows in no order: the host sorts them by the keys of ORDER BY.
+// and the kind. Columns come in the order in which ON, WHERE, GROUP BY, the arguments of set functions and then the select list name them, those
+// of a select list with groups being columns of GROUP BY; behind these columns stand the first ones of the tables of which none is named. Column
+// c of entry e of FROM has the number 64 * e + c. Literals come in the order of ON, WHERE, the arguments of set functions, HAVING and the select
+// list; set functions are those of the select list and then of HAVING. Kinds are those that a reader of the query would come to; conditions have
+// none. A module leaves its rows in no order: the host sorts them by the keys of ORDER BY.
 class Query {
   constructor(tokens, schema) {
     this.tokens = tokens;
     this.named = new Set();
     this.entries = [];
+    this.spans = [];
     const from = this.place("FROM");
-    this.texts = [...this.textsBetween(from, tokens.length), ...this.textsBetween(1, from)];
     this.at = from + 1;
     this.sources(schema);
     this.reached = this.entries;
     if (this.take("WHERE")) this.condition();
-    const order = this.take("ORDER") ? this.at : undefined;
+    if (this.take("GROUP")) {
+      this.take("BY");
+      do this.primary(); while (this.take(","));
+    }
+    const front = this.at;
     this.at = 0;
     this.results = this.list();
-    this.keys = order === undefined ? [] : this.order(order);
+    this.at = front;
+    if (this.take("HAVING")) this.condition();
+    const behind = this.at;
+    this.keys = this.take("ORDER") ? this.order(this.at) : [];
+    const isOutside = (at) => !this.spans.some(([first, end]) => first <= at && at < end);
+    this.texts = [
+      ...this.textsBetween(from, front), ...this.spans.flatMap(([first, end]) => this.textsBetween(first, end)),
+      ...this.textsBetween(front, behind, isOutside), ...this.textsBetween(1, from, isOutside),
+    ];
     const isNamed = (entry) => [...this.named].some((number) => number >> 6 === entry);
     this.entries.forEach((_, entry) => isNamed(entry) || this.named.add(64 * entry));
     this.columns = [...this.named].map((number) => ({ table: this.entries[number >> 6].table, column: number & 63 }));
@@ -77,7 +91,7 @@ class Query {
   entry(schema) {
     const table = schema.find(({ name }) => name === fold(this.tokens[this.at]));
     this.next();
-    const isAlias = this.take("AS") || (this.at < this.tokens.length && !this.is(",", "INNER", "JOIN", "ON", "WHERE", "ORDER"));
+    const isAlias = this.take("AS") || (this.at < this.tokens.length && !this.is(",", "INNER", "JOIN", "ON", "WHERE", "GROUP", "HAVING", "ORDER"));
     const entry = { number: this.entries.length, name: isAlias ? fold(this.next()) : table.name, table };
     this.entries.push(entry);
     this.reached.push(entry);
@@ -93,9 +107,9 @@ class Query {
   }
 
   // the strings from a token to another that stand in no date, by their octets
-  textsBetween(from, to) {
+  textsBetween(from, to, isTaken = () => true) {
     const isText = (at) => this.tokens[at].startsWith("'") && !["DATE", "INTERVAL"].includes(this.tokens[at - 1].toUpperCase());
-    return this.tokens.map((token, at) => (at >= from && at < to && isText(at) ? Buffer.from(token.slice(1, -1).replaceAll("''", "'")) : undefined))
+    return this.tokens.map((token, at) => (at >= from && at < to && isText(at) && isTaken(at) ? Buffer.from(token.slice(1, -1).replaceAll("''", "'")) : undefined))
       .filter((text) => text !== undefined);
   }
 
@@ -177,6 +191,8 @@ class Query {
   primary() {
     if (this.take("(")) { const inside = this.phrase(); this.take(")"); return inside; }
     if (this.take("CASE")) return this.branches();
+    const word = this.take("COUNT", "SUM", "AVG", "MIN", "MAX");
+    if (word) return this.setFunction(word);
     if (this.take("COALESCE")) return joined(this.arguments());
     if (this.take("NULLIF")) { const { kind, scale } = this.arguments()[0]; return { kind, scale }; }
     if (this.take("EXTRACT")) { this.at += 3; this.sum(); this.take(")"); return NUMBER(0); }
@@ -186,6 +202,18 @@ class Query {
     if (token.startsWith("'")) return { kind: "text" };
     if (/^[\d.]/.test(token)) return NUMBER((token.split(".")[1] ?? "").length);
     return this.take(".") ? this.column(this.next(), fold(token)) : this.column(token);
+  }
+
+  // A set function, whose argument is noted by where it stands: an average has four digits more behind its point.
+  setFunction(word) {
+    this.take("(");
+    if (this.take("*")) { this.take(")"); return NUMBER(0); }
+    this.take("ALL");
+    const first = this.at;
+    const { kind, scale } = this.sum();
+    this.spans.push([first, this.at]);
+    this.take(")");
+    return word === "COUNT" ? NUMBER(0) : word === "AVG" ? NUMBER(scale + 4) : { kind, scale };
   }
 
   // a condition or an expression: an expression ends where its brackets do

@@ -1,11 +1,11 @@
--- How large a query is, and which queries a script may have (ISO/IEC 9075:1992, 7.9). The standard leaves the limits to the implementation.
+-- How large a query is, and which queries a script may have (ISO/IEC 9075:1992, 7.9, 7.7). The standard leaves the limits to the implementation.
 use Rattle.std.specs.Prelude.{◌≤◌, ◌+◌, ◌-◌, ◌==◌, ℕ, if◌then◌else◌, List, [], ◌∷◌, length, map, take, drop, Option, Some, None}
 use Rattle.std.specs.List.{AllByRecursion, flat_map}
 use Rattle.qw_types.specs.Octets.{single_quote}
 use Rattle.qw_token.specs.Token.{Lexeme}
 use Rattle.qw_ast.specs.SchemaGrammar.{IsTooDeep}
 use Rattle.qw_ast.specs.ScriptGrammar.{IsSelectOf}
-use Rattle.qw_ast.specs.Syntax.{Expression, null, number, text, date, column, signed, arithmetic, extract, searched_case, simple_case, coalesce, null_if, Condition, comparison, between, among, is_null, both, either, negation_of, is, bracketed, Clause, condition, expression, Expressions, last, further, Branching, otherwise, when, SelectItem, Selected, all_columns, items, Entry, Joined, Source, Select}
+use Rattle.qw_ast.specs.Syntax.{Expression, null, number, text, date, column, signed, arithmetic, extract, searched_case, simple_case, coalesce, null_if, count_rows, set_function, Condition, comparison, between, among, is_null, both, either, negation_of, is, bracketed, Clause, condition, expression, Expressions, last, further, Branching, otherwise, when, SelectItem, Selected, all_columns, items, Entry, Joined, Source, Select}
 
 -- ---- how large a query is
 
@@ -19,8 +19,8 @@ undoubled (b ∷ c ∷ bs) = if b == single_quote then b ∷ undoubled bs else b
 abbrev pub string_value : List ℕ → List ℕ
 string_value octets = undoubled (take (length octets - 2) (drop 1 octets))
 
--- Nodes: each literal, column reference, operator, predicate, function and CASE. A date with its intervals is one literal; the word
--- NULL as a result is none, and brackets are none. The keys of ORDER BY are no nodes, and are counted by themselves.
+-- Nodes: each literal, column reference, operator, predicate, function, set function and CASE. A date with its intervals is one literal;
+-- the word NULL as a result is none, and brackets are none. The keys of ORDER BY are no nodes, and are counted by themselves.
 abbrev mutual
   pub nodes : Expression → ℕ
   nodes null = 0
@@ -35,6 +35,8 @@ abbrev mutual
   nodes (simple_case x branches) = 1 + (nodes x + nodes_branches branches)
   nodes (coalesce es) = 1 + nodes_all es
   nodes (null_if a b) = 1 + (nodes a + nodes b)
+  nodes (count_rows place) = 1
+  nodes (set_function place f a) = 1 + nodes a
 
   pub nodes_condition : Condition → ℕ
   nodes_condition (comparison op a b) = 1 + (nodes a + nodes b)
@@ -74,6 +76,8 @@ abbrev mutual
   octets (simple_case x branches) = octets x + octets_branches branches
   octets (coalesce es) = octets_all es
   octets (null_if a b) = octets a + octets b
+  octets (count_rows place) = 0
+  octets (set_function place f a) = octets a
 
   pub octets_condition : Condition → ℕ
   octets_condition (comparison op a b) = octets a + octets b
@@ -110,7 +114,7 @@ entries_in source = source.first ∷ map (λ (j : Joined). j.entry) source.joins
 abbrev pub entries_of : List Source → List Entry
 entries_of sources = flat_map entries_in sources
 
--- a number of each item, of the condition of each ON, and of the condition of WHERE, in all
+-- a number of each item, of the condition of each ON, and of the condition of WHERE or HAVING, in all
 abbrev pub over_items : (Expression → ℕ) → List SelectItem → ℕ
 over_items size [] = 0
 over_items size (i ∷ others) = size i.value + over_items size others
@@ -133,22 +137,28 @@ query_items s = length (items_of s.selected)
 abbrev pub query_entries : Select → ℕ
 query_entries s = length (entries_of s.sources)
 
+-- the columns of GROUP BY
+abbrev pub query_columns : Select → ℕ
+query_columns s = length s.grouping
+
 abbrev pub query_keys : Select → ℕ
 query_keys s = length s.order
 
+-- each column reference of GROUP BY is a node
 abbrev pub query_nodes : Select → ℕ
-query_nodes s = over_items nodes (items_of s.selected) + (over_sources nodes_condition s.sources + over_filter nodes_condition s.filter)
+query_nodes s = over_items nodes (items_of s.selected) + (over_sources nodes_condition s.sources + (over_filter nodes_condition s.filter + (length s.grouping + over_filter nodes_condition s.having)))
 
 abbrev pub query_octets : Select → ℕ
-query_octets s = over_items octets (items_of s.selected) + (over_sources octets_condition s.sources + over_filter octets_condition s.filter)
+query_octets s = over_items octets (items_of s.selected) + (over_sources octets_condition s.sources + (over_filter octets_condition s.filter + over_filter octets_condition s.having))
 
 -- ---- limits
 
--- the sizes of a query that are taken: the items of its select list, the entries of its FROM, the keys of its ORDER BY, its nodes, the
--- octets of its character strings
-pub record AreTaken (items entries keys nodes octets : ℕ) : Type 0 where
+-- the sizes of a query that are taken: the items of its select list, the entries of its FROM, the columns of its GROUP BY, the keys of
+-- its ORDER BY, its nodes, the octets of its character strings
+pub record AreTaken (items entries columns keys nodes octets : ℕ) : Type 0 where
   pub few_items : items ≤ 64
   pub few_entries : entries ≤ 8
+  pub few_columns : columns ≤ 64
   pub few_keys : keys ≤ 64
   pub few_nodes : nodes ≤ 1000
   pub few_octets : octets ≤ 16384
@@ -162,7 +172,7 @@ pub record IsScriptLength (statements : ℕ) : Type 0 where
 pub record IsAccepted (tokens : List Lexeme) (s : Select) : Type 0 where
   pub shallow : IsTooDeep tokens → ⊥
   pub query : IsSelectOf tokens s
-  pub sizes : AreTaken (query_items s) (query_entries s) (query_keys s) (query_nodes s) (query_octets s)
+  pub sizes : AreTaken (query_items s) (query_entries s) (query_columns s) (query_keys s) (query_nodes s) (query_octets s)
   pub open sizes use *
 
 -- Some tokens are this query, and it keeps each limit.

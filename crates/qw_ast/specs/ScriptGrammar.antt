@@ -1,6 +1,6 @@
 -- The grammar of a script (ISO/IEC 9075:1992; the section stands at each rule). A rule tells what stands at the front of some
 -- tokens, and the tokens that follow it. A data type is a rule of the standard, and a constructor one of its alternatives.
-use Rattle.std.specs.Prelude.{◌≡◌, ℕ, zero, suc, Bool, true, false, ◌&&◌, ◌||◌, not, if◌then◌else◌, IsTrue, List, [], ◌∷◌, ◌++◌, Option, Some, None, codes}
+use Rattle.std.specs.Prelude.{◌≡◌, ℕ, zero, suc, Bool, true, false, ◌&&◌, ◌||◌, not, if◌then◌else◌, IsTrue, List, [], ◌∷◌, ◌++◌, length, Option, Some, None, codes}
 use Rattle.std.specs.List.{list_any}
 use Rattle.std.specs.Str.{bytes_eq}
 use Rattle.qw_types.specs.Digits.{are_digits}
@@ -17,8 +17,10 @@ use Rattle.qw_token.specs.declared.token.Kind.TheVariants.{Word, DelimitedIdenti
 use Rattle.qw_token.specs.Token.{Lexeme}
 use Rattle.qw_ast.specs.declared.script.Sign.{Sign}
 use Rattle.qw_ast.specs.declared.script.Sign.TheVariants.{Plus, Minus}
+use Rattle.qw_ast.specs.declared.script.SetFunction.{SetFunction}
+use Rattle.qw_ast.specs.declared.script.SetFunction.TheVariants.{Count, Sum, Avg, Min, Max}
 use Rattle.qw_ast.specs.Grammar.{folded, reserved}
-use Rattle.qw_ast.specs.Syntax.{Days, Expression, null, number, text, date, column, signed, arithmetic, extract, searched_case, simple_case, coalesce, null_if, Condition, comparison, between, among, is_null, both, either, negation_of, is, bracketed, Clause, condition, expression, Expressions, last, further, Branching, otherwise, when, SelectItem, Selected, all_columns, items, Entry, Joined, Source, Key, ordinal, result_column, SortSpecification, Select}
+use Rattle.qw_ast.specs.Syntax.{Days, Expression, null, number, text, date, column, signed, arithmetic, extract, searched_case, simple_case, coalesce, null_if, count_rows, set_function, Condition, comparison, between, among, is_null, both, either, negation_of, is, bracketed, Clause, condition, expression, Expressions, last, further, Branching, otherwise, when, SelectItem, Selected, all_columns, items, Entry, Joined, Source, Reference, Key, ordinal, result_column, SortSpecification, Select}
 
 -- ---- tokens (5.2, 5.4)
 
@@ -94,6 +96,15 @@ field_of t =
     else (if is_word (codes "DAY") t then Some Day
     else None))
 
+abbrev pub set_function_of : Lexeme → Option SetFunction
+set_function_of t =
+    if is_word (codes "COUNT") t then Some Count
+    else (if is_word (codes "SUM") t then Some Sum
+    else (if is_word (codes "AVG") t then Some Avg
+    else (if is_word (codes "MIN") t then Some Min
+    else (if is_word (codes "MAX") t then Some Max
+    else None))))
+
 abbrev pub truth_of : Lexeme → Option Truth
 truth_of t =
     if is_word (codes "TRUE") t then Some True
@@ -136,6 +147,11 @@ AreFurther Item xs ts rest = Series IsNothing (IsOperator is_comma) Item appende
 pub data IsOptionalNot : Bool → List Lexeme → List Lexeme → Type 0 where
   not_absent : (rest : List Lexeme) → IsOptionalNot false rest rest
   not_there : (t : Lexeme) (rest : List Lexeme) → IsTrue (is_word (codes "NOT") t) → IsOptionalNot true (t ∷ rest) rest
+
+-- ALL or nothing (6.5, 7.9); it has no effect
+pub data IsOptionalAll : List Lexeme → List Lexeme → Type 0 where
+  all_absent : (rest : List Lexeme) → IsOptionalAll rest rest
+  all_there : (t : Lexeme) (rest : List Lexeme) → IsTrue (is_word (codes "ALL") t) → IsOptionalAll (t ∷ rest) rest
 
 -- ---- dates (5.3 "date literal" and "interval literal", 6.14)
 
@@ -214,7 +230,8 @@ abbrev pub branching : List Branch → Expression → Branching
 branching [] other = otherwise other
 branching (b ∷ bs) other = when b.test b.result (branching bs other)
 
--- a primary: a literal (5.3), a column reference (6.4), brackets, a case expression (6.9), EXTRACT (6.6)
+-- A primary: a literal (5.3), a column reference (6.4), brackets, a case expression (6.9), EXTRACT (6.6), a set function (6.5). The place
+-- of a set function is the number of tokens behind it.
 pub data IsPrimary (Inner : Clause → List Lexeme → List Lexeme → Type 0) : Expression → List Lexeme → List Lexeme → Type 0 where
   a_number : (t : Lexeme) (rest : List Lexeme) → IsTrue (is_number t) → IsPrimary Inner (number t.octets) (t ∷ rest) rest
   a_string : (t : Lexeme) (rest : List Lexeme) → IsTrue (is_string t) → IsPrimary Inner (text t.octets) (t ∷ rest) rest
@@ -232,6 +249,10 @@ pub data IsPrimary (Inner : Clause → List Lexeme → List Lexeme → Type 0) :
       → Inner (expression a) ts (comma ∷ us) → IsTrue (is_symbol (codes ",") comma) → Inner (expression b) us (closing ∷ rest) → IsTrue (is_symbol (codes ")") closing) → IsPrimary Inner (null_if a b) (word ∷ opening ∷ ts) rest
   an_extract : (field : Field) (e : Expression) (word opening name from closing : Lexeme) (ts rest : List Lexeme) → IsTrue (is_word (codes "EXTRACT") word) → IsTrue (is_symbol (codes "(") opening) → field_of name ≡ Some field
       → IsTrue (is_word (codes "FROM") from) → Inner (expression e) ts (closing ∷ rest) → IsTrue (is_symbol (codes ")") closing) → IsPrimary Inner (extract field e) (word ∷ opening ∷ name ∷ from ∷ ts) rest
+  a_row_count : (word opening star closing : Lexeme) (rest : List Lexeme) → IsTrue (is_word (codes "COUNT") word) → IsTrue (is_symbol (codes "(") opening) → IsTrue (is_symbol (codes "*") star)
+      → IsTrue (is_symbol (codes ")") closing) → IsPrimary Inner (count_rows (length rest)) (word ∷ opening ∷ star ∷ closing ∷ rest) rest
+  a_set_function : (f : SetFunction) (e : Expression) (word opening closing : Lexeme) (ts us rest : List Lexeme) → set_function_of word ≡ Some f → IsTrue (is_symbol (codes "(") opening) → IsOptionalAll ts us
+      → Inner (expression e) us (closing ∷ rest) → IsTrue (is_symbol (codes ")") closing) → IsPrimary Inner (set_function (length rest) f e) (word ∷ opening ∷ ts) rest
 
 -- a factor (6.12)
 pub data IsFactor (Inner : Clause → List Lexeme → List Lexeme → Type 0) : Expression → List Lexeme → List Lexeme → Type 0 where
@@ -315,11 +336,6 @@ pub data IsSelectList (Inner : Clause → List Lexeme → List Lexeme → Type 0
   asterisk : (t : Lexeme) (rest : List Lexeme) → IsTrue (is_symbol (codes "*") t) → IsSelectList Inner all_columns (t ∷ rest) rest
   some_items : (i : SelectItem) (is : List SelectItem) (ts us rest : List Lexeme) → IsItem Inner i ts us → AreFurther (IsItem Inner) is us rest → IsSelectList Inner (items (i ∷ is)) ts rest
 
--- ALL or nothing (7.9)
-pub data IsOptionalAll : List Lexeme → List Lexeme → Type 0 where
-  all_absent : (rest : List Lexeme) → IsOptionalAll rest rest
-  all_there : (t : Lexeme) (rest : List Lexeme) → IsTrue (is_word (codes "ALL") t) → IsOptionalAll (t ∷ rest) rest
-
 -- a where clause or nothing (7.6)
 pub data IsFilter (Inner : Clause → List Lexeme → List Lexeme → Type 0) : Option Condition → List Lexeme → List Lexeme → Type 0 where
   unfiltered : (rest : List Lexeme) → IsFilter Inner None rest rest
@@ -350,6 +366,22 @@ pub data IsSource (Inner : Clause → List Lexeme → List Lexeme → Type 0) : 
 pub data AreSources (Inner : Clause → List Lexeme → List Lexeme → Type 0) : List Source → List Lexeme → List Lexeme → Type 0 where
   some_sources : (s : Source) (others : List Source) (ts us rest : List Lexeme) → IsSource Inner s ts us → AreFurther (IsSource Inner) others us rest → AreSources Inner (s ∷ others) ts rest
 
+-- a column reference (6.4)
+pub data IsReference : Reference → List Lexeme → List Lexeme → Type 0 where
+  a_bare_reference : (t : Lexeme) (rest : List Lexeme) → IsTrue (is_name t) → IsReference (record { qualifier = None; name = t.octets }) (t ∷ rest) rest
+  a_qualified_reference : (q point t : Lexeme) (rest : List Lexeme) → IsTrue (is_name q) → IsTrue (is_symbol (codes ".") point) → IsTrue (is_name t) → IsReference (record { qualifier = Some q.octets; name = t.octets }) (q ∷ point ∷ t ∷ rest) rest
+
+-- a group by clause or nothing (7.7)
+pub data IsGrouping : List Reference → List Lexeme → List Lexeme → Type 0 where
+  ungrouped : (rest : List Lexeme) → IsGrouping [] rest rest
+  grouped : (r : Reference) (others : List Reference) (word by : Lexeme) (ts us rest : List Lexeme) → IsTrue (is_word (codes "GROUP") word) → IsTrue (is_word (codes "BY") by)
+      → IsReference r ts us → AreFurther IsReference others us rest → IsGrouping (r ∷ others) (word ∷ by ∷ ts) rest
+
+-- a having clause or nothing (7.8)
+pub data IsHaving (Inner : Clause → List Lexeme → List Lexeme → Type 0) : Option Condition → List Lexeme → List Lexeme → Type 0 where
+  no_having : (rest : List Lexeme) → IsHaving Inner None rest rest
+  a_having : (c : Condition) (word : Lexeme) (ts rest : List Lexeme) → IsTrue (is_word (codes "HAVING") word) → Inner (condition c) ts rest → IsHaving Inner (Some c) (word ∷ ts) rest
+
 -- a sort key (13.1): a number without a point, or a column reference
 pub data IsKey : Key → List Lexeme → List Lexeme → Type 0 where
   an_ordinal : (t : Lexeme) (rest : List Lexeme) → IsTrue (is_integer t) → IsKey (ordinal t.octets) (t ∷ rest) rest
@@ -372,11 +404,12 @@ pub data IsOrder : List SortSpecification → List Lexeme → List Lexeme → Ty
   ordered : (s : SortSpecification) (others : List SortSpecification) (word by : Lexeme) (ts us rest : List Lexeme) → IsTrue (is_word (codes "ORDER") word) → IsTrue (is_word (codes "BY") by)
       → IsSort s ts us → AreFurther IsSort others us rest → IsOrder (s ∷ others) (word ∷ by ∷ ts) rest
 
--- a query specification (7.9, 7.3, 7.4), and the order of its rows (13.1)
+-- a query specification (7.9, 7.3, 7.4, 7.7, 7.8), and the order of its rows (13.1)
 pub data IsSelect (Inner : Clause → List Lexeme → List Lexeme → Type 0) : Select → List Lexeme → List Lexeme → Type 0 where
-  a_select : (selected : Selected) (sources : List Source) (filter : Option Condition) (order : List SortSpecification) (word from : Lexeme) (ts us vs ws xs rest : List Lexeme) → IsTrue (is_word (codes "SELECT") word) → IsOptionalAll ts us
-      → IsSelectList Inner selected us (from ∷ vs) → IsTrue (is_word (codes "FROM") from) → AreSources Inner sources vs ws → IsFilter Inner filter ws xs → IsOrder order xs rest
-      → IsSelect Inner (record { selected = selected; sources = sources; filter = filter; order = order }) (word ∷ ts) rest
+  a_select : (selected : Selected) (sources : List Source) (filter : Option Condition) (grouping : List Reference) (having : Option Condition) (order : List SortSpecification) (word from : Lexeme) (ts us vs ws xs ys zs rest : List Lexeme)
+      → IsTrue (is_word (codes "SELECT") word) → IsOptionalAll ts us → IsSelectList Inner selected us (from ∷ vs) → IsTrue (is_word (codes "FROM") from) → AreSources Inner sources vs ws → IsFilter Inner filter ws xs
+      → IsGrouping grouping xs ys → IsHaving Inner having ys zs → IsOrder order zs rest
+      → IsSelect Inner (record { selected = selected; sources = sources; filter = filter; grouping = grouping; having = having; order = order }) (word ∷ ts) rest
 
 -- The tokens are this query. A statement with more than 32 brackets and CASEs open is refused before, and so none is a query here.
 abbrev pub IsSelectOf : List Lexeme → Select → Type 0

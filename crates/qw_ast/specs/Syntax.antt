@@ -5,6 +5,7 @@ use Rattle.qw_scalar.specs.declared.expression.Operator.{Operator}
 use Rattle.qw_scalar.specs.declared.expression.Field.{Field}
 use Rattle.qw_scalar.specs.declared.comparison.Comparison.{Comparison}
 use Rattle.qw_ast.specs.declared.script.Sign.{Sign}
+use Rattle.qw_ast.specs.declared.script.SetFunction.{SetFunction}
 
 -- a sign and the string of an interval of days (ISO/IEC 9075:1992, 5.3)
 pub record Days : Type 0 where
@@ -32,6 +33,10 @@ mutual
     simple_case : Expression → Branching → Expression
     coalesce : Expressions → Expression
     null_if : Expression → Expression → Expression
+    -- COUNT(*), and its place: how many tokens stand behind it, which tells it from every other of the query (6.5)
+    count_rows : ℕ → Expression
+    -- a set function of an argument, and its place (6.5)
+    set_function : ℕ → SetFunction → Expression → Expression
 
   -- a condition (8.12); a truth value tells whether NOT stands in the predicate
   pub data Condition : Type 0 where
@@ -86,6 +91,11 @@ pub record Source : Type 0 where
   pub first : Entry
   pub joins : List Joined
 
+-- a column reference: a name, behind a qualifier or not (6.4)
+pub record Reference : Type 0 where
+  pub qualifier : Option (List ℕ)
+  pub name : List ℕ
+
 -- a sort key: a result column by its position, or by its name, behind a qualifier or not (13.1)
 pub data Key : Type 0 where
   ordinal : List ℕ → Key
@@ -96,9 +106,13 @@ pub record SortSpecification : Type 0 where
   pub key : Key
   pub is_descending : Bool
 
--- SELECT .. FROM .. WHERE .. ORDER BY .. (7.9, 7.4, 7.6, 13.1)
+-- SELECT .. FROM .. WHERE .. GROUP BY .. HAVING .. ORDER BY .. (7.9, 7.4, 7.6, 7.7, 7.8, 13.1)
 pub record Select : Type 0 where
   pub selected : Selected
   pub sources : List Source
   pub filter : Option Condition
+  -- the columns of GROUP BY, none where there is no GROUP BY (7.7)
+  pub grouping : List Reference
+  -- the condition of HAVING (7.8)
+  pub having : Option Condition
   pub order : List SortSpecification

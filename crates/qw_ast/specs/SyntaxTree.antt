@@ -11,6 +11,7 @@ use Rattle.qw_ast.specs.declared.script.Entry as coded_entry
 use Rattle.qw_ast.specs.declared.script.Item.{Item}
 use Rattle.qw_ast.specs.declared.script.Joined as coded_join
 use Rattle.qw_ast.specs.declared.script.Source as coded_source
+use Rattle.qw_ast.specs.declared.script.Reference as coded_reference
 use Rattle.qw_ast.specs.declared.script.Key as coded_key
 use Rattle.qw_ast.specs.declared.script.Key.TheVariants.{Ordinal}
 use Rattle.qw_ast.specs.declared.script.Key.TheVariants as coded_keys
@@ -18,9 +19,9 @@ use Rattle.qw_ast.specs.declared.script.SortSpecification as coded_sort
 use Rattle.qw_ast.specs.declared.script.SelectList.{SelectList}
 use Rattle.qw_ast.specs.declared.script.SelectList.TheVariants.{All, Items}
 use Rattle.qw_ast.specs.declared.script.Statement.{Statement}
-use Rattle.qw_ast.specs.declared.script.Expr.TheVariants.{Null, Number, Text, Date, Column, Signed', Arithmetic', Extract', Case', Match', Coalesce', NullIf'}
+use Rattle.qw_ast.specs.declared.script.Expr.TheVariants.{Null, Number, Text, Date, Column, Signed', Arithmetic', Extract', Case', Match', Coalesce', NullIf', CountRows, SetFunction'}
 use Rattle.qw_ast.specs.declared.script.Cond.TheVariants.{Compare', Between', In', IsNull', And', Or', Not', Is', Bracketed'}
-use Rattle.qw_ast.specs.Syntax.{Days, Expression, null, number, text, date, column, signed, arithmetic, extract, searched_case, simple_case, coalesce, null_if, Condition, comparison, between, among, is_null, both, either, negation_of, is, bracketed, Clause, condition, expression, Expressions, last, further, Branching, otherwise, when, SelectItem, Selected, all_columns, items, Entry, Joined, Source, Key, ordinal, result_column, SortSpecification, Select}
+use Rattle.qw_ast.specs.Syntax.{Days, Expression, null, number, text, date, column, signed, arithmetic, extract, searched_case, simple_case, coalesce, null_if, count_rows, set_function, Condition, comparison, between, among, is_null, both, either, negation_of, is, bracketed, Clause, condition, expression, Expressions, last, further, Branching, otherwise, when, SelectItem, Selected, all_columns, items, Entry, Joined, Source, Reference, Key, ordinal, result_column, SortSpecification, Select}
 
 -- octets that may be there
 abbrev pub octets_of : Option (Bor (List ℕ)) → Option (List ℕ)
@@ -43,6 +44,8 @@ abbrev mutual
   expression_of (Match' _ x _ branches) = simple_case (expression_of x) (branching_of branches)
   expression_of (Coalesce' _ arguments) = coalesce (expressions_of arguments)
   expression_of (NullIf' _ a _ b) = null_if (expression_of a) (expression_of b)
+  expression_of (CountRows place) = count_rows place
+  expression_of (SetFunction' place f _ a) = set_function place f (expression_of a)
 
   pub condition_of : Cond → Condition
   condition_of (Compare' op _ a _ b) = comparison op (expression_of a) (expression_of b)
@@ -83,6 +86,9 @@ joined_of j = record { entry = entry_of j.entry; on = condition_of j.on }
 abbrev pub source_of : coded_source.Source → Source
 source_of s = record { first = entry_of s.first; joins = map joined_of s.joins.items }
 
+abbrev pub reference_of : coded_reference.Reference → Reference
+reference_of r = record { qualifier = octets_of r.qualifier; name = r.name.now }
+
 abbrev pub key_of : coded_key.Key → Key
 key_of (Ordinal digits) = ordinal digits.now
 key_of (coded_keys.Column qualifier name) = result_column (octets_of qualifier) name.now
@@ -91,7 +97,7 @@ abbrev pub sort_of : coded_sort.SortSpecification → SortSpecification
 sort_of s = record { key = key_of s.key; is_descending = s.is_descending }
 
 abbrev pub select_of : Statement → Select
-select_of s = record { selected = selected_of s.list; sources = map source_of s.sources.items; filter = option_map condition_of s.condition; order = map sort_of s.order.items }
+select_of s = record { selected = selected_of s.list; sources = map source_of s.sources.items; filter = option_map condition_of s.condition; grouping = map reference_of s.grouping.items; having = option_map condition_of s.having; order = map sort_of s.order.items }
 
 -- the queries that statements are, in order
 abbrev pub selects_of : List Statement → List Select

@@ -23,7 +23,18 @@ pub struct Interval<'a> {
     pub days: &'a [u8],
 }
 
-/// An expression (6.11 "value expression").
+/// A function of the values of a group (6.5 "set function specification").
+#[derive(Clone, Copy, Debug, PartialEq, Eq)]
+pub enum SetFunction {
+    Count,
+    Sum,
+    Avg,
+    Min,
+    Max,
+}
+
+/// An expression (6.11 "value expression"). A set function has its place in front: the number of the statement's tokens behind it, which
+/// no other set function of the statement has.
 #[cycle(script)]
 pub enum Expr<'a> {
     /// The word NULL, which stands only as a result of a CASE; also the result of an ELSE that isn't there (6.9).
@@ -50,6 +61,10 @@ pub enum Expr<'a> {
     Coalesce(Box<Exprs<'a>>),
     /// `NULLIF(left, right)` (6.9).
     NullIf(Box<Expr<'a>>, Box<Expr<'a>>),
+    /// `COUNT(*)` (6.5).
+    CountRows(usize),
+    /// `function([ALL] argument)` (6.5).
+    SetFunction(usize, SetFunction, Box<Expr<'a>>),
 }
 
 /// A condition (8.12 "search condition", with its predicates). A `bool` tells whether NOT stands in the predicate.
@@ -136,6 +151,13 @@ pub struct Source<'a> {
     pub joins: Vec<Joined<'a>>,
 }
 
+/// `[qualifier.]name` (6.4 "column reference").
+#[derive(Clone, Copy, Debug)]
+pub struct Reference<'a> {
+    pub qualifier: Option<&'a [u8]>,
+    pub name: &'a [u8],
+}
+
 /// What a sort specification sorts by: a result column (13.1 "sort key").
 #[derive(Clone, Copy, Debug)]
 pub enum Key<'a> {
@@ -152,13 +174,15 @@ pub struct SortSpecification<'a> {
     pub is_descending: bool,
 }
 
-/// `SELECT list FROM sources [WHERE condition] [ORDER BY order]` (7.9, 7.4, 7.6, 13.1), with one source or more; without an ORDER BY the
-/// order is empty.
+/// `SELECT list FROM sources [WHERE condition] [GROUP BY grouping] [HAVING having] [ORDER BY order]` (7.9, 7.4, 7.6, 7.7, 7.8, 13.1), with
+/// one source or more; without a GROUP BY the grouping is empty, and without an ORDER BY the order.
 #[derive(Drop)]
 pub struct Statement<'a> {
     pub list: SelectList<'a>,
     pub sources: Vec<Source<'a>>,
     pub condition: Option<Cond<'a>>,
+    pub grouping: Vec<Reference<'a>>,
+    pub having: Option<Cond<'a>>,
     pub order: Vec<SortSpecification<'a>>,
 }
 
@@ -216,6 +240,7 @@ impl<'a> Drop for Expr<'a> {
         loop {
             match self {
                 Expr::Null | Expr::Number(_) | Expr::Text(_) | Expr::Column(_, _) => return,
+                Expr::CountRows(_) => return,
                 Expr::Date(_, _intervals) => return,
                 Expr::Signed(_, _operand) => return,
                 Expr::Arithmetic(_, left, _right) => self = Box::into_inner(left),
@@ -224,6 +249,7 @@ impl<'a> Drop for Expr<'a> {
                 Expr::Match(_operand, _branches) => return,
                 Expr::Coalesce(_arguments) => return,
                 Expr::NullIf(_left, _right) => return,
+                Expr::SetFunction(_, _, _argument) => return,
             }
         }
     }

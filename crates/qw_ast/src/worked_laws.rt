@@ -2,15 +2,16 @@
 
 ghost use Rattle.qw_ast.specs.Limits.{AreTaken, IsScriptLength};
 
-/// A query of 64 items, 8 entries of FROM, 64 sort keys, 1,000 nodes and 16,384 literal octets is taken; one item, entry, key, node or
-/// octet more is too many.
+/// A query of 64 items, 8 entries of FROM, 64 grouped columns, 64 sort keys, 1,000 nodes and 16,384 literal octets is taken; one item,
+/// entry, column, key, node or octet more is too many.
 pub fn sizes_of_a_query()
-    ensures most { AreTaken 64 8 64 1000 16384 }
-    ensures items { AreTaken 65 8 64 1000 16384 → ⊥ }
-    ensures entries { AreTaken 64 9 64 1000 16384 → ⊥ }
-    ensures keys { AreTaken 64 8 65 1000 16384 → ⊥ }
-    ensures nodes { AreTaken 64 8 64 1001 16384 → ⊥ }
-    ensures octets { AreTaken 64 8 64 1000 16385 → ⊥ }
+    ensures most { AreTaken 64 8 64 64 1000 16384 }
+    ensures items { AreTaken 65 8 64 64 1000 16384 → ⊥ }
+    ensures entries { AreTaken 64 9 64 64 1000 16384 → ⊥ }
+    ensures columns { AreTaken 64 8 65 64 1000 16384 → ⊥ }
+    ensures keys { AreTaken 64 8 64 65 1000 16384 → ⊥ }
+    ensures nodes { AreTaken 64 8 64 64 1001 16384 → ⊥ }
+    ensures octets { AreTaken 64 8 64 64 1000 16385 → ⊥ }
 {}
 
 /// A text may have 1 to 64 statements.

@@ -12,7 +12,7 @@ use std::process::Abort;
 use std::test::Fail;
 
 // Scripts of one statement, and what it says.
-const SELECTS: [(&str, &str); 76] = [
+const SELECTS: [(&str, &str); 83] = [
     ("SELECT * FROM t", "* FROM t"),
     ("select ALL * from T;", "* FROM T"),
     ("SELECT a FROM t", "a FROM t"),
@@ -70,6 +70,32 @@ const SELECTS: [(&str, &str); 76] = [
     (
         "SELECT a FROM t AS u ORDER BY a;",
         "a FROM t AS u ORDER BY a",
+    ),
+    // groups, and functions of their values
+    (
+        "SELECT COUNT(*), sum(ALL a), avg(- a + 1) FROM t",
+        "COUNT(*); SUM(a); AVG(((-a) + 1)) FROM t",
+    ),
+    (
+        "SELECT MIN(t.d) AS d, MAX(CASE WHEN a > 1 THEN b END) + 1 FROM t",
+        "MIN(t.d) AS d; (MAX(CASE WHEN a > 1 THEN b ELSE NULL END) + 1) FROM t",
+    ),
+    (
+        "SELECT SUM((a)) / COUNT(a) FROM t",
+        "(SUM(a) / COUNT(a)) FROM t",
+    ),
+    ("SELECT a FROM t GROUP BY a", "a FROM t GROUP BY a"),
+    (
+        "SELECT a, COUNT(*) FROM t x WHERE b = 1 group by x.a, \"b\", \"X\".\"C\" having COUNT(*) > 1 AND (a = 2) order by 2 desc;",
+        "a; COUNT(*) FROM t AS x WHERE b = 1 GROUP BY x.a; \"b\"; \"X\".\"C\" HAVING (COUNT(*) > 1 AND [a = 2]) ORDER BY 2 DESC",
+    ),
+    (
+        "SELECT COUNT(*) FROM t, u HAVING MAX(a) IS NOT NULL",
+        "COUNT(*) FROM t; u HAVING MAX(a) IS NOT NULL",
+    ),
+    (
+        "SELECT COUNT(SUM(a)) FROM t WHERE COUNT(*) > 1 GROUP BY a, a",
+        "COUNT(SUM(a)) FROM t WHERE COUNT(*) > 1 GROUP BY a; a",
     ),
     // literals
     ("SELECT 1, 2.50, .5, 7. FROM t", "1; 2.50; .5; 7. FROM t"),
@@ -239,7 +265,7 @@ const SELECTS: [(&str, &str); 76] = [
 ];
 
 // Texts of one statement that is no query.
-const NO_SELECTS: [&str; 68] = [
+const NO_SELECTS: [&str; 91] = [
     "",
     ";",
     "SELECT",
@@ -307,7 +333,30 @@ const NO_SELECTS: [&str; 68] = [
     "SELECT CASE WHEN a THEN 1 END FROM t",
     "SELECT CASE a WHEN b = 1 THEN 1 END FROM t",
     "SELECT DATE '2024-01-31' + INTERVAL '1' MONTH FROM t",
-    "SELECT SUM(a) FROM t",
+    "SELECT COUNT() FROM t",
+    "SELECT COUNT * FROM t",
+    "SELECT COUNT(ALL *) FROM t",
+    "SELECT SUM(*) FROM t",
+    "SELECT SUM(DISTINCT a) FROM t",
+    "SELECT COUNT(DISTINCT a) FROM t",
+    "SELECT MIN(a, b) FROM t",
+    "SELECT MAX(a = 1) FROM t",
+    "SELECT sum FROM t",
+    "SELECT a FROM t GROUP BY",
+    "SELECT a FROM t GROUP a",
+    "SELECT a FROM t GROUP BY a,",
+    "SELECT a FROM t GROUP BY 1",
+    "SELECT a FROM t GROUP BY (a)",
+    "SELECT a FROM t GROUP BY a + 1",
+    "SELECT a FROM t GROUP BY COUNT(*)",
+    "SELECT a FROM t GROUP BY ()",
+    "SELECT a FROM t GROUP BY a WHERE a = 1",
+    "SELECT a FROM t ORDER BY a GROUP BY a",
+    "SELECT a FROM t HAVING a = 1 GROUP BY a",
+    "SELECT a FROM t GROUP BY a ORDER BY a HAVING a = 1",
+    "SELECT a FROM t HAVING",
+    "SELECT a FROM t HAVING a",
+    "SELECT a FROM t ORDER BY COUNT(*)",
 ];
 
 const NO_QUERY: Option<ParseFault> = Some(ParseFault::NotGrammar { statement: 1 });
@@ -330,6 +379,12 @@ const TOO_MANY_ENTRIES: Option<ParseFault> = Some(ParseFault::TooMany {
     statement: 1,
     what: Count::FromEntries,
     limit: 8,
+});
+
+const TOO_MANY_COLUMNS: Option<ParseFault> = Some(ParseFault::TooMany {
+    statement: 1,
+    what: Count::GroupColumns,
+    limit: 64,
 });
 
 const TOO_MANY_KEYS: Option<ParseFault> = Some(ParseFault::TooMany {
@@ -382,6 +437,17 @@ const ENTRIES: [Case; 4] = [
     ),
 ];
 
+const COLUMNS: [Case; 2] = [
+    (
+        &[("SELECT a FROM t GROUP BY ", 1), ("a, ", 63), ("t.a", 1)],
+        None,
+    ),
+    (
+        &[("SELECT a FROM t GROUP BY ", 1), ("a, ", 64), ("t.a", 1)],
+        TOO_MANY_COLUMNS,
+    ),
+];
+
 const KEYS: [Case; 2] = [
     (
         &[("SELECT a FROM t ORDER BY ", 1), ("a, ", 63), ("1 DESC", 1)],
@@ -393,7 +459,30 @@ const KEYS: [Case; 2] = [
     ),
 ];
 
-const NODES: [Case; 9] = [
+const NODES: [Case; 13] = [
+    // 498 literals, 497 operators, two columns of GROUP BY and a condition of three nodes; one column more.
+    (
+        &[
+            ("SELECT 1", 1),
+            ("+1", 497),
+            (" FROM t GROUP BY a, b HAVING COUNT(*) = 1", 1),
+        ],
+        None,
+    ),
+    (
+        &[
+            ("SELECT 1", 1),
+            ("+1", 497),
+            (" FROM t GROUP BY a, b, c HAVING COUNT(*) = 1", 1),
+        ],
+        TOO_MANY_NODES,
+    ),
+    // A set function, a column, 499 literals and operators; a sign more.
+    (&[("SELECT SUM(a", 1), ("+1", 499), (") FROM t", 1)], None),
+    (
+        &[("SELECT -SUM(a", 1), ("+1", 499), (") FROM t", 1)],
+        TOO_MANY_NODES,
+    ),
     // A sign, 500 literals and 499 operators; 501 literals and 500 operators.
     (&[("SELECT -1", 1), ("+1", 499), (" FROM t", 1)], None),
     (
@@ -572,7 +661,7 @@ const LEVELS: [Case; 4] = [
     ),
 ];
 
-const FIRST_FAULTS: [Case; 14] = [
+const FIRST_FAULTS: [Case; 16] = [
     // A fault of a later kind in an earlier statement comes first.
     (
         &[("SELECT '", 1), ("x", 16_385), ("' FROM t; ", 1), ("(", 33)],
@@ -608,7 +697,7 @@ const FIRST_FAULTS: [Case; 14] = [
         Some(ParseFault::NotToken { at: 42 }),
     ),
     (&[("(", 33), (";", 65)], TOO_MANY_STATEMENTS),
-    // In one statement: items, entries, keys, nodes, octets.
+    // In one statement: items, entries, columns, keys, nodes, octets.
     (
         &[("SELECT ", 1), ("a, ", 64), ("1 FROM t", 1), (", t", 8)],
         TOO_MANY_ITEMS,
@@ -625,6 +714,24 @@ const FIRST_FAULTS: [Case; 14] = [
             (", a", 64),
         ],
         TOO_MANY_ENTRIES,
+    ),
+    (
+        &[
+            ("SELECT a FROM t", 1),
+            (", t", 8),
+            (" GROUP BY a", 1),
+            (", a", 64),
+        ],
+        TOO_MANY_ENTRIES,
+    ),
+    (
+        &[
+            ("SELECT a FROM t GROUP BY a", 1),
+            (", a", 64),
+            (" ORDER BY a", 1),
+            (", a", 64),
+        ],
+        TOO_MANY_COLUMNS,
     ),
     (
         &[
@@ -729,6 +836,11 @@ fn numbers_of_items(rt: HostRuntime) -> Result<(), Fail> {
 #[test]
 fn numbers_of_entries(rt: HostRuntime) -> Result<(), Fail> {
     assert_faults(&rt, rt.alloc(), &ENTRIES)
+}
+
+#[test]
+fn numbers_of_columns(rt: HostRuntime) -> Result<(), Fail> {
+    assert_faults(&rt, rt.alloc(), &COLUMNS)
 }
 
 #[test]

@@ -18,11 +18,11 @@ use Rattle.qw_ast.specs.Syntax.{Select}
 use Rattle.qw_ast.specs.SyntaxTree as tree
 use Rattle.qw_ast.proofs.NestingLemmas.{deep-Decides}
 use Rattle.qw_ast.proofs.StatementLemmas.{drop_next, is_no_list, lexed}
-use Rattle.qw_parse.specs.declared.fault.Count.TheVariants.{Statements, SelectItems, FromEntries, SortKeys, Nodes, LiteralOctets}
+use Rattle.qw_parse.specs.declared.fault.Count.TheVariants.{Statements, SelectItems, FromEntries, GroupColumns, SortKeys, Nodes, LiteralOctets}
 use Rattle.qw_parse.specs.declared.fault.ParseFault.{ParseFault}
 use Rattle.qw_parse.specs.declared.fault.ParseFault.TheVariants.{NotGrammar, TooDeep, TooMany, NoMemory}
 use Rattle.qw_parse.specs.Script as script
-use Rattle.qw_ast.specs.Limits.{AreQueries, AreTaken, IsAccepted, IsQuery, entries_of, query_entries, query_items, query_keys, query_nodes, query_octets}
+use Rattle.qw_ast.specs.Limits.{AreQueries, AreTaken, IsAccepted, IsQuery, entries_of, query_columns, query_entries, query_items, query_keys, query_nodes, query_octets}
 use Rattle.qw_parse.specs.Script.{AreAccepted, HasFault, HasFirstFault, IsScriptRefused, ReadsScript}
 use Rattle.qw_parse.specs.Inner.Judges as judges
 use Rattle.qw_parse.specs.Inner.Judges.{PassesLimit, fault_of}
@@ -46,7 +46,7 @@ not_read ts s none is = none_some (select_of ts) s none (select_is_read ts s is)
 pub grammar_fault : (k : ℕ) (ts : List Lexeme) → false ≡ exceeds 0 ts → select_of ts ≡ None → HasFault k ts (NotGrammar k)
 grammar_fault k ts shallow none = script.not_grammar (shallow_of ts shallow) (λ s is. not_read ts s none is)
 
-pub accepted_is : (ts : List Lexeme) (s : Select) → false ≡ exceeds 0 ts → select_of ts ≡ Some s → AreTaken (query_items s) (query_entries s) (query_keys s) (query_nodes s) (query_octets s) → IsAccepted ts s
+pub accepted_is : (ts : List Lexeme) (s : Select) → false ≡ exceeds 0 ts → select_of ts ≡ Some s → AreTaken (query_items s) (query_entries s) (query_columns s) (query_keys s) (query_nodes s) (query_octets s) → IsAccepted ts s
 accepted_is ts s shallow is sizes = record {
   shallow = shallow_of ts shallow;
   query = select_read ts s is;
@@ -66,22 +66,37 @@ entries_same sources s same = ap (λ (ss : List Source). length (entries_of (map
 pub many_entries : (k : ℕ) (s : Select) → query_items s ≤ 64 → 8 < query_entries s → PassesLimit k s (TooMany k FromEntries 8)
 many_entries k s few_items many = judges.passes (record { many = query_entries s; what = FromEntries; most = 8 }) (script.kept _ _ _ few_items (script.passed _ _ many))
 
+-- the columns of GROUP BY of a statement are as many as those of its query
+pub columns_same : (s : Statement) → query_columns (tree.select_of s) ≡ length s.grouping.items
+columns_same s = length-map s.grouping.items tree.reference_of
+
+pub many_columns : (k : ℕ) (s : Select) → query_items s ≤ 64 → query_entries s ≤ 8 → 64 < query_columns s → PassesLimit k s (TooMany k GroupColumns 64)
+many_columns k s few_items few_entries many =
+    judges.passes (record { many = query_columns s; what = GroupColumns; most = 64 }) (script.kept _ _ _ few_items (script.kept _ _ _ few_entries (script.passed _ _ many)))
+
 -- the sort specifications of a statement are as many as those of its query
 pub keys_same : (s : Statement) → query_keys (tree.select_of s) ≡ length s.order.items
 keys_same s = length-map s.order.items tree.sort_of
 
-pub many_keys : (k : ℕ) (s : Select) → query_items s ≤ 64 → query_entries s ≤ 8 → 64 < query_keys s → PassesLimit k s (TooMany k SortKeys 64)
-many_keys k s few_items few_entries many =
-    judges.passes (record { many = query_keys s; what = SortKeys; most = 64 }) (script.kept _ _ _ few_items (script.kept _ _ _ few_entries (script.passed _ _ many)))
+-- the first three limits are kept
+pub record FewColumns (s : Select) : Type 0 where
+  pub items : query_items s ≤ 64
+  pub entries : query_entries s ≤ 8
+  pub columns : query_columns s ≤ 64
 
-pub many_nodes : (k : ℕ) (s : Select) → query_items s ≤ 64 → query_entries s ≤ 8 → query_keys s ≤ 64 → 1000 < query_nodes s → PassesLimit k s (TooMany k Nodes 1000)
-many_nodes k s few_items few_entries few_keys many =
-    judges.passes (record { many = query_nodes s; what = Nodes; most = 1000 }) (script.kept _ _ _ few_items (script.kept _ _ _ few_entries (script.kept _ _ _ few_keys (script.passed _ _ many))))
+-- so of all limits the first that is passed is the first of the others
+behind_columns : (k : ℕ) (s : Select) (limit : script.Limit) → FewColumns s
+    → script.IsPassedFirst (record { many = query_keys s; what = SortKeys; most = 64 } ∷ record { many = query_nodes s; what = Nodes; most = 1000 } ∷ record { many = query_octets s; what = LiteralOctets; most = 16384 } ∷ []) limit → PassesLimit k s (TooMany k limit.what limit.most)
+behind_columns k s limit few first = judges.passes limit (script.kept _ _ _ few.items (script.kept _ _ _ few.entries (script.kept _ _ _ few.columns first)))
 
-pub many_octets : (k : ℕ) (s : Select) → query_items s ≤ 64 → query_entries s ≤ 8 → query_keys s ≤ 64 → query_nodes s ≤ 1000 → 16384 < query_octets s → PassesLimit k s (TooMany k LiteralOctets 16384)
-many_octets k s few_items few_entries few_keys few_nodes many =
-    judges.passes (record { many = query_octets s; what = LiteralOctets; most = 16384 })
-    (script.kept _ _ _ few_items (script.kept _ _ _ few_entries (script.kept _ _ _ few_keys (script.kept _ _ _ few_nodes (script.passed _ _ many)))))
+pub many_keys : (k : ℕ) (s : Select) → FewColumns s → 64 < query_keys s → PassesLimit k s (TooMany k SortKeys 64)
+many_keys k s few many = behind_columns k s (record { many = query_keys s; what = SortKeys; most = 64 }) few (script.passed _ _ many)
+
+pub many_nodes : (k : ℕ) (s : Select) → FewColumns s → query_keys s ≤ 64 → 1000 < query_nodes s → PassesLimit k s (TooMany k Nodes 1000)
+many_nodes k s few few_keys many = behind_columns k s (record { many = query_nodes s; what = Nodes; most = 1000 }) few (script.kept _ _ _ few_keys (script.passed _ _ many))
+
+pub many_octets : (k : ℕ) (s : Select) → FewColumns s → query_keys s ≤ 64 → query_nodes s ≤ 1000 → 16384 < query_octets s → PassesLimit k s (TooMany k LiteralOctets 16384)
+many_octets k s few few_keys few_nodes many = behind_columns k s (record { many = query_octets s; what = LiteralOctets; most = 16384 }) few (script.kept _ _ _ few_keys (script.kept _ _ _ few_nodes (script.passed _ _ many)))
 
 -- ---- all statements
 

@@ -6,8 +6,9 @@ use Rattle.qw_token.specs.Token.{Lexeme}
 use Rattle.qw_token.specs.declared.token.Kind.TheVariants.{Word, Symbol}
 use Rattle.qw_ast.specs.Grammar.{folded}
 use Rattle.qw_ast.specs.declared.script.Sign.{Sign}
-use Rattle.qw_ast.specs.ScriptGrammar.{is_word, is_symbol, is_number, is_string, is_integer, is_name, sign_of, appended, is_comma, Series, first, more, IsOperator, operator, IsNothing, nothing, AreFurther, IsOptionalNot, not_absent, not_there, IsPrecision, no_precision, precision, IsIntervalSign, interval_sign, IsDays, days, Dated, moved, IsDateString, date_string, IsDate}
-use Rattle.qw_parse.specs.Inner.Readers.{token_at, given, one_at, word_at, symbol_at, octets_if, series_at, append, further_at, not_at, precision_at, interval_sign_at, days_at, date_string_at, move, date_at}
+use Rattle.qw_ast.specs.ScriptGrammar.{is_word, is_symbol, is_number, is_string, is_integer, is_name, sign_of, set_function_of, appended, is_comma, Series, first, more, IsOperator, operator, IsNothing, nothing, AreFurther, IsOptionalAll, all_absent, all_there, IsOptionalNot, not_absent, not_there, IsPrecision, no_precision, precision, IsIntervalSign, interval_sign, IsDays, days, Dated, moved, IsDateString, date_string, IsDate}
+use Rattle.qw_parse.specs.Inner.Parser.{is_there}
+use Rattle.qw_parse.specs.Inner.Readers.{token_at, given, one_at, word_at, symbol_at, octets_if, series_at, append, further_at, behind_all, not_at, precision_at, interval_sign_at, days_at, date_string_at, move, date_at}
 use Rattle.qw_parse.proofs.LoopLemmas.{bind_some, some_same, cases_option, Shortens, series_holds, series_is, series_shorter, series_begins}
 use Rattle.qw_parse.proofs.TokenLemmas.{word_is, symbol_is, Front, front, one_takes, one_is, one_not, Found, found, token_takes, token_is, token_shortens, octets_found, octets_are, strength, Stops, stops_at, strong_symbol, strong_word}
 
@@ -16,7 +17,7 @@ use Rattle.qw_parse.proofs.TokenLemmas.{word_is, symbol_is, Front, front, one_ta
 abbrev pub starts : Lexeme → Bool
 starts t =
     (is_number t || is_string t) || (is_name t || ((is_symbol (codes "(") t || (is_symbol (codes "+") t || is_symbol (codes "-") t))
-    || ((is_word (codes "DATE") t || is_word (codes "CASE") t) || ((is_word (codes "COALESCE") t || is_word (codes "NULLIF") t) || (is_word (codes "EXTRACT") t || is_word (codes "NOT") t)))))
+    || ((is_word (codes "DATE") t || is_word (codes "CASE") t) || ((is_word (codes "COALESCE") t || is_word (codes "NULLIF") t) || (is_word (codes "EXTRACT") t || (is_word (codes "NOT") t || is_there (set_function_of t)))))))
 
 -- the first token is such a one
 unfoldable pub Starts : List Lexeme → Type 0
@@ -38,6 +39,15 @@ starts_not w f fails (t ∷ ts) h =
           let never : starts t ≡ false = rw (is.0, is.1) (rw f at fails) in
           false≢true (sym never ∙ h))
       | inr e ↦ one_not (is_word w) t ts e
+    ]
+
+pub starts_no_asterisk : (ts : List Lexeme) → Starts ts → symbol_at (codes "*") ts ≡ None
+unfolding Starts
+starts_no_asterisk [] h = absurd h
+starts_no_asterisk (t ∷ ts) h =
+    elim (cases_Bool (is_symbol (codes "*") t)) [
+      | inl e ↦ absurd (let i = symbol_is (codes "*") t e in let never : starts t ≡ false = rw (i.0, i.1) refl in false≢true (sym never ∙ h))
+      | inr e ↦ one_not (is_symbol (codes "*")) t ts e
     ]
 
 -- ---- exactly
@@ -172,6 +182,33 @@ not_is _ _ _ (not_there t rest h) none = rw (one_is (is_word (codes "NOT")) t re
 pub not_shorter : (negated : Bool) (ts rest : List Lexeme) → IsOptionalNot negated ts rest → length rest ≤ length ts
 not_shorter _ _ _ (not_absent rest) = omega arith
 not_shorter _ _ _ (not_there t rest h) = omega arith
+
+-- ---- ALL
+
+all_made : (ts us : List Lexeme) → Front (is_word (codes "ALL")) ts us → IsOptionalAll ts us
+all_made _ _ (front t rest h) = all_there t rest h
+
+pub all_takes : (ts : List Lexeme) → IsOptionalAll ts (behind_all ts)
+unfolding behind_all
+all_takes ts =
+    elim (cases_option (word_at (codes "ALL") ts)) [
+      | inl none ↦ rw none (all_absent ts)
+      | inr us ↦ rw us.1 (all_made ts us.0 (one_takes (is_word (codes "ALL")) ts us.0 us.1))
+    ]
+
+pub all_is : (ts rest : List Lexeme) → IsOptionalAll ts rest → word_at (codes "ALL") rest ≡ None → behind_all ts ≡ rest
+unfolding behind_all
+all_is _ _ (all_absent rest) none = rw none refl
+all_is _ _ (all_there t rest h) none = rw (one_is (is_word (codes "ALL")) t rest h) refl
+
+pub all_shorter : (ts rest : List Lexeme) → IsOptionalAll ts rest → length rest ≤ length ts
+all_shorter _ _ (all_absent rest) = omega arith
+all_shorter _ _ (all_there t rest h) = omega arith
+
+-- no asterisk stands before what an expression begins with
+pub all_no_asterisk : (ts rest : List Lexeme) → IsOptionalAll ts rest → Starts rest → symbol_at (codes "*") ts ≡ None
+all_no_asterisk _ _ (all_absent rest) begins = starts_no_asterisk rest begins
+all_no_asterisk _ _ (all_there t rest h) begins = let i = word_is (codes "ALL") t h in one_not (is_symbol (codes "*")) t rest (rw i.0 refl)
 
 -- ---- words
 

@@ -1,7 +1,10 @@
 mod AcceptLemmas
 mod ConditionLemmas
 mod ExactLemmas
+mod FunctionLemmas
+mod GroupLemmas
 mod LoopLemmas
+mod NameLemmas
 mod OrderLemmas
 mod PrimaryLemmas
 mod PrimaryReadLemmas

@@ -66,7 +66,7 @@ key_shorter _ _ _ (an_ordinal t rest h) = omega arith
 key_shorter _ _ _ (a_key_column t rest h) = omega arith
 key_shorter _ _ _ (a_qualified_key q p t rest h f i) = omega arith
 
-name_begins : (t : Lexeme) (rest : List Lexeme) → IsTrue (is_name t) → Starts (t ∷ rest)
+pub name_begins : (t : Lexeme) (rest : List Lexeme) → IsTrue (is_name t) → Starts (t ∷ rest)
 name_begins t rest h = starts_at t rest (or_right (is_number t || is_string t) _ (or_left (is_name t) _ h))
 
 key_begins : (key : Key) (ts rest : List Lexeme) → IsKey key ts rest → Starts ts
@@ -129,7 +129,7 @@ direction_shorter _ _ _ (ascending t rest h) = omega arith
 direction_shorter _ _ _ (descending t rest h) = omega arith
 
 -- no point stands before it
-word_no_point : (w : List ℕ) (t : Lexeme) (rest : List Lexeme) → IsTrue (is_word w t) → symbol_at (codes ".") (t ∷ rest) ≡ None
+pub word_no_point : (w : List ℕ) (t : Lexeme) (rest : List Lexeme) → IsTrue (is_word w t) → symbol_at (codes ".") (t ∷ rest) ≡ None
 word_no_point w t rest h = let i = word_is w t h in one_not (is_symbol (codes ".")) t rest (rw i.0 refl)
 
 direction_no_point : (is_descending : Bool) (ts rest : List Lexeme) → IsDirection is_descending ts rest → EndsSort rest → symbol_at (codes ".") ts ≡ None

@@ -5,11 +5,13 @@ use Rattle.std.specs.Prelude.{codes}
 use Rattle.std.specs.Option.{option_map_or}
 use Rattle.qw_token.specs.Token.{Lexeme}
 use Rattle.qw_ast.specs.declared.script.Expr.{Expr}
+use Rattle.qw_ast.specs.declared.script.SetFunction.{SetFunction}
+use Rattle.qw_ast.specs.ScriptGrammar.{set_function_of}
 use Rattle.qw_ast.specs.Syntax.{Expression, Clause, expression, date}
 use Rattle.qw_ast.specs.SyntaxTree.{expression_of}
 use Rattle.qw_parse.specs.declared.read.parser.Stop.{Stop}
 use Rattle.qw_parse.specs.Inner.Parser.{Reads, is_there}
-use Rattle.qw_parse.specs.Inner.Readers.{◌>>=◌, one_at, token_at, word_at, octets_if, as_clause, case_at, coalesce_at, null_if_at, extract_at, date_at, column_at, keyed_at, primary_at, primary_by}
+use Rattle.qw_parse.specs.Inner.Readers.{◌>>=◌, one_at, token_at, word_at, octets_if, as_clause, case_at, coalesce_at, null_if_at, extract_at, set_function_at, date_at, column_at, other_at, keyed_at, primary_at, primary_by}
 
 -- ---- one token
 
@@ -29,14 +31,22 @@ octets_or test f t ts d = by_test (test t) f t.octets ts d
     by_test true f octets ts d = refl
     by_test false f octets ts d = refl
 
+function_or : {A : Type 0} (f : SetFunction × List Lexeme → A) (t : Lexeme) (ts : List Lexeme) (d : A) → option_map_or f (token_at set_function_of (t ∷ ts)) d ≡ option_map_or (λ x. f (x, ts)) (set_function_of t) d
+unfolding token_at
+function_or f t ts d = by_found (set_function_of t) f ts d
+  where
+    by_found : {A : Type 0} (o : Option SetFunction) (f : SetFunction × List Lexeme → A) (ts : List Lexeme) (d : A) → option_map_or f (o >>= (λ x. Some (x, ts))) d ≡ option_map_or (λ x. f (x, ts)) o d
+    by_found None f ts d = refl
+    by_found (Some x) f ts d = refl
+
 nothing_same : (inner : List Lexeme → Option (Clause × List Lexeme)) → primary_at inner [] ≡ primary_by inner []
-unfolding primary_at primary_by keyed_at token_at one_at column_at as_clause
+unfolding primary_at primary_by keyed_at other_at token_at one_at column_at as_clause
 nothing_same inner = refl
 
 pub primary_same : (inner : List Lexeme → Option (Clause × List Lexeme)) (ts : List Lexeme) → primary_at inner ts ≡ primary_by inner ts
-unfolding primary_at primary_by keyed_at
+unfolding primary_at primary_by keyed_at other_at
 primary_same inner [] = nothing_same inner
-primary_same inner (t ∷ ts) = simp (octets_or, one_or)
+primary_same inner (t ∷ ts) = simp (octets_or, one_or, function_or)
 
 -- ---- a primary that begins with a word
 
@@ -87,20 +97,26 @@ module _ (inner : List Lexeme → Option (Clause × List Lexeme)) (ts : List Lex
             rw (no_case.absent, second, third, found) refl
 
         module _ (xs : List Lexeme) (no_extract : Past (codes "EXTRACT") ws xs) where
-          pub keyed_date : (rest : List Lexeme) → word_at (codes "DATE") xs ≡ Some rest → keyed_at inner ts ≡ as_clause (date_at xs >>= (λ d. Some (date d.0.string d.0.intervals, d.1)))
+          pub keyed_other : keyed_at inner ts ≡ other_at inner xs
           unfolding keyed_at
-          keyed_date rest e =
+          keyed_other =
               let second = rw no_case.kept at no_coalesce.absent in
               let third = rw (no_coalesce.kept, no_case.kept) at no_null_if.absent in
               let fourth = rw (no_null_if.kept, no_coalesce.kept, no_case.kept) at no_extract.absent in
-              let found = rw (no_extract.kept, no_null_if.kept, no_coalesce.kept, no_case.kept) at e in
-              rw (no_case.absent, second, third, fourth, found, no_extract.kept, no_null_if.kept, no_coalesce.kept, no_case.kept) refl
+              rw (no_case.absent, second, third, fourth, no_extract.kept, no_null_if.kept, no_coalesce.kept, no_case.kept) refl
 
-          pub keyed_column : word_at (codes "DATE") xs ≡ None → keyed_at inner ts ≡ as_clause (column_at xs)
-          unfolding keyed_at
-          keyed_column e =
-              let second = rw no_case.kept at no_coalesce.absent in
-              let third = rw (no_coalesce.kept, no_case.kept) at no_null_if.absent in
-              let fourth = rw (no_null_if.kept, no_coalesce.kept, no_case.kept) at no_extract.absent in
-              let gone = rw (no_extract.kept, no_null_if.kept, no_coalesce.kept, no_case.kept) at e in
-              rw (no_case.absent, second, third, fourth, gone, no_extract.kept, no_null_if.kept, no_coalesce.kept, no_case.kept) refl
+-- ---- a set function, a date or a column reference
+
+module _ (inner : List Lexeme → Option (Clause × List Lexeme)) (ts us : List Lexeme) where
+  pub other_function : (f : SetFunction) → token_at set_function_of ts ≡ Some (f, us) → other_at inner ts ≡ as_clause (set_function_at inner f us)
+  unfolding other_at
+  other_function f e = rw e refl
+
+  module _ (none : token_at set_function_of ts ≡ None) (kept : us ≡ ts) where
+    pub other_date : (rest : List Lexeme) → word_at (codes "DATE") us ≡ Some rest → other_at inner ts ≡ as_clause (date_at us >>= (λ d. Some (date d.0.string d.0.intervals, d.1)))
+    unfolding other_at
+    other_date rest e = let found = rw kept at e in rw (none, found, kept) refl
+
+    pub other_column : word_at (codes "DATE") us ≡ None → other_at inner ts ≡ as_clause (column_at us)
+    unfolding other_at
+    other_column e = let gone = rw kept at e in rw (none, gone, kept) refl

@@ -13,13 +13,14 @@ use Rattle.qw_ast.specs.declared.script.Interval.{Interval}
 use Rattle.qw_ast.specs.declared.script.Phrase.{Phrase}
 use Rattle.qw_parse.specs.declared.read.case.Branch.{Branch as Tried}
 use Rattle.qw_parse.specs.Inner.Parser.{branch_of, first_of, behind}
-use Rattle.qw_parse.specs.Inner.Readers.{one_at, token_at, word_at, octets_if, given, append, further_at, join_at, joined_at, joins_at, source_at, branches_at, date_at, date_string_at, days_at, interval_sign_at, move, series_at, series_from, factor_at, term_at, expression_at, branch_at, boolean_factor_at, boolean_term_at, clause_at, item_at, nested_at, sort_at}
+use Rattle.qw_parse.specs.Inner.Readers.{one_at, token_at, word_at, octets_if, given, append, further_at, join_at, joined_at, joins_at, source_at, branches_at, date_at, date_string_at, days_at, interval_sign_at, move, series_at, series_from, factor_at, term_at, expression_at, branch_at, boolean_factor_at, boolean_term_at, clause_at, item_at, nested_at, reference_at, sort_at}
 use Rattle.qw_parse.proofs.LoopLemmas.{Shortens, loop_end, loop_stop, loop_clash, loop_more}
 use Rattle.qw_parse.proofs.ExactLemmas.{days_shortens, exact_shortens, sign_shortens}
 use Rattle.qw_parse.proofs.PrimaryLemmas.{expression_exact, branch_exact}
 use Rattle.qw_parse.proofs.SumLemmas as sums
 use Rattle.qw_parse.proofs.ConditionLemmas as conditions
 use Rattle.qw_parse.proofs.ConditionLemmas.{nested_exact}
+use Rattle.qw_parse.proofs.GroupLemmas.{reference_exact}
 use Rattle.qw_parse.proofs.OrderLemmas.{sort_exact}
 use Rattle.qw_parse.proofs.SelectLemmas as queries
 use Rattle.qw_parse.proofs.SelectLemmas.{item_exact, source_exact}
@@ -52,6 +53,9 @@ joined_shortens n = queries.joined_shortens (IsNested n) (nested_at n) (nested_e
 
 pub source_shortens : (n : ℕ) → Shortens (source_at (nested_at n))
 source_shortens n = exact_shortens (source_exact (IsNested n) (nested_at n) (nested_exact n))
+
+pub reference_shortens : Shortens reference_at
+reference_shortens = exact_shortens reference_exact
 
 pub sort_shortens : Shortens sort_at
 sort_shortens = exact_shortens sort_exact

@@ -12,7 +12,7 @@ use Rattle.qw_parse.specs.declared.fault.Count.TheVariants.{Statements}
 use Rattle.qw_parse.specs.declared.fault.ParseFault.{ParseFault}
 use Rattle.qw_parse.specs.declared.fault.ParseFault.TheVariants.{NotUtf8, NotToken, NotGrammar, TooDeep, TooMany}
 use Rattle.qw_parse.specs.Script as script
-use Rattle.qw_ast.specs.Limits.{AreTaken, IsAccepted, query_entries, query_items, query_keys, query_nodes, query_octets}
+use Rattle.qw_ast.specs.Limits.{AreTaken, IsAccepted, query_columns, query_entries, query_items, query_keys, query_nodes, query_octets}
 use Rattle.qw_parse.specs.Script.{AreAccepted, HasFault, HasFirstFault, IsPassedFirst, IsScriptRefused, Limit, ReadsScript, limits}
 use Rattle.qw_parse.specs.Inner.Judges.{PassesLimit, passes}
 use Rattle.qw_parse.proofs.SelectLemmas.{one_select}
@@ -31,7 +31,7 @@ none_passed _ _ all (script.passed limit others many) = let few = all.0 in omega
 none_passed _ _ all (script.kept limit a others few h) = none_passed others a all.1 h
 
 passes_one : (k : ℕ) (s : Select) (f g : ParseFault) → PassesLimit k s f → PassesLimit k s g → f ≡ g
-passes_one k s _ _ (passes a one) (passes b two) = ap (λ (l : Limit). TooMany k l.what l.most) (passed_one (limits (query_items s) (query_entries s) (query_keys s) (query_nodes s) (query_octets s)) a b one two)
+passes_one k s _ _ (passes a one) (passes b two) = ap (λ (l : Limit). TooMany k l.what l.most) (passed_one (limits (query_items s) (query_entries s) (query_columns s) (query_keys s) (query_nodes s) (query_octets s)) a b one two)
 
 -- it is nested too deeply, or is no query, or a query that passes a limit
 abbrev Cause : ℕ → List Lexeme → ParseFault → Type 0
@@ -59,8 +59,8 @@ fault_one k ts f g a b = causes_one k ts f g (cause_of k ts f a) (cause_of k ts 
 accepted_one : (ts : List Lexeme) (s t : Select) → IsAccepted ts s → IsAccepted ts t → s ≡ t
 accepted_one ts s t a b = one_select ts s t a.query b.query
 
-passes_none : (k : ℕ) (s : Select) (f : ParseFault) → AreTaken (query_items s) (query_entries s) (query_keys s) (query_nodes s) (query_octets s) → PassesLimit k s f → ⊥
-passes_none k s _ sizes (passes limit first) = none_passed (limits (query_items s) (query_entries s) (query_keys s) (query_nodes s) (query_octets s)) limit (sizes.few_items, (sizes.few_entries, (sizes.few_keys, (sizes.few_nodes, (sizes.few_octets, tt))))) first
+passes_none : (k : ℕ) (s : Select) (f : ParseFault) → AreTaken (query_items s) (query_entries s) (query_columns s) (query_keys s) (query_nodes s) (query_octets s) → PassesLimit k s f → ⊥
+passes_none k s _ sizes (passes limit first) = none_passed (limits (query_items s) (query_entries s) (query_columns s) (query_keys s) (query_nodes s) (query_octets s)) limit (sizes.few_items, (sizes.few_entries, (sizes.few_columns, (sizes.few_keys, (sizes.few_nodes, (sizes.few_octets, tt)))))) first
 
 cause_none : (k : ℕ) (ts : List Lexeme) (s : Select) (f : ParseFault) → IsAccepted ts s → Cause k ts f → ⊥
 cause_none k ts s f a (inl b) = a.shallow b.0

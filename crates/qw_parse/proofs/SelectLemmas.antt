@@ -1,214 +1,18 @@
 -- Queries are read exactly, where expressions and conditions are; so tokens are one query at most.
-use Rattle.std.proofs.Common.{◌≡◌, ℕ, ◌<◌, ◌≤◌, ◌||◌, false, List, [], ◌∷◌, length, Option, Some, None, refl, sym, ap, subst, ◌∙◌, arith, inl, inr}
+use Rattle.std.proofs.Common.{◌≡◌, ◌<◌, ◌≤◌, List, [], ◌∷◌, length, Option, Some, None, refl, sym, ap, subst, ◌∙◌, arith, inl, inr}
 use Rattle.std.specs.Prelude.{codes, IsTrue}
-use Rattle.std.proofs.lemmas.Bool.{cases_Bool, false≢true, or_left, or_right}
 use Rattle.qw_token.specs.Token.{Lexeme}
-use Rattle.qw_token.specs.declared.token.Kind.TheVariants.{Word}
-use Rattle.qw_ast.specs.Grammar.{folded}
-use Rattle.qw_ast.specs.Syntax.{Condition, Clause, condition, expression, SelectItem, Selected, all_columns, items, Entry, Joined, Source, SortSpecification, Select}
-use Rattle.qw_ast.specs.ScriptGrammar.{is_word, is_symbol, is_name, is_regular, is_comma, is_delimited_kind, is_number, is_string, appended, first, more, IsNothing, nothing, IsOperator, operator, AreFurther, IsNested, IsNaming, unnamed, named, named_as, IsItem, item, IsSelectList, asterisk, some_items, IsOptionalAll, all_absent, all_there, IsFilter, unfiltered, filtered, IsEntry, an_entry, IsJoin, a_join, an_inner_join, IsJoined, a_joined, AreJoins, IsSource, a_source, AreSources, some_sources, IsOrder, unordered, ordered, IsSelect, a_select, IsSelectOf}
-use Rattle.qw_parse.specs.Inner.Readers.{token_at, word_at, symbol_at, octets_if, given, append, further_at, expression_at, condition_at, the_condition, nested_at, naming_at, item_at, select_list_at, behind_all, filter_at, entry_at, join_at, joined_at, joins_at, source_at, sources_at, order_at, select_at, whole, select_of}
+use Rattle.qw_ast.specs.Syntax.{Condition, Clause, condition, expression, SelectItem, Selected, all_columns, items, Entry, Joined, Source, Reference, SortSpecification, Select}
+use Rattle.qw_ast.specs.ScriptGrammar.{is_word, is_symbol, is_comma, appended, first, more, IsNothing, nothing, AreFurther, IsNested, IsItem, item, IsSelectList, asterisk, some_items, IsOptionalAll, IsFilter, unfiltered, filtered, IsEntry, IsJoin, IsJoined, a_joined, AreJoins, IsSource, a_source, AreSources, some_sources, IsGrouping, IsHaving, no_having, a_having, IsOrder, IsSelect, a_select, IsSelectOf}
+use Rattle.qw_parse.specs.Inner.Readers.{token_at, word_at, symbol_at, given, append, further_at, expression_at, condition_at, the_condition, nested_at, naming_at, item_at, select_list_at, behind_all, filter_at, entry_at, join_at, joined_at, joins_at, source_at, sources_at, grouping_at, having_at, order_at, select_at, whole, select_of}
 use Rattle.qw_parse.proofs.LoopLemmas.{Shortens, bind_some, cases_option, series_holds, series_is, some_same}
-use Rattle.qw_parse.proofs.TokenLemmas.{word_is, symbol_is, Front, front, one_takes, one_is, one_not, one_none, Found, found, token_takes, token_is, token_not, token_none, octets_found, octets_are, strength, Stops, stops_at, stops_none}
-use Rattle.qw_parse.proofs.ExactLemmas.{starts, starts_at, Starts, starts_not, Exact, series_front, list_takes, list_is, other_word, no_word, word_stops, symbol_stops}
-use Rattle.qw_parse.proofs.PrimaryLemmas.{name_no_word, expression_takes, expression_is}
+use Rattle.qw_parse.proofs.TokenLemmas.{word_is, Front, front, one_takes, one_is, token_not, Stops}
+use Rattle.qw_parse.proofs.ExactLemmas.{Starts, starts_not, starts_no_asterisk, Exact, all_takes, all_is, series_front, list_takes, list_is, no_word, other_word, word_stops}
+use Rattle.qw_parse.proofs.PrimaryLemmas.{expression_takes, expression_is}
 use Rattle.qw_parse.proofs.ConditionLemmas.{nested_exact, the_condition_is}
-use Rattle.qw_parse.proofs.OrderLemmas.{order_takes, order_is}
-
--- ---- what ends a name
-
--- no name and no AS
-pub record EndsName (ts : List Lexeme) : Type 0 where
-  pub no_as : word_at (codes "AS") ts ≡ None
-  pub no_name : token_at (octets_if is_name) ts ≡ None
-
--- and nothing that goes on with an expression
-pub record EndsItem (ts : List Lexeme) : Type 0 where
-  pub stops : Stops 1 ts
-  pub name : EndsName ts
-
-not_name : (t : Lexeme) (rest : List Lexeme) → is_name t ≡ false → token_at (octets_if is_name) (t ∷ rest) ≡ None
-not_name t rest h = token_not (octets_if is_name) t rest (rw h refl)
-
-word_ends : (w : List ℕ) (t : Lexeme) (rest : List Lexeme) → folded w ≡ w → is_name (record { kind = Word; octets = w }) ≡ false → is_word (codes "AS") (record { kind = Word; octets = w }) ≡ false → IsTrue (is_word w t) → EndsName (t ∷ rest)
-word_ends w t rest f no_name no_as h =
-    let i = word_is w t h in
-    record { no_as = other_word w (codes "AS") t rest f no_as h; no_name = not_name t rest (rw (i.0, i.1) (rw f at no_name)) }
-
-comma_ends : (o : Unit {0}) (ts rest : List Lexeme) → IsOperator is_comma o ts rest → EndsItem ts
-comma_ends _ _ _ (operator o t rest h) =
-    elim (cases_Bool (is_symbol (codes ",") t)) [
-      | inr e ↦ absurd (let none : None ≡ Some o = rw e at h in cc)
-      | inl e ↦ (
-          let i = symbol_is (codes ",") t e in
-          record {
-            stops = symbol_stops (codes ",") 1 t rest refl (omega arith) e;
-            name = record { no_as = no_word (codes ",") (codes "AS") t rest e; no_name = not_name t rest (rw i.0 refl) };
-          })
-    ]
-
-from_ends : (t : Lexeme) (rest : List Lexeme) → IsTrue (is_word (codes "FROM") t) → EndsItem (t ∷ rest)
-from_ends t rest h = record { stops = word_stops (codes "FROM") 1 t rest refl refl (omega arith) h; name = word_ends (codes "FROM") t rest refl refl refl h }
-
-none_ends : EndsName []
-none_ends = record { no_as = one_none (is_word (codes "AS")); no_name = token_none (octets_if is_name) }
-
--- ---- a name
-
-named_made : (n : List ℕ) (ts rest : List Lexeme) → Found (octets_if is_name) n ts rest → IsNaming (Some n) ts rest
-named_made _ _ _ (found n t rest h) = let o = octets_found is_name t n h in subst (λ x. IsNaming (Some x) (t ∷ rest) rest) o.1 (named t rest o.0)
-
-named_as_made : (n : List ℕ) (ts us rest : List Lexeme) → Front (is_word (codes "AS")) ts us → Found (octets_if is_name) n us rest → IsNaming (Some n) ts rest
-named_as_made _ _ _ _ (front w _ f) (found n t rest h) = let o = octets_found is_name t n h in subst (λ x. IsNaming (Some x) (w ∷ t ∷ rest) rest) o.1 (named_as w t rest f o.0)
-
-naming_takes : (ts : List Lexeme) (x : Option (List ℕ) × List Lexeme) → naming_at ts ≡ Some x → IsNaming x.0 ts x.1
-unfolding naming_at
-naming_takes ts x e =
-    elim (cases_option (word_at (codes "AS") ts)) [
-      | inr us ↦ (
-          let t = bind_some (token_at (octets_if is_name) us.0) _ x (rw us.1 at e) in
-          subst (λ (y : Option (List ℕ) × List Lexeme). IsNaming y.0 ts y.1) (some_same (Some t.0.0, t.0.1) x t.2) (named_as_made t.0.0 ts us.0 t.0.1 (one_takes (is_word (codes "AS")) ts us.0 us.1) (token_takes (octets_if is_name) us.0 t.0 t.1)))
-      | inl no_as ↦ elim (cases_option (token_at (octets_if is_name) ts)) [
-        | inr t ↦ subst (λ (y : Option (List ℕ) × List Lexeme). IsNaming y.0 ts y.1) (some_same (Some t.0.0, t.0.1) x (rw (no_as, t.1) at e)) (named_made t.0.0 ts t.0.1 (token_takes (octets_if is_name) ts t.0 t.1))
-        | inl no_name ↦ subst (λ (y : Option (List ℕ) × List Lexeme). IsNaming y.0 ts y.1) (some_same (None, ts) x (rw (no_as, no_name) at e)) (unnamed ts)
-      ]
-    ]
-
-naming_is : (n : Option (List ℕ)) (ts rest : List Lexeme) → IsNaming n ts rest → EndsName rest → naming_at ts ≡ Some (n, rest)
-unfolding naming_at
-naming_is _ _ _ (unnamed rest) ends = rw (ends.no_as, ends.no_name) refl
-naming_is _ _ _ (named t rest h) ends = rw (one_not (is_word (codes "AS")) t rest (name_no_word (codes "AS") t refl refl h), token_is (octets_if is_name) t rest t.octets (octets_are is_name t h)) refl
-naming_is _ _ _ (named_as w t rest f h) ends = rw (one_is (is_word (codes "AS")) w (t ∷ rest) f, token_is (octets_if is_name) t rest t.octets (octets_are is_name t h)) refl
-
-naming_shorter : (n : Option (List ℕ)) (ts rest : List Lexeme) → IsNaming n ts rest → length rest ≤ length ts
-naming_shorter _ _ _ (unnamed rest) = omega arith
-naming_shorter _ _ _ (named t rest h) = omega arith
-naming_shorter _ _ _ (named_as w t rest f h) = omega arith
-
--- what stops an expression stands there
-naming_stops : (n : Option (List ℕ)) (ts rest : List Lexeme) → IsNaming n ts rest → Stops 1 rest → Stops 1 ts
-naming_stops _ _ _ (unnamed rest) ends = ends
-naming_stops _ _ _ (named t rest h) ends = let s : strength t ≡ 0 = rw h refl in stops_at 1 t rest (omega (arith, s))
-naming_stops _ _ _ (named_as w t rest f h) ends = word_stops (codes "AS") 1 w (t ∷ rest) refl refl (omega arith) f
-
--- ---- an entry of FROM, and JOIN
-
-entry_made : (n : List ℕ) (alias : Option (List ℕ)) (ts us rest : List Lexeme) → Found (octets_if is_regular) n ts us → IsNaming alias us rest → IsEntry (record { table = n; alias = alias }) ts rest
-entry_made _ alias _ us rest (found n t _ c) i =
-    let o = octets_found is_regular t n c in
-    subst (λ x. IsEntry (record { table = x; alias = alias }) (t ∷ us) rest) o.1 (an_entry t alias us rest o.0 i)
-
-entry_takes : (ts : List Lexeme) (x : Entry × List Lexeme) → entry_at ts ≡ Some x → IsEntry x.0 ts x.1
-unfolding entry_at
-entry_takes ts x e =
-    let t = bind_some (token_at (octets_if is_regular) ts) _ x e in
-    let n = bind_some (naming_at t.0.1) _ x t.2 in
-    subst (λ (y : Entry × List Lexeme). IsEntry y.0 ts y.1) (some_same (record { table = t.0.0; alias = n.0.0 }, n.0.1) x n.2)
-    (entry_made t.0.0 n.0.0 ts t.0.1 n.0.1 (token_takes (octets_if is_regular) ts t.0 t.1) (naming_takes t.0.1 n.0 n.1))
-
-entry_is : (e : Entry) (ts rest : List Lexeme) → IsEntry e ts rest → EndsName rest → entry_at ts ≡ Some (e, rest)
-unfolding entry_at
-entry_is _ _ _ (an_entry t alias us rest h i) ends = rw (token_is (octets_if is_regular) t us t.octets (octets_are is_regular t h), naming_is alias us rest i ends) refl
-
-entry_shorter : (e : Entry) (ts rest : List Lexeme) → IsEntry e ts rest → length rest < length ts
-entry_shorter _ _ _ (an_entry t alias us rest h i) = let p = naming_shorter alias us rest i in omega (arith, p)
-
-entry_begins : (e : Entry) (ts rest : List Lexeme) → IsEntry e ts rest → Starts ts
-entry_begins _ _ _ (an_entry t alias us rest h i) =
-    starts_at t us (or_right (is_number t || is_string t) _ (or_left (is_name t) _ (or_left (is_regular t) (is_delimited_kind t.kind) h)))
-
-join_made : (ts rest : List Lexeme) → Front (is_word (codes "JOIN")) ts rest → IsJoin tt ts rest
-join_made _ _ (front t rest h) = a_join t rest h
-
-inner_join_made : (ts us rest : List Lexeme) → Front (is_word (codes "INNER")) ts us → Front (is_word (codes "JOIN")) us rest → IsJoin tt ts rest
-inner_join_made _ _ _ (front w _ h) (front t rest i) = an_inner_join w t rest h i
-
-join_takes : (ts : List Lexeme) (x : Unit {0} × List Lexeme) → join_at ts ≡ Some x → IsJoin x.0 ts x.1
-unfolding join_at
-join_takes ts x e =
-    elim (cases_option (word_at (codes "JOIN") ts)) [
-      | inr us ↦ subst (λ (y : Unit {0} × List Lexeme). IsJoin y.0 ts y.1) (some_same (tt, us.0) x (rw us.1 at e)) (join_made ts us.0 (one_takes (is_word (codes "JOIN")) ts us.0 us.1))
-      | inl none ↦ (
-          let us = bind_some (word_at (codes "INNER") ts) _ x (rw none at e) in
-          let vs = bind_some (word_at (codes "JOIN") us.0) _ x us.2 in
-          subst (λ (y : Unit {0} × List Lexeme). IsJoin y.0 ts y.1) (some_same (tt, vs.0) x vs.2)
-          (inner_join_made ts us.0 vs.0 (one_takes (is_word (codes "INNER")) ts us.0 us.1) (one_takes (is_word (codes "JOIN")) us.0 vs.0 vs.1)))
-    ]
-
-join_is : (o : Unit {0}) (ts rest : List Lexeme) → IsJoin o ts rest → join_at ts ≡ Some (o, rest)
-unfolding join_at
-join_is _ _ _ (a_join t rest h) = rw (one_is (is_word (codes "JOIN")) t rest h) refl
-join_is _ _ _ (an_inner_join w t rest h i) =
-    rw (other_word (codes "INNER") (codes "JOIN") w (t ∷ rest) refl refl h, one_is (is_word (codes "INNER")) w (t ∷ rest) h, one_is (is_word (codes "JOIN")) t rest i) refl
-
-join_shorter : (o : Unit {0}) (ts rest : List Lexeme) → IsJoin o ts rest → length rest < length ts
-join_shorter _ _ _ (a_join t rest h) = omega arith
-join_shorter _ _ _ (an_inner_join w t rest h i) = omega arith
-
-pub join_shortens : Shortens join_at
-join_shortens ts x e = join_shorter x.0 ts x.1 (join_takes ts x e)
-
--- what goes on with a join ends what stands before it
-join_ends : (o : Unit {0}) (ts rest : List Lexeme) → IsJoin o ts rest → EndsItem ts
-join_ends _ _ _ (a_join t rest h) = record { stops = word_stops (codes "JOIN") 1 t rest refl refl (omega arith) h; name = word_ends (codes "JOIN") t rest refl refl refl h }
-join_ends _ _ _ (an_inner_join w t rest h i) = record { stops = word_stops (codes "INNER") 1 w (t ∷ rest) refl refl (omega arith) h; name = word_ends (codes "INNER") w (t ∷ rest) refl refl refl h }
-
--- what ends a source: nothing that goes on with a condition or a name, and no JOIN
-pub record EndsSource (ts : List Lexeme) : Type 0 where
-  pub item : EndsItem ts
-  pub no_join : join_at ts ≡ None
-
-no_join_none : join_at [] ≡ None
-unfolding join_at
-no_join_none = rw (one_none (is_word (codes "JOIN")), one_none (is_word (codes "INNER"))) refl
-
-no_join_word : (w : List ℕ) (t : Lexeme) (rest : List Lexeme) → folded w ≡ w → is_word (codes "JOIN") (record { kind = Word; octets = w }) ≡ false → is_word (codes "INNER") (record { kind = Word; octets = w }) ≡ false → IsTrue (is_word w t) → join_at (t ∷ rest) ≡ None
-unfolding join_at
-no_join_word w t rest f a b h = rw (other_word w (codes "JOIN") t rest f a h, other_word w (codes "INNER") t rest f b h) refl
-
-no_join_symbol : (s : List ℕ) (t : Lexeme) (rest : List Lexeme) → IsTrue (is_symbol s t) → join_at (t ∷ rest) ≡ None
-unfolding join_at
-no_join_symbol s t rest h = rw (no_word s (codes "JOIN") t rest h, no_word s (codes "INNER") t rest h) refl
-
-comma_source : (o : Unit {0}) (ts rest : List Lexeme) → IsOperator is_comma o ts rest → EndsSource ts
-comma_source o ts rest h = record { item = comma_ends o ts rest h; no_join = by_comma o ts rest h }
-  where
-    by_comma : (o : Unit {0}) (ts rest : List Lexeme) → IsOperator is_comma o ts rest → join_at ts ≡ None
-    by_comma _ _ _ (operator o t rest h) =
-        elim (cases_Bool (is_symbol (codes ",") t)) [
-          | inr e ↦ absurd (let none : None ≡ Some o = rw e at h in cc)
-          | inl e ↦ no_join_symbol (codes ",") t rest e
-        ]
-
--- what ends a where clause: nothing that goes on with a source, and no WHERE
-pub record EndsFilter (ts : List Lexeme) : Type 0 where
-  pub source : EndsSource ts
-  pub no_comma : token_at is_comma ts ≡ None
-  pub no_where : word_at (codes "WHERE") ts ≡ None
-
-order_next : (order : List SortSpecification) (ts rest : List Lexeme) → IsOrder order ts rest → rest ≡ [] → EndsFilter ts
-order_next _ _ _ (unordered rest) end =
-    subst EndsFilter (sym end)
-    (record { source = record { item = record { stops = stops_none 1; name = none_ends }; no_join = no_join_none }; no_comma = token_none is_comma; no_where = one_none (is_word (codes "WHERE")) })
-order_next _ _ _ (ordered s others w b ts us rest f g h are) end =
-    let i = word_is (codes "ORDER") w f in
-    record {
-      source = record {
-        item = record { stops = word_stops (codes "ORDER") 1 w (b ∷ ts) refl refl (omega arith) f; name = word_ends (codes "ORDER") w (b ∷ ts) refl refl refl f };
-        no_join = no_join_word (codes "ORDER") w (b ∷ ts) refl refl refl f;
-      };
-      no_comma = token_not is_comma w (b ∷ ts) (rw i.0 refl);
-      no_where = other_word (codes "ORDER") (codes "WHERE") w (b ∷ ts) refl refl f;
-    }
-
-starts_no_asterisk : (ts : List Lexeme) → Starts ts → symbol_at (codes "*") ts ≡ None
-unfolding Starts
-starts_no_asterisk [] h = absurd h
-starts_no_asterisk (t ∷ ts) h =
-    elim (cases_Bool (is_symbol (codes "*") t)) [
-      | inl e ↦ absurd (let i = symbol_is (codes "*") t e in let never : starts t ≡ false = rw (i.0, i.1) refl in false≢true (sym never ∙ h))
-      | inr e ↦ one_not (is_symbol (codes "*")) t ts e
-    ]
+use Rattle.qw_parse.proofs.NameLemmas.{EndsName, EndsItem, EndsSource, EndsFilter, comma_ends, from_ends, word_ends, naming_takes, naming_is, naming_shorter, naming_stops, entry_takes, entry_is, entry_shorter, entry_begins, join_takes, join_is, join_shorter, join_shortens, join_ends, no_join_word, comma_source, word_filter}
+use Rattle.qw_parse.proofs.OrderLemmas.{word_no_point, order_takes, order_is}
+use Rattle.qw_parse.proofs.GroupLemmas.{EndsGrouping, EndsHaving, grouping_takes, grouping_is, grouping_next, order_next}
 
 module _ (Inner : Clause → List Lexeme → List Lexeme → Type 0) (inner : List Lexeme → Option (Clause × List Lexeme)) (reads : Exact Inner (Stops 1) inner) where
   -- ---- a select list
@@ -277,23 +81,7 @@ module _ (Inner : Clause → List Lexeme → List Lexeme → Type 0) (inner : Li
   select_list_no_all _ _ _ (asterisk t rest h) = no_word (codes "*") (codes "ALL") t rest h
   select_list_no_all _ _ _ (some_items i xs ts us rest h are) = starts_not (codes "ALL") refl refl ts (item_begins i ts us h)
 
-  -- ---- ALL and WHERE
-
-  all_made : (ts us : List Lexeme) → Front (is_word (codes "ALL")) ts us → IsOptionalAll ts us
-  all_made _ _ (front t rest h) = all_there t rest h
-
-  all_takes : (ts : List Lexeme) → IsOptionalAll ts (behind_all ts)
-  unfolding behind_all
-  all_takes ts =
-      elim (cases_option (word_at (codes "ALL") ts)) [
-        | inl none ↦ rw none (all_absent ts)
-        | inr us ↦ rw us.1 (all_made ts us.0 (one_takes (is_word (codes "ALL")) ts us.0 us.1))
-      ]
-
-  all_is : (ts rest : List Lexeme) → IsOptionalAll ts rest → word_at (codes "ALL") rest ≡ None → behind_all ts ≡ rest
-  unfolding behind_all
-  all_is _ _ (all_absent rest) none = rw none refl
-  all_is _ _ (all_there t rest h) none = rw (one_is (is_word (codes "ALL")) t rest h) refl
+  -- ---- WHERE and HAVING
 
   inner_condition_takes : (ts : List Lexeme) (x : Condition × List Lexeme) → condition_at inner ts ≡ Some x → Inner (condition x.0) ts x.1
   unfolding condition_at
@@ -330,6 +118,32 @@ module _ (Inner : Clause → List Lexeme → List Lexeme → Type 0) (inner : Li
         },
         token_not is_comma w ts (rw i.0 refl),
       )
+
+  having_made : (c : Condition) (ts us rest : List Lexeme) → Front (is_word (codes "HAVING")) ts us → Inner (condition c) us rest → IsHaving Inner (Some c) ts rest
+  having_made c _ us rest (front w _ f) h = a_having c w us rest f h
+
+  having_takes : (ts : List Lexeme) (x : Option Condition × List Lexeme) → having_at inner ts ≡ Some x → IsHaving Inner x.0 ts x.1
+  unfolding having_at
+  having_takes ts x e =
+      elim (cases_option (word_at (codes "HAVING") ts)) [
+        | inl none ↦ subst (λ (y : Option Condition × List Lexeme). IsHaving Inner y.0 ts y.1) (some_same (None, ts) x (rw none at e)) (no_having ts)
+        | inr us ↦ (
+            let c = bind_some (condition_at inner us.0) _ x (rw us.1 at e) in
+            subst (λ (y : Option Condition × List Lexeme). IsHaving Inner y.0 ts y.1) (some_same (Some c.0.0, c.0.1) x c.2) (having_made c.0.0 ts us.0 c.0.1 (one_takes (is_word (codes "HAVING")) ts us.0 us.1) (inner_condition_takes us.0 c.0 c.1)))
+      ]
+
+  having_is : (h : Option Condition) (ts rest : List Lexeme) → IsHaving Inner h ts rest → EndsHaving rest → having_at inner ts ≡ Some (h, rest)
+  unfolding having_at condition_at
+  having_is _ _ _ (no_having rest) ends = rw ends.no_having refl
+  having_is _ _ _ (a_having c w ts rest f h) ends = rw (one_is (is_word (codes "HAVING")) w ts f, reads.is (condition c) ts rest h ends.grouping.filter.source.item.stops) refl
+
+  having_next : (h : Option Condition) (ts rest : List Lexeme) → IsHaving Inner h ts rest → EndsHaving rest → EndsGrouping ts
+  having_next _ _ _ (no_having rest) ends = ends.grouping
+  having_next _ _ _ (a_having c w ts rest f h) ends = record {
+    filter = word_filter (codes "HAVING") w ts refl refl refl refl refl refl refl f;
+    no_point = word_no_point (codes "HAVING") w ts f;
+    no_group = other_word (codes "HAVING") (codes "GROUP") w ts refl refl f;
+  }
 
   -- ---- FROM
 
@@ -446,9 +260,10 @@ module _ (Inner : Clause → List Lexeme → List Lexeme → Type 0) (inner : Li
 
   -- ---- a query
 
-  select_made : (l : Selected) (ss : List Source) (f : Option Condition) (order : List SortSpecification) (ts us vs ws xs ys zs rest : List Lexeme) → Front (is_word (codes "SELECT")) ts us → IsOptionalAll us vs → IsSelectList Inner l vs ws → Front (is_word (codes "FROM")) ws xs
-      → AreSources Inner ss xs ys → IsFilter Inner f ys zs → IsOrder order zs rest → IsSelect Inner (record { selected = l; sources = ss; filter = f; order = order }) ts rest
-  select_made l ss f order _ us vs _ xs ys zs rest (front w _ a) all h (front v _ b) i j k = a_select l ss f order w v us vs xs ys zs rest a all h b i j k
+  select_made : (l : Selected) (ss : List Source) (f : Option Condition) (g : List Reference) (h : Option Condition) (order : List SortSpecification) (ts us vs ws xs ys zs gs hs rest : List Lexeme) → Front (is_word (codes "SELECT")) ts us → IsOptionalAll us vs
+      → IsSelectList Inner l vs ws → Front (is_word (codes "FROM")) ws xs → AreSources Inner ss xs ys → IsFilter Inner f ys zs → IsGrouping g zs gs → IsHaving Inner h gs hs → IsOrder order hs rest
+      → IsSelect Inner (record { selected = l; sources = ss; filter = f; grouping = g; having = h; order = order }) ts rest
+  select_made l ss f g h order _ us vs _ xs ys zs gs hs rest (front w _ a) all i (front v _ b) j k m n o = a_select l ss f g h order w v us vs xs ys zs gs hs rest a all i b j k m n o
 
   pub select_takes : (ts : List Lexeme) (x : Select × List Lexeme) → select_at inner ts ≡ Some x → IsSelect Inner x.0 ts x.1
   unfolding select_at
@@ -458,27 +273,33 @@ module _ (Inner : Clause → List Lexeme → List Lexeme → Type 0) (inner : Li
       let vs = bind_some (word_at (codes "FROM") l.0.1) _ x l.2 in
       let ss = bind_some (sources_at inner vs.0) _ x vs.2 in
       let f = bind_some (filter_at inner ss.0.1) _ x ss.2 in
-      let o = bind_some (order_at f.0.1) _ x f.2 in
-      subst (λ (y : Select × List Lexeme). IsSelect Inner y.0 ts y.1) (some_same (record { selected = l.0.0; sources = ss.0.0; filter = f.0.0; order = o.0.0 }, o.0.1) x o.2)
-      (select_made l.0.0 ss.0.0 f.0.0 o.0.0 ts us.0 (behind_all us.0) l.0.1 vs.0 ss.0.1 f.0.1 o.0.1 (one_takes (is_word (codes "SELECT")) ts us.0 us.1) (all_takes us.0) (select_list_takes (behind_all us.0) l.0 l.1)
-      (one_takes (is_word (codes "FROM")) l.0.1 vs.0 vs.1) (sources_take vs.0 ss.0 ss.1) (filter_takes ss.0.1 f.0 f.1) (order_takes f.0.1 o.0 o.1))
+      let g = bind_some (grouping_at f.0.1) _ x f.2 in
+      let h = bind_some (having_at inner g.0.1) _ x g.2 in
+      let o = bind_some (order_at h.0.1) _ x h.2 in
+      subst (λ (y : Select × List Lexeme). IsSelect Inner y.0 ts y.1) (some_same (record { selected = l.0.0; sources = ss.0.0; filter = f.0.0; grouping = g.0.0; having = h.0.0; order = o.0.0 }, o.0.1) x o.2)
+      (select_made l.0.0 ss.0.0 f.0.0 g.0.0 h.0.0 o.0.0 ts us.0 (behind_all us.0) l.0.1 vs.0 ss.0.1 f.0.1 g.0.1 h.0.1 o.0.1 (one_takes (is_word (codes "SELECT")) ts us.0 us.1) (all_takes us.0) (select_list_takes (behind_all us.0) l.0 l.1)
+      (one_takes (is_word (codes "FROM")) l.0.1 vs.0 vs.1) (sources_take vs.0 ss.0 ss.1) (filter_takes ss.0.1 f.0 f.1) (grouping_takes f.0.1 g.0 g.1) (having_takes g.0.1 h.0 h.1) (order_takes h.0.1 o.0 o.1))
 
   from_no_comma : (t : Lexeme) (rest : List Lexeme) → IsTrue (is_word (codes "FROM") t) → token_at is_comma (t ∷ rest) ≡ None
   from_no_comma t rest h = let i = word_is (codes "FROM") t h in token_not is_comma t rest (rw i.0 refl)
 
   pub select_is : (s : Select) (ts rest : List Lexeme) → IsSelect Inner s ts rest → rest ≡ [] → select_at inner ts ≡ Some (s, rest)
   unfolding select_at
-  select_is _ _ _ (a_select l ss f order w v ts us vs ws xs rest a all h b i j k) end =
-      let last = order_next order xs rest k end in
-      let next = filter_next f ws xs j last in
+  select_is _ _ _ (a_select l ss f g h order w v ts us vs ws xs ys zs rest a all i b j k m n o) end =
+      let behind_having = order_next order zs rest o end in
+      let behind_grouping = having_next h ys zs n behind_having in
+      let behind_filter = grouping_next g xs ys m behind_grouping in
+      let behind_sources = filter_next f ws xs k behind_filter in
       rw (
         one_is (is_word (codes "SELECT")) w ts a,
-        all_is ts us all (select_list_no_all l us (v ∷ vs) h),
-        select_list_is l us (v ∷ vs) h (from_ends v vs b) (from_no_comma v vs b),
+        all_is ts us all (select_list_no_all l us (v ∷ vs) i),
+        select_list_is l us (v ∷ vs) i (from_ends v vs b) (from_no_comma v vs b),
         one_is (is_word (codes "FROM")) v vs b,
-        sources_are ss vs ws i next.0 next.1,
-        filter_is f ws xs j last,
-        order_is order xs rest k end,
+        sources_are ss vs ws j behind_sources.0 behind_sources.1,
+        filter_is f ws xs k behind_filter,
+        grouping_is g xs ys m behind_grouping,
+        having_is h ys zs n behind_having,
+        order_is order zs rest o end,
       ) refl
 
 -- ---- all tokens

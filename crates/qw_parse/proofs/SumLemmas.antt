@@ -6,15 +6,18 @@ use Rattle.qw_token.specs.Token.{Lexeme}
 use Rattle.qw_token.specs.declared.token.Kind.TheVariants.{Word, Symbol}
 use Rattle.qw_scalar.specs.declared.expression.Operator.{Operator}
 use Rattle.qw_ast.specs.declared.script.Sign.{Sign}
+use Rattle.qw_ast.specs.declared.script.SetFunction.{SetFunction}
+use Rattle.qw_ast.specs.declared.script.SetFunction.TheVariants.{Count, Sum, Avg, Min, Max}
 use Rattle.qw_ast.specs.Grammar.{folded}
 use Rattle.qw_ast.specs.Syntax.{Expression, number, text, date, column, signed, arithmetic, Condition, Clause, condition, expression}
-use Rattle.qw_ast.specs.ScriptGrammar.{is_word, is_symbol, is_number, is_string, is_name, sign_of, addition_of, multiplication_of, Series, first, IsOperator, operator, Dated, IsPrimary, a_number, a_string, a_date, a_column, a_qualified_column, brackets, a_searched_case, a_simple_case, a_coalesce, a_null_if, an_extract, IsFactor, unsigned_factor, signed_factor, IsTerm, IsValueExpression}
-use Rattle.qw_parse.specs.Inner.Readers.{◌>>=◌, token_at, word_at, symbol_at, octets_if, the_expression, case_at, coalesce_at, null_if_at, extract_at, brackets_at, column_at, date_at, as_clause, in_brackets, primary_of, primary_at, interval_sign_at, factor_at, join_arithmetic, term_at, sum_at}
+use Rattle.qw_ast.specs.ScriptGrammar.{is_word, is_symbol, is_number, is_string, is_name, sign_of, addition_of, multiplication_of, set_function_of, Series, first, IsOperator, operator, Dated, IsPrimary, a_number, a_string, a_date, a_column, a_qualified_column, brackets, a_searched_case, a_simple_case, a_coalesce, a_null_if, an_extract, a_row_count, a_set_function, IsFactor, unsigned_factor, signed_factor, IsTerm, IsValueExpression}
+use Rattle.qw_parse.specs.Inner.Readers.{◌>>=◌, token_at, word_at, symbol_at, octets_if, the_expression, case_at, coalesce_at, null_if_at, extract_at, set_function_at, brackets_at, column_at, date_at, as_clause, in_brackets, primary_of, primary_at, interval_sign_at, factor_at, join_arithmetic, term_at, sum_at}
 use Rattle.qw_parse.proofs.LoopLemmas.{bind_some, some_same, cases_option, series_begins}
 use Rattle.qw_parse.proofs.TokenLemmas.{word_is, symbol_is, Front, front, one_takes, one_is, one_not, Found, found, token_takes, token_is, token_not, octets_found, octets_are, choose, strength, Stops, stops_at, stops_weaker, stops_one, stops_token, strong_symbol}
 use Rattle.qw_parse.proofs.RankLemmas.{rank_exact}
-use Rattle.qw_parse.proofs.ExactLemmas.{starts, Starts, starts_at, starts_not, Exact, other_word, date_takes, date_is, date_shorter, date_begins}
+use Rattle.qw_parse.proofs.ExactLemmas.{starts, Starts, starts_at, starts_not, Exact, all_shorter, other_word, date_takes, date_is, date_shorter, date_begins}
 use Rattle.qw_parse.proofs.PrimaryLemmas.{the_expression_is, string_no_number, name_kind, name_no_symbol, name_no_word, number_no_symbol, string_no_symbol, number_no_word, string_no_word, Of, IsBracketed, between_brackets, EndsPrimary, as_clause_some, as_clause_is, case_takes, searched_is, simple_is, coalesce_takes, coalesce_is, null_if_takes, null_if_is, extract_takes, extract_is, closing_ends, branches_shorter, else_shorter, further_down}
+use Rattle.qw_parse.proofs.FunctionLemmas.{word_of, function_word, folded_word, word_no_not, word_begins, name_no_function, rows_are, set_function_takes, set_function_is}
 
 -- ---- what the operators are
 
@@ -183,9 +186,12 @@ module _ (Inner : Clause → List Lexeme → List Lexeme → Type 0) (inner : Li
                   | inl h ↦ as_primary (t ∷ ts) (null_if_at inner ts) x h.1 (null_if_takes Inner inner reads t h.0 ts)
                   | inr e6 ↦ elim (choose (is_word (codes "EXTRACT") t) _ _ x e6.1) [
                     | inl h ↦ as_primary (t ∷ ts) (extract_at inner ts) x h.1 (extract_takes Inner inner reads t h.0 ts)
-                    | inr e7 ↦ elim (choose (is_word (codes "DATE") t) _ _ x e7.1) [
-                      | inl h ↦ as_primary (t ∷ ts) _ x h.1 (date_made (t ∷ ts))
-                      | inr e8 ↦ as_primary (t ∷ ts) (column_at (t ∷ ts)) x e8.1 (column_takes (t ∷ ts))
+                    | inr e7 ↦ elim (cases_option (set_function_of t)) [
+                      | inr f ↦ as_primary (t ∷ ts) (set_function_at inner f.0 ts) x (rw f.1 at e7.1) (set_function_takes Inner inner reads t f.0 f.1 ts)
+                      | inl none ↦ elim (choose (is_word (codes "DATE") t) _ _ x (rw none at e7.1)) [
+                        | inl h ↦ as_primary (t ∷ ts) _ x h.1 (date_made (t ∷ ts))
+                        | inr e8 ↦ as_primary (t ∷ ts) (column_at (t ∷ ts)) x e8.1 (column_takes (t ∷ ts))
+                      ]
                     ]
                   ]
                 ]
@@ -206,7 +212,15 @@ module _ (Inner : Clause → List Lexeme → List Lexeme → Type 0) (inner : Li
   unfolding primary_at
   name_primary t ts h =
       let k = name_kind t t.kind refl h in
-      rw (k.0, k.1, name_no_symbol (codes "(") t h, name_no_word (codes "CASE") t refl refl h, name_no_word (codes "COALESCE") t refl refl h, name_no_word (codes "NULLIF") t refl refl h, name_no_word (codes "EXTRACT") t refl refl h, name_no_word (codes "DATE") t refl refl h) refl
+      rw (k.0, k.1, name_no_symbol (codes "(") t h, name_no_word (codes "CASE") t refl refl h, name_no_word (codes "COALESCE") t refl refl h, name_no_word (codes "NULLIF") t refl refl h, name_no_word (codes "EXTRACT") t refl refl h, name_no_function t h, name_no_word (codes "DATE") t refl refl h) refl
+
+  function_primary : (t : Lexeme) (f : SetFunction) (ts : List Lexeme) → set_function_of t ≡ Some f → primary_at inner (t ∷ ts) ≡ as_clause (set_function_at inner f ts)
+  unfolding primary_at
+  function_primary t Count ts e = let is = word_is (codes "COUNT") t (function_word t Count e) in rw (is.0, is.1) refl
+  function_primary t Sum ts e = let is = word_is (codes "SUM") t (function_word t Sum e) in rw (is.0, is.1) refl
+  function_primary t Avg ts e = let is = word_is (codes "AVG") t (function_word t Avg e) in rw (is.0, is.1) refl
+  function_primary t Min ts e = let is = word_is (codes "MIN") t (function_word t Min e) in rw (is.0, is.1) refl
+  function_primary t Max ts e = let is = word_is (codes "MAX") t (function_word t Max e) in rw (is.0, is.1) refl
 
   date_step : (d : Dated) (ts rest : List Lexeme) (o : Option (Expression × List Lexeme)) → date_at ts ≡ Some (d, rest) → o ≡ (date_at ts >>= (λ x. Some (date x.0.string x.0.intervals, x.1))) → o ≡ Some (date d.string d.intervals, rest)
   date_step d ts rest o e same = same ∙ rw e refl
@@ -222,7 +236,8 @@ module _ (Inner : Clause → List Lexeme → List Lexeme → Type 0) (inner : Li
       let coalesce_word : is_word (codes "COALESCE") t ≡ false = rw (is.0, is.1) refl in
       let null_if_word : is_word (codes "NULLIF") t ≡ false = rw (is.0, is.1) refl in
       let extract_word : is_word (codes "EXTRACT") t ≡ false = rw (is.0, is.1) refl in
-      rw (number, string, opening, case, coalesce_word, null_if_word, extract_word, h) (as_clause_is _ (date d.string d.intervals) rest (date_step d (t ∷ us) rest _ e refl))
+      let no_function : set_function_of t ≡ None = rw (is.0, is.1) refl in
+      rw (number, string, opening, case, coalesce_word, null_if_word, extract_word, no_function, h) (as_clause_is _ (date d.string d.intervals) rest (date_step d (t ∷ us) rest _ e refl))
 
   date_primary : (d : Dated) (ts us rest : List Lexeme) → Front (is_word (codes "DATE")) ts us → date_at ts ≡ Some (d, rest) → primary_at inner ts ≡ Some (expression (date d.string d.intervals), rest)
   date_primary d _ us rest (front t _ h) e = date_literal t us h d rest e
@@ -240,6 +255,8 @@ module _ (Inner : Clause → List Lexeme → List Lexeme → Type 0) (inner : Li
   primary_is _ _ _ (a_coalesce e y es t o c ts us rest w f i h g) ends = let is = word_is (codes "COALESCE") t w in rw (is.0, is.1) (as_clause_is (coalesce_at inner (o ∷ ts)) _ rest (coalesce_is Inner inner reads e y es o c ts us rest f i h g))
   primary_is _ _ _ (a_null_if a b t o m c ts us rest w f i g j k) ends = let is = word_is (codes "NULLIF") t w in rw (is.0, is.1) (as_clause_is (null_if_at inner (o ∷ ts)) _ rest (null_if_is Inner inner reads a b o m c ts us rest f i g j k))
   primary_is _ _ _ (an_extract field e t o n m c ts rest w f g h i k) ends = let is = word_is (codes "EXTRACT") t w in rw (is.0, is.1) (as_clause_is (extract_at inner (o ∷ n ∷ m ∷ ts)) _ rest (extract_is Inner inner reads field e o n m c ts rest f g h i k))
+  primary_is _ _ _ (a_row_count t o s c rest w f g h) ends = let is = word_is (codes "COUNT") t w in rw (is.0, is.1) (as_clause_is (set_function_at inner Count (o ∷ s ∷ c ∷ rest)) _ rest (rows_are Inner inner reads o s c rest f g h))
+  primary_is _ _ _ (a_set_function f e t o c ts us rest w g all h i) ends = function_primary t f (o ∷ ts) w ∙ as_clause_is (set_function_at inner f (o ∷ ts)) _ rest (set_function_is Inner inner reads f e o c ts us rest g all h i)
 
   pub bracketed_is : (c : Condition) (ts rest : List Lexeme) → IsBracketed Inner c ts rest → primary_at inner ts ≡ Some (condition c, rest)
   unfolding primary_at
@@ -274,6 +291,11 @@ module _ (Inner : Clause → List Lexeme → List Lexeme → Type 0) (inner : Li
       let s = reads.shorter (expression b) us (c ∷ rest) j in
       omega (arith, q, s)
   primary_shorter _ _ _ (an_extract field e t o n m c ts rest w f g h i k) = let q = reads.shorter (expression e) ts (c ∷ rest) i in omega (arith, q)
+  primary_shorter _ _ _ (a_row_count t o s c rest w f g h) = omega arith
+  primary_shorter _ _ _ (a_set_function f e t o c ts us rest w g all h i) =
+      let q = reads.shorter (expression e) us (c ∷ rest) h in
+      let s = all_shorter ts us all in
+      omega (arith, q, s)
 
   word_starts : (w : List ℕ) (t : Lexeme) (ts : List Lexeme) → starts (record { kind = Word; octets = w }) ≡ true → folded w ≡ w → IsTrue (is_word w t) → Starts (t ∷ ts)
   word_starts w t ts e f h = let is = word_is w t h in starts_at t ts (rw (is.0, is.1) (rw f at e))
@@ -299,6 +321,8 @@ module _ (Inner : Clause → List Lexeme → List Lexeme → Type 0) (inner : Li
   primary_begins _ _ _ (a_coalesce e y es t o c ts us rest w f i h g) = word_starts (codes "COALESCE") t (o ∷ ts) refl refl w
   primary_begins _ _ _ (a_null_if a b t o m c ts us rest w f i g j k) = word_starts (codes "NULLIF") t (o ∷ ts) refl refl w
   primary_begins _ _ _ (an_extract field e t o n m c ts rest w f g h i k) = word_starts (codes "EXTRACT") t (o ∷ n ∷ m ∷ ts) refl refl w
+  primary_begins _ _ _ (a_row_count t o s c rest w f g h) = word_starts (codes "COUNT") t (o ∷ s ∷ c ∷ rest) refl refl w
+  primary_begins _ _ _ (a_set_function f e t o c ts us rest w g all h i) = word_starts (word_of f) t (o ∷ ts) (word_begins f) (folded_word f) (function_word t f w)
 
   bracketed_shorter : (c : Condition) (ts rest : List Lexeme) → IsBracketed Inner c ts rest → length rest < length ts
   bracketed_shorter _ _ _ (between_brackets c opening closing ts rest f h g) = let s = reads.shorter (condition c) ts (closing ∷ rest) h in omega (arith, s)
@@ -332,6 +356,8 @@ module _ (Inner : Clause → List Lexeme → List Lexeme → Type 0) (inner : Li
   primary_no_sign _ _ _ (a_coalesce e y es t o c ts us rest w f i h g) = no_sign_word (codes "COALESCE") t (o ∷ ts) w
   primary_no_sign _ _ _ (a_null_if a b t o m c ts us rest w f i g j k) = no_sign_word (codes "NULLIF") t (o ∷ ts) w
   primary_no_sign _ _ _ (an_extract field e t o n m c ts rest w f g h i k) = no_sign_word (codes "EXTRACT") t (o ∷ n ∷ m ∷ ts) w
+  primary_no_sign _ _ _ (a_row_count t o s c rest w f g h) = no_sign_word (codes "COUNT") t (o ∷ s ∷ c ∷ rest) w
+  primary_no_sign _ _ _ (a_set_function f e t o c ts us rest w g all h i) = no_sign_word (word_of f) t (o ∷ ts) (function_word t f w)
 
   bracketed_no_sign : (c : Condition) (ts rest : List Lexeme) → IsBracketed Inner c ts rest → token_at sign_of ts ≡ None
   bracketed_no_sign _ _ _ (between_brackets c opening closing ts rest f h g) = let is = symbol_is (codes "(") opening f in no_sign_of opening ts (rw (is.0, is.1) refl) (rw (is.0, is.1) refl)
@@ -414,6 +440,8 @@ module _ (Inner : Clause → List Lexeme → List Lexeme → Type 0) (inner : Li
   primary_no_not _ _ _ (a_coalesce e y es t o c ts us rest w f i h g) = other_word (codes "COALESCE") (codes "NOT") t (o ∷ ts) refl refl w
   primary_no_not _ _ _ (a_null_if a b t o m c ts us rest w f i g j k) = other_word (codes "NULLIF") (codes "NOT") t (o ∷ ts) refl refl w
   primary_no_not _ _ _ (an_extract field e t o n m c ts rest w f g h i k) = other_word (codes "EXTRACT") (codes "NOT") t (o ∷ n ∷ m ∷ ts) refl refl w
+  primary_no_not _ _ _ (a_row_count t o s c rest w f g h) = other_word (codes "COUNT") (codes "NOT") t (o ∷ s ∷ c ∷ rest) refl refl w
+  primary_no_not _ _ _ (a_set_function f e t o c ts us rest w g all h i) = other_word (word_of f) (codes "NOT") t (o ∷ ts) (folded_word f) (word_no_not f) (function_word t f w)
 
   sign_no_not : (t : Lexeme) (ts : List Lexeme) (s : Sign) → sign_of t ≡ Some s → word_at (codes "NOT") (t ∷ ts) ≡ None
   sign_no_not t ts s e =

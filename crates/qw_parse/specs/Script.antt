@@ -5,9 +5,9 @@ use Rattle.qw_token.specs.Token.{Lexeme, AreTokens, StopsAt}
 use Rattle.qw_ast.specs.SchemaGrammar.{IsTooDeep, statements}
 use Rattle.qw_ast.specs.ScriptGrammar.{IsSelectOf}
 use Rattle.qw_ast.specs.Syntax.{Select}
-use Rattle.qw_ast.specs.Limits.{IsAccepted, IsScriptLength, query_entries, query_items, query_keys, query_nodes, query_octets}
+use Rattle.qw_ast.specs.Limits.{IsAccepted, IsScriptLength, query_columns, query_entries, query_items, query_keys, query_nodes, query_octets}
 use Rattle.qw_parse.specs.declared.fault.Count.{Count}
-use Rattle.qw_parse.specs.declared.fault.Count.TheVariants.{Statements, SelectItems, FromEntries, SortKeys, Nodes, LiteralOctets}
+use Rattle.qw_parse.specs.declared.fault.Count.TheVariants.{Statements, SelectItems, FromEntries, GroupColumns, SortKeys, Nodes, LiteralOctets}
 use Rattle.qw_parse.specs.declared.fault.ParseFault.{ParseFault}
 use Rattle.qw_parse.specs.declared.fault.ParseFault.TheVariants.{NotUtf8, NotToken, NotGrammar, TooDeep, TooMany}
 
@@ -20,9 +20,9 @@ pub record Limit : Type 0 where
   pub most : ℕ
 
 -- what is counted of a query, in the order in which it is judged
-abbrev pub limits : (items entries keys nodes octets : ℕ) → List Limit
-limits items entries keys nodes octets =
-    record { many = items; what = SelectItems; most = 64 } ∷ record { many = entries; what = FromEntries; most = 8 } ∷ record { many = keys; what = SortKeys; most = 64 } ∷ record { many = nodes; what = Nodes; most = 1000 } ∷ record { many = octets; what = LiteralOctets; most = 16384 } ∷ []
+abbrev pub limits : (items entries columns keys nodes octets : ℕ) → List Limit
+limits items entries columns keys nodes octets =
+    record { many = items; what = SelectItems; most = 64 } ∷ record { many = entries; what = FromEntries; most = 8 } ∷ record { many = columns; what = GroupColumns; most = 64 } ∷ record { many = keys; what = SortKeys; most = 64 } ∷ record { many = nodes; what = Nodes; most = 1000 } ∷ record { many = octets; what = LiteralOctets; most = 16384 } ∷ []
 
 -- of the limits the first that is passed
 pub data IsPassedFirst : List Limit → Limit → Type 0 where
@@ -33,7 +33,7 @@ pub data IsPassedFirst : List Limit → Limit → Type 0 where
 pub data HasFault (k : ℕ) (tokens : List Lexeme) : ParseFault → Type 0 where
   too_deep : IsTooDeep tokens → HasFault k tokens (TooDeep k)
   not_grammar : (IsTooDeep tokens → ⊥) → ((s : Select) → IsSelectOf tokens s → ⊥) → HasFault k tokens (NotGrammar k)
-  too_many : (IsTooDeep tokens → ⊥) → (s : Select) → IsSelectOf tokens s → (limit : Limit) → IsPassedFirst (limits (query_items s) (query_entries s) (query_keys s) (query_nodes s) (query_octets s)) limit → HasFault k tokens (TooMany k limit.what limit.most)
+  too_many : (IsTooDeep tokens → ⊥) → (s : Select) → IsSelectOf tokens s → (limit : Limit) → IsPassedFirst (limits (query_items s) (query_entries s) (query_columns s) (query_keys s) (query_nodes s) (query_octets s)) limit → HasFault k tokens (TooMany k limit.what limit.most)
 
 -- ---- a text
 

@@ -1,9 +1,9 @@
 -- Token lists of worked cases, and what they say.
-use Rattle.std.specs.Prelude.{ℕ, List, [], ◌∷◌, None, codes}
+use Rattle.std.specs.Prelude.{ℕ, List, [], ◌∷◌, false, Option, None, codes}
 use Rattle.qw_scalar.specs.declared.comparison.Comparison.TheVariants.{Equal}
 use Rattle.qw_token.specs.declared.token.Kind.TheVariants.{Word, Number, Symbol}
 use Rattle.qw_token.specs.Token.{Lexeme}
-use Rattle.qw_ast.specs.Syntax.{Expression, number, column, Condition, comparison, Clause, Entry, Joined, Source, Key, result_column, SortSpecification, Select, all_columns}
+use Rattle.qw_ast.specs.Syntax.{Expression, number, column, Condition, comparison, Clause, Entry, Joined, Source, Reference, Key, result_column, SortSpecification, Select, all_columns}
 use Rattle.qw_ast.specs.ScriptGrammar.{IsNested}
 
 -- a word, an unsigned number and a symbol as they stand in a text
@@ -29,15 +29,27 @@ abbrev pub from : List Lexeme → List Lexeme
 from tokens = w (codes "SELECT") ∷ s (codes "*") ∷ w (codes "FROM") ∷ tokens
 
 abbrev pub all_from : List Source → Select
-all_from sources = record { selected = all_columns; sources = sources; filter = None; order = [] }
+all_from sources = record { selected = all_columns; sources = sources; filter = None; grouping = []; having = None; order = [] }
 
 -- SELECT * FROM a, with this order
 abbrev pub all_in_order : List SortSpecification → Select
-all_in_order order = record { selected = all_columns; sources = record { first = record { table = codes "a"; alias = None }; joins = [] } ∷ []; filter = None; order = order }
+all_in_order order = record { selected = all_columns; sources = record { first = record { table = codes "a"; alias = None }; joins = [] } ∷ []; filter = None; grouping = []; having = None; order = order }
+
+-- SELECT * FROM a, with these columns of GROUP BY, this condition of HAVING and this order
+abbrev pub all_grouped : List Reference → Option Condition → List SortSpecification → Select
+all_grouped grouping having order = record { selected = all_columns; sources = record { first = record { table = codes "a"; alias = None }; joins = [] } ∷ []; filter = None; grouping = grouping; having = having; order = order }
+
+-- a column of GROUP BY by its name, without a qualifier
+abbrev pub reference_named : List ℕ → Reference
+reference_named name = record { qualifier = None; name = name }
 
 -- a result column by its name, without a qualifier
 abbrev pub key_named : List ℕ → Key
 key_named name = result_column None name
+
+-- by the result column of this name, ascending
+abbrev pub by_name : List ℕ → SortSpecification
+by_name name = record { key = key_named name; is_descending = false }
 
 -- a table without an alias, and one that nothing is joined to
 abbrev pub the_table : List ℕ → Entry

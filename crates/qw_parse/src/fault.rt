@@ -14,6 +14,7 @@ pub enum Count {
     Statements,
     SelectItems,
     FromEntries,
+    GroupColumns,
     SortKeys,
     Nodes,
     LiteralOctets,

@@ -1,17 +1,18 @@
 //! Laws of the grammar, and worked cases of it.
 
-ghost use Rattle.std.specs.Prelude.{◌≡◌, ℕ, List, [], ◌∷◌, Some, codes, false, true};
+ghost use Rattle.std.specs.Prelude.{◌≡◌, ℕ, List, [], ◌∷◌, None, Some, codes, false, true};
 ghost use Rattle.qw_scalar.specs.declared.expression.Operator.TheVariants.{Add, Multiply, Subtract};
 ghost use Rattle.qw_scalar.specs.declared.comparison.Comparison.TheVariants.{Equal, Greater};
 ghost use Rattle.qw_token.specs.Token.{Lexeme};
 ghost use Rattle.qw_ast.specs.declared.script.Sign.TheVariants.{Minus};
-ghost use Rattle.qw_ast.specs.Syntax.{Select, arithmetic, between, both, bracketed, comparison, condition, date, either, expression, negation_of, null, number, ordinal, otherwise, result_column, searched_case, signed, text, when};
+ghost use Rattle.qw_ast.specs.declared.script.SetFunction.TheVariants.{Avg, Count, Max, Min, Sum};
+ghost use Rattle.qw_ast.specs.Syntax.{Clause, Select, arithmetic, between, both, bracketed, column, comparison, condition, count_rows, date, either, expression, items, negation_of, null, number, ordinal, otherwise, result_column, searched_case, set_function, signed, text, when};
 ghost use Rattle.qw_ast.specs.ScriptGrammar.{IsSelectOf};
 ghost use Rattle.qw_parse.specs.declared.fault.ParseFault.{ParseFault};
-ghost use Rattle.qw_ast.specs.Limits.{nodes, nodes_condition, octets};
-ghost use Rattle.qw_parse.specs.declared.fault.Count.TheVariants.{FromEntries, LiteralOctets, Nodes, SelectItems, SortKeys};
+ghost use Rattle.qw_ast.specs.Limits.{nodes, nodes_condition, octets, query_nodes};
+ghost use Rattle.qw_parse.specs.declared.fault.Count.TheVariants.{FromEntries, GroupColumns, LiteralOctets, Nodes, SelectItems, SortKeys};
 ghost use Rattle.qw_parse.specs.Script.{IsPassedFirst, IsScriptRefused, Limit, ReadsScript, limits};
-ghost use Rattle.qw_parse.specs.Worked.{Says, all_from, all_in_order, alone, equals, from, joined, key_named, n, s, the_column, the_table, w};
+ghost use Rattle.qw_parse.specs.Worked.{Says, all_from, all_grouped, all_in_order, alone, by_name, equals, from, joined, key_named, n, reference_named, s, the_column, the_table, w};
 
 /// Tokens are one query at most.
 pub fn one_query_specification()
@@ -47,23 +48,28 @@ pub fn worked_brackets()
     ensures nested { Says (s (codes "(") ∷ s (codes "(") ∷ w (codes "a") ∷ s (codes "=") ∷ n (codes "1") ∷ s (codes ")") ∷ w (codes "AND") ∷ w (codes "b") ∷ s (codes "=") ∷ n (codes "2") ∷ s (codes ")") ∷ []) (condition (bracketed (both (bracketed (equals (codes "a") (codes "1"))) (equals (codes "b") (codes "2"))))) }
 {}
 
-/// Nodes and literal octets: NULL as a result is no node, two quotes in a string are one octet, and a date has none.
+/// Nodes and literal octets: NULL as a result is no node, two quotes in a string are one octet, and a date has none. A set function is a
+/// node beside its argument, and so is each column of GROUP BY.
 pub fn worked_sizes()
     ensures condition { nodes_condition (both (equals (codes "a") (codes "1")) (negation_of (between false (the_column (codes "x")) (number (codes "1")) (number (codes "2"))))) ≡ 9 }
     ensures case { nodes (searched_case (when (condition (equals (codes "a") (codes "1"))) null (otherwise (text (codes "'x'"))))) ≡ 5 }
     ensures string { octets (text (codes "'it''s'")) ≡ 4 }
+    ensures set_function { (nodes (count_rows 0) ≡ 1) × (nodes (set_function 0 Sum (the_column (codes "x"))) ≡ 2) }
+    ensures groups { query_nodes (all_grouped (reference_named (codes "k") ∷ reference_named (codes "j") ∷ []) (Some (comparison Greater (count_rows 0) (number (codes "1")))) []) ≡ 5 }
     ensures date { (nodes (date (codes "'2024-01-31'") []) ≡ 1) × (octets (date (codes "'2024-01-31'") []) ≡ 0) }
 {}
 
-/// Of several limits that are passed the first is told: items, then entries of FROM, then keys of ORDER BY, then nodes, then octets of
-/// literals. Of 8 entries, 64 keys and 1,000 nodes there aren't too many, of 9, 65 and 1,001 there are.
+/// Of several limits that are passed the first is told: items, then entries of FROM, then columns of GROUP BY, then keys of ORDER BY, then
+/// nodes, then octets of literals. Of 8 entries, 64 columns, 64 keys and 1,000 nodes there aren't too many, of 9, 65, 65 and 1,001 there
+/// are.
 pub fn worked_limits()
-    ensures items { IsPassedFirst (limits 65 9 65 1001 16385) (record { many = 65; what = SelectItems; most = 64 }) }
-    ensures entries { IsPassedFirst (limits 64 9 65 1001 16385) (record { many = 9; what = FromEntries; most = 8 }) }
-    ensures keys { IsPassedFirst (limits 64 8 65 1001 16385) (record { many = 65; what = SortKeys; most = 64 }) }
-    ensures nodes { IsPassedFirst (limits 64 8 64 1001 16385) (record { many = 1001; what = Nodes; most = 1000 }) }
-    ensures octets { IsPassedFirst (limits 64 8 64 1000 16385) (record { many = 16385; what = LiteralOctets; most = 16384 }) }
-    ensures none { (limit : Limit) → IsPassedFirst (limits 64 8 64 1000 16384) limit → ⊥ }
+    ensures items { IsPassedFirst (limits 65 9 65 65 1001 16385) (record { many = 65; what = SelectItems; most = 64 }) }
+    ensures entries { IsPassedFirst (limits 64 9 65 65 1001 16385) (record { many = 9; what = FromEntries; most = 8 }) }
+    ensures columns { IsPassedFirst (limits 64 8 65 65 1001 16385) (record { many = 65; what = GroupColumns; most = 64 }) }
+    ensures keys { IsPassedFirst (limits 64 8 64 65 1001 16385) (record { many = 65; what = SortKeys; most = 64 }) }
+    ensures nodes { IsPassedFirst (limits 64 8 64 64 1001 16385) (record { many = 1001; what = Nodes; most = 1000 }) }
+    ensures octets { IsPassedFirst (limits 64 8 64 64 1000 16385) (record { many = 16385; what = LiteralOctets; most = 16384 }) }
+    ensures none { (limit : Limit) → IsPassedFirst (limits 64 8 64 64 1000 16384) limit → ⊥ }
 {}
 
 /// FROM is sources between commas, each an entry and its inner joins (ISO/IEC 9075:1992, 7.4, 7.5): INNER says nothing more than JOIN, and an
@@ -90,4 +96,42 @@ pub fn worked_order()
     ensures both_directions { (query : Select) → IsSelectOf (from (w (codes "a") ∷ w (codes "ORDER") ∷ w (codes "BY") ∷ w (codes "k") ∷ w (codes "ASC") ∷ w (codes "DESC") ∷ [])) query → ⊥ }
     ensures no_key { (query : Select) → IsSelectOf (from (w (codes "a") ∷ w (codes "ORDER") ∷ w (codes "BY") ∷ [])) query → ⊥ }
     ensures before_where { (query : Select) → IsSelectOf (from (w (codes "a") ∷ w (codes "ORDER") ∷ w (codes "BY") ∷ w (codes "k") ∷ w (codes "WHERE") ∷ w (codes "k") ∷ s (codes "=") ∷ n (codes "1") ∷ [])) query → ⊥ }
+{}
+
+/// A set function is COUNT of `*`, or one of five words with an argument in brackets, before which ALL may stand without effect (ISO/IEC
+/// 9075:1992, 6.5). With it stands its place, the number of tokens behind it. None has no argument, or two, or DISTINCT before it, and
+/// `*` is an argument of COUNT alone.
+pub fn worked_set_functions()
+    ensures rows { Says (w (codes "COUNT") ∷ s (codes "(") ∷ s (codes "*") ∷ s (codes ")") ∷ []) (expression (count_rows 0)) }
+    ensures all { Says (w (codes "SUM") ∷ s (codes "(") ∷ w (codes "ALL") ∷ w (codes "x") ∷ s (codes ")") ∷ []) (expression (set_function 0 Sum (the_column (codes "x")))) }
+    ensures argument { Says (w (codes "avg") ∷ s (codes "(") ∷ s (codes "-") ∷ w (codes "x") ∷ s (codes "+") ∷ n (codes "1") ∷ s (codes ")") ∷ []) (expression (set_function 0 Avg (arithmetic Add (signed Minus (the_column (codes "x"))) (number (codes "1"))))) }
+    ensures qualified { Says (w (codes "MIN") ∷ s (codes "(") ∷ w (codes "t") ∷ s (codes ".") ∷ w (codes "d") ∷ s (codes ")") ∷ []) (expression (set_function 0 Min (column (Some (codes "t")) (codes "d")))) }
+    ensures condition { Says (w (codes "MAX") ∷ s (codes "(") ∷ w (codes "x") ∷ s (codes ")") ∷ s (codes ">") ∷ n (codes "1") ∷ []) (condition (comparison Greater (set_function 2 Max (the_column (codes "x"))) (number (codes "1")))) }
+    ensures nested { Says (s (codes "(") ∷ w (codes "COUNT") ∷ s (codes "(") ∷ w (codes "x") ∷ s (codes ")") ∷ s (codes "+") ∷ w (codes "COUNT") ∷ s (codes "(") ∷ s (codes "*") ∷ s (codes ")") ∷ s (codes ")") ∷ []) (expression (arithmetic Add (set_function 6 Count (the_column (codes "x"))) (count_rows 1))) }
+    ensures nothing { (clause : Clause) → Says (w (codes "COUNT") ∷ s (codes "(") ∷ s (codes ")") ∷ []) clause → ⊥ }
+    ensures no_rows { (clause : Clause) → Says (w (codes "SUM") ∷ s (codes "(") ∷ s (codes "*") ∷ s (codes ")") ∷ []) clause → ⊥ }
+    ensures all_rows { (clause : Clause) → Says (w (codes "COUNT") ∷ s (codes "(") ∷ w (codes "ALL") ∷ s (codes "*") ∷ s (codes ")") ∷ []) clause → ⊥ }
+    ensures distinct { (clause : Clause) → Says (w (codes "SUM") ∷ s (codes "(") ∷ w (codes "DISTINCT") ∷ w (codes "x") ∷ s (codes ")") ∷ []) clause → ⊥ }
+    ensures two { (clause : Clause) → Says (w (codes "SUM") ∷ s (codes "(") ∷ w (codes "x") ∷ s (codes ",") ∷ w (codes "x") ∷ s (codes ")") ∷ []) clause → ⊥ }
+    ensures no_brackets { (clause : Clause) → Says (w (codes "SUM") ∷ w (codes "x") ∷ []) clause → ⊥ }
+{}
+
+/// Two set functions of a query have two places, also where they are the same in words.
+pub fn worked_places()
+    ensures { IsSelectOf (w (codes "SELECT") ∷ w (codes "COUNT") ∷ s (codes "(") ∷ s (codes "*") ∷ s (codes ")") ∷ s (codes ",") ∷ w (codes "COUNT") ∷ s (codes "(") ∷ s (codes "*") ∷ s (codes ")") ∷ w (codes "FROM") ∷ w (codes "a") ∷ []) (record { selected = items (record { value = count_rows 7; name = None } ∷ record { value = count_rows 2; name = None } ∷ []); sources = alone (the_table (codes "a")) ∷ []; filter = None; grouping = []; having = None; order = [] }) }
+{}
+
+/// GROUP BY stands behind FROM and WHERE, then HAVING, then ORDER BY, each or none of them (ISO/IEC 9075:1992, 7.7, 7.8, 13.1). The columns of
+/// GROUP BY are column references, one at least; a number is none, nor is an expression.
+pub fn worked_groups()
+    ensures columns { IsSelectOf (from (w (codes "a") ∷ w (codes "GROUP") ∷ w (codes "BY") ∷ w (codes "k") ∷ s (codes ",") ∷ w (codes "a") ∷ s (codes ".") ∷ w (codes "j") ∷ w (codes "ORDER") ∷ w (codes "BY") ∷ w (codes "k") ∷ [])) (all_grouped (reference_named (codes "k") ∷ record { qualifier = Some (codes "a"); name = codes "j" } ∷ []) None (by_name (codes "k") ∷ [])) }
+    ensures having { IsSelectOf (from (w (codes "a") ∷ w (codes "group") ∷ w (codes "by") ∷ w (codes "k") ∷ w (codes "having") ∷ w (codes "COUNT") ∷ s (codes "(") ∷ s (codes "*") ∷ s (codes ")") ∷ s (codes ">") ∷ n (codes "1") ∷ w (codes "ORDER") ∷ w (codes "BY") ∷ w (codes "k") ∷ [])) (all_grouped (reference_named (codes "k") ∷ []) (Some (comparison Greater (count_rows 5) (number (codes "1")))) (by_name (codes "k") ∷ [])) }
+    ensures having_alone { IsSelectOf (from (w (codes "a") ∷ w (codes "HAVING") ∷ w (codes "COUNT") ∷ s (codes "(") ∷ s (codes "*") ∷ s (codes ")") ∷ s (codes ">") ∷ n (codes "1") ∷ w (codes "ORDER") ∷ w (codes "BY") ∷ w (codes "k") ∷ [])) (all_grouped [] (Some (comparison Greater (count_rows 5) (number (codes "1")))) (by_name (codes "k") ∷ [])) }
+    ensures behind_having { (query : Select) → IsSelectOf (from (w (codes "a") ∷ w (codes "HAVING") ∷ w (codes "k") ∷ s (codes "=") ∷ n (codes "1") ∷ w (codes "GROUP") ∷ w (codes "BY") ∷ w (codes "k") ∷ [])) query → ⊥ }
+    ensures behind_order { (query : Select) → IsSelectOf (from (w (codes "a") ∷ w (codes "ORDER") ∷ w (codes "BY") ∷ w (codes "k") ∷ w (codes "GROUP") ∷ w (codes "BY") ∷ w (codes "k") ∷ [])) query → ⊥ }
+    ensures before_where { (query : Select) → IsSelectOf (from (w (codes "a") ∷ w (codes "GROUP") ∷ w (codes "BY") ∷ w (codes "k") ∷ w (codes "WHERE") ∷ w (codes "k") ∷ s (codes "=") ∷ n (codes "1") ∷ [])) query → ⊥ }
+    ensures literal { (query : Select) → IsSelectOf (from (w (codes "a") ∷ w (codes "GROUP") ∷ w (codes "BY") ∷ n (codes "1") ∷ [])) query → ⊥ }
+    ensures expression { (query : Select) → IsSelectOf (from (w (codes "a") ∷ w (codes "GROUP") ∷ w (codes "BY") ∷ w (codes "k") ∷ s (codes "+") ∷ n (codes "1") ∷ [])) query → ⊥ }
+    ensures set_function { (query : Select) → IsSelectOf (from (w (codes "a") ∷ w (codes "GROUP") ∷ w (codes "BY") ∷ w (codes "COUNT") ∷ s (codes "(") ∷ s (codes "*") ∷ s (codes ")") ∷ [])) query → ⊥ }
+    ensures no_column { (query : Select) → IsSelectOf (from (w (codes "a") ∷ w (codes "GROUP") ∷ w (codes "BY") ∷ [])) query → ⊥ }
 {}

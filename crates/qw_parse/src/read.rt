@@ -4,6 +4,7 @@ mod call;
 mod case;
 mod condition;
 mod date;
+mod group;
 mod order;
 mod parser;
 mod primary;

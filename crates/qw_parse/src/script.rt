@@ -3,7 +3,7 @@
 ghost use Rattle.std.specs.Prelude.{◌≡◌, ◌⊎◌, length, map, IfOk, IfErr};
 ghost use Rattle.qw_token.specs.Token.{lexemes};
 ghost use Rattle.qw_ast.specs.SyntaxTree.{select_of, selected_of, selects_of, source_of};
-ghost use Rattle.qw_ast.specs.Limits.{AreTaken, IsAccepted, entries_of, items_of, query_entries, query_items, query_keys, query_nodes, query_octets};
+ghost use Rattle.qw_ast.specs.Limits.{AreTaken, IsAccepted, entries_of, items_of, query_columns, query_entries, query_items, query_keys, query_nodes, query_octets};
 ghost use Rattle.qw_parse.specs.Script.{AreAccepted, HasFault, HasFirstFault, IsScriptRefused, ReadsScript};
 ghost use Rattle.qw_parse.specs.Inner.Judges.{PassesLimit};
 ghost use Rattle.qw_parse.specs.Inner.Sizes.{counted};
@@ -23,6 +23,9 @@ const MAX_STATEMENTS: usize = 64;
 /// The most entries of FROM.
 const MAX_ENTRIES: usize = 8;
 
+/// The most columns of GROUP BY.
+const MAX_COLUMNS: usize = 64;
+
 /// The most keys of ORDER BY.
 const MAX_KEYS: usize = 64;
 
@@ -38,8 +41,8 @@ const MAX_LITERAL_OCTETS: usize = 16_384;
 /// # Errors
 ///
 /// The first of these: `NotUtf8`; `NotToken`; `TooMany` statements; then statement by statement `TooDeep`, `NotGrammar`,
-/// `TooMany` items of the select list, entries of FROM, keys of ORDER BY, nodes, octets of literals. A text without a statement is
-/// `NotGrammar`. And `NoMemory`.
+/// `TooMany` items of the select list, entries of FROM, columns of GROUP BY, keys of ORDER BY, nodes, octets of literals. A text without
+/// a statement is `NotGrammar`. And `NoMemory`.
 pub fn script_of<'a>(alloc: Global, text: &'a [u8]) -> Result<Script<'a>, ParseFault>
     ensures script { IfOk result (λ script. ReadsScript text.now (selects_of script)) }
     ensures refused { IfErr result (λ fault. (fault ≡ ParseFault.NoMemory) ⊎ IsScriptRefused text.now fault) }
@@ -118,7 +121,7 @@ fn entry_count(sources: &[Source<'_>]) -> usize
 
 /// Sees that the query of this number keeps each limit.
 fn within_limits(statement: usize, query: &Statement<'_>) -> Result<(), ParseFault>
-    ensures kept { IfOk result (λ _. AreTaken (query_items (select_of query.now)) (query_entries (select_of query.now)) (query_keys (select_of query.now)) (query_nodes (select_of query.now)) (query_octets (select_of query.now))) }
+    ensures kept { IfOk result (λ _. AreTaken (query_items (select_of query.now)) (query_entries (select_of query.now)) (query_columns (select_of query.now)) (query_keys (select_of query.now)) (query_nodes (select_of query.now)) (query_octets (select_of query.now))) }
     ensures passed { IfErr result (λ fault. PassesLimit statement (select_of query.now) fault) }
 {
     let size = size_of(query);
@@ -126,6 +129,8 @@ fn within_limits(statement: usize, query: &Statement<'_>) -> Result<(), ParseFau
         (Count::SelectItems, MAX_ITEMS)
     } else if MAX_ENTRIES < entry_count(query.sources.as_slice()) {
         (Count::FromEntries, MAX_ENTRIES)
+    } else if MAX_COLUMNS < query.grouping.len() {
+        (Count::GroupColumns, MAX_COLUMNS)
     } else if MAX_KEYS < query.order.len() {
         (Count::SortKeys, MAX_KEYS)
     } else if MAX_NODES < size.nodes {

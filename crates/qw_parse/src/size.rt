@@ -79,8 +79,11 @@ impl Size {
             match left {
                 Expr::Null => return size,
                 Expr::Number(_) | Expr::Date(_, _) | Expr::Column(_, _) => return size.node(),
+                Expr::CountRows(_) => return size.node(),
                 Expr::Text(string) => return size.with(1, value_length(string)),
-                Expr::Signed(_, operand) | Expr::Extract(_, operand) => {
+                Expr::Signed(_, operand)
+                | Expr::Extract(_, operand)
+                | Expr::SetFunction(_, _, operand) => {
                     size = size.node();
                     left = operand;
                 }
@@ -247,4 +250,6 @@ pub(crate) fn size_of(query: &Statement<'_>) -> Size
     none.select_list(&query.list)
         .sources(query.sources.as_slice())
         .filter(&query.condition)
+        .with(query.grouping.len(), 0)
+        .filter(&query.having)
 }

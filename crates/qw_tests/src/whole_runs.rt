@@ -10,6 +10,7 @@ use std::test::Fail;
 mod commands;
 mod faults;
 mod file_limits;
+mod groups;
 mod joins;
 mod refused_texts;
 mod scripts;

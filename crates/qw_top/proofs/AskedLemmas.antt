@@ -4,7 +4,7 @@ use Rattle.std.specs.Prelude.{Contains}
 use Rattle.std.proofs.lemmas.Option.{same_Some}
 use Rattle.qw_types.specs.declared.kind.Kind.{Kind}
 use Rattle.qw_types.specs.declared.schema.Table.{Table}
-use Rattle.qw_meaning.specs.Select.{Specification}
+use Rattle.qw_grouped.specs.Whole.{Whole}
 use Rattle.qw_order.specs.declared.sort_key.SortKey.{SortKey}
 use Rattle.qw_ast.specs.Syntax.{Select}
 use Rattle.qw_parse.proofs.ScriptLemmas.{script_one}
@@ -36,20 +36,20 @@ same_heads (h ∷ a) (k ∷ b) names kinds =
     let first : h ≡ k = ap (λ (n : List ℕ). head n h.kind) name ∙ ap (λ (kind : Kind). head k.name kind) (same_Some h.kind k.kind kind) in
     ap (λ (x : Head). x ∷ a) first ∙ ap (λ (xs : List Head). k ∷ xs) (same_heads a b rest_names rest_kinds)
 
-same_header : (specification : Specification) (names : List (List ℕ)) (a b : List Head) → IsHeader specification names a → IsHeader specification names b → a ≡ b
-same_header specification names a b h k = same_heads a b (h.names_are ∙ sym k.names_are) (h.kinds_are ∙ sym k.kinds_are)
+same_header : (whole : Whole) (names : List (List ℕ)) (a b : List Head) → IsHeader whole names a → IsHeader whole names b → a ≡ b
+same_header whole names a b h k = same_heads a b (h.names_are ∙ sym k.names_are) (h.kinds_are ∙ sym k.kinds_are)
 
-abbrev asked : Specification → List Head → List SortKey → Asked
-asked specification header keys = record { specification = specification; header = header; keys = keys }
+abbrev asked : Whole → List Head → List SortKey → Asked
+asked whole header keys = record { whole = whole; header = header; keys = keys }
 
 IsAsked-unique : (schema : List Table) (query : Select) (a b : Asked) → IsAsked schema query a → IsAsked schema query b → a ≡ b
 IsAsked-unique schema query a b h k =
-    let e = one_meaning schema query a.specification b.specification h.names k.names a.keys b.keys h.means k.means in
-    let first = subst (λ (n : List (List ℕ)). IsHeader a.specification n a.header) e.1 h.header in
-    let second = subst (λ (s : Specification). IsHeader s k.names a.header) e.0 first in
-    ap (λ (s : Specification). asked s a.header a.keys) e.0
-    ∙ ap (λ (heads : List Head). asked b.specification heads a.keys) (same_header b.specification k.names a.header b.header second k.header)
-    ∙ ap (λ (keys : List SortKey). asked b.specification b.header keys) e.2
+    let e = one_meaning schema query a.whole b.whole h.names k.names a.keys b.keys h.means k.means in
+    let first = subst (λ (n : List (List ℕ)). IsHeader a.whole n a.header) e.1 h.header in
+    let second = subst (λ (w : Whole). IsHeader w k.names a.header) e.0 first in
+    ap (λ (w : Whole). asked w a.header a.keys) e.0
+    ∙ ap (λ (heads : List Head). asked b.whole heads a.keys) (same_header b.whole k.names a.header b.header second k.header)
+    ∙ ap (λ (keys : List SortKey). asked b.whole b.header keys) e.2
 
 AreAsked-unique : (schema : List Table) (script : List Select) (a b : List Asked) → AreAsked schema script a → AreAsked schema script b → a ≡ b
 AreAsked-unique schema [] [] [] h k = refl

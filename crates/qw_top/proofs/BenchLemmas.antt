@@ -7,6 +7,7 @@ use Rattle.qw_types.specs.Limits.{most_tables}
 use Rattle.qw_types.specs.declared.schema.Table.{Table}
 use Rattle.qw_csv.proofs.ColumnLaws.{loaded_of_columns}
 use Rattle.qw_meaning.specs.Select.{AreOfEntries, entries_of}
+use Rattle.qw_grouped.specs.Whole.{sources_in}
 use Rattle.qw_schema.proofs.SchemaLemmas.{ReadsSchema-tables}
 use Rattle.qw_map.specs.Turns.{Act, EachInstance, turns}
 use Rattle.qw_map.proofs.TurnFacts.{found-in as there}
@@ -28,9 +29,9 @@ use Rattle.qw_top.proofs.StopLemmas.{run_stops}
 -- ---- the rows that queries read
 
 pub entries_read : (schema : List Table) (tables : List Contents) (queries : List TypedQuery) → AreContentsOf schema tables → AllByRecursion (IsOver schema) queries →
-    AllByRecursion (λ (asked : Asked). AreOfEntries (entries_of asked.specification.sources) (rows_in_tables tables)) (map asked_of queries)
+    AllByRecursion (λ (asked : Asked). AreOfEntries (entries_of (sources_in asked.whole.body)) (rows_in_tables tables)) (map asked_of queries)
 entries_read schema tables [] are over = tt
-entries_read schema tables (query ∷ queries) are over = (entries_loaded schema tables (entries_of (asked_of query).specification.sources) are over.0.entries, entries_read schema tables queries are over.1)
+entries_read schema tables (query ∷ queries) are over = (entries_loaded schema tables (entries_of (sources_in (asked_of query).whole.body)) are over.0.entries, entries_read schema tables queries are over.1)
 
 -- ---- as many rows as tables
 
@@ -56,7 +57,7 @@ few_tables files names schema tables queries held =
 -- ---- turns from a start on, after which all instances have ended
 
 pub HasRun-from : (limits : Limits) (quantum : ℕ) (tables : List Contents) (queries : List Asked) (programs : List Program) (before b : Standing) → HaveRoom limits tables queries →
-    AllByRecursion (λ (asked : Asked). AreOfEntries (entries_of asked.specification.sources) (rows_in_tables tables)) queries → AllZip IsProgramOf queries programs → AreTasksOf programs (same_limits limits queries) before.tasks → IsStart tables before.tasks before.shared → b.tasks ≡ before.tasks →
+    AllByRecursion (λ (asked : Asked). AreOfEntries (entries_of (sources_in asked.whole.body)) (rows_in_tables tables)) queries → AllZip IsProgramOf queries programs → AreTasksOf programs (same_limits limits queries) before.tasks → IsStart tables before.tasks before.shared → b.tasks ≡ before.tasks →
     ((given : List Act) × AreRounds quantum given before.shared × (b.shared ≡ turns given before.shared)) →
     EachInstance (λ instance. IsSome instance.end) b.shared → HasRun limits quantum tables queries b
 HasRun-from limits quantum tables queries programs before b room read compiled tasks start same (given, rounds, turned) ended =

@@ -9,11 +9,12 @@ use Rattle.std.proofs.lemmas.Option.{same_Some, slice_get_within}
 use Rattle.qw_types.specs.Contents.{Contents}
 use Rattle.qw_types.specs.declared.schema.Table.{Table}
 use Rattle.qw_types.specs.declared.value.Val.{Val}
-use Rattle.qw_meaning.specs.Outcome.{Outcome, outcome}
+use Rattle.qw_meaning.specs.Outcome.{Outcome}
+use Rattle.qw_grouped.specs.Whole.{whole_outcome}
 use Rattle.qw_module.specs.Validity.{IsShaped}
 use Rattle.qw_map.specs.Turns.{End, Done as EndedDone, Exception, Pages, Steps, Trap}
 use Rattle.qw_promise.specs.Compiled.{IsCompiled, weight_of}
-use Rattle.qw_compile.specs.PlannedQueries.{page_bound, promise_of, units}
+use Rattle.qw_whole.specs.WholePromises.{promise_of_whole, whole_pages, whole_units}
 use Rattle.qw_bench.specs.Bench.{Task, end_in, rows_in_tables}
 use Rattle.qw_bench.specs.Standing.{Standing}
 use Rattle.qw_bench.specs.declared.bench.Limits.{Limits}
@@ -33,7 +34,7 @@ use Rattle.qw_top.proofs.SettleLemmas.{runs_explained}
 -- ---- limits that are enough for any module are so for those of a bench
 
 suffices_pages : (limits : Limits) (tables : List (List (List Val))) (queries : List Asked) → AllByRecursion (SufficesFor limits tables) queries →
-    AllByRecursion (λ (one : Asked). page_bound one.specification tables ≤ limits.pages) queries
+    AllByRecursion (λ (one : Asked). whole_pages one.whole tables ≤ limits.pages) queries
 suffices_pages limits tables [] all = tt
 suffices_pages limits tables (one ∷ queries) all = (all.0.pages, suffices_pages limits tables queries all.1)
 
@@ -46,7 +47,7 @@ module _ (limits : Limits) (quantum : ℕ) (tables : List Contents) (queries : L
   light_of k number one task found there shaped =
       let e = ended_as limits quantum tables queries b run k one found (slice_get_within queries k one found) in
       let same : e.t ≡ task = same_Some e.t task (sym e.task ∙ there) in
-      let compiled = subst (λ (t : Task). IsCompiled (promise_of one.specification) t.program.layout t.program.module') same e.compiled in
+      let compiled = subst (λ (t : Task). IsCompiled (promise_of_whole one.whole) t.program.layout t.program.module') same e.compiled in
       compiled.light number shaped
 
   enough_of_any : AllByRecursion (SufficesFor limits rows) queries → IsEnough limits rows queries b
@@ -56,7 +57,7 @@ module _ (limits : Limits) (quantum : ℕ) (tables : List Contents) (queries : L
         let light = light_of k number one task found there shaped in
         let suffices = all_at (SufficesFor limits rows) queries k one all found in
         let most = suffices.steps in
-        let less = mul-le (weight_of task.program.module' number) (1 + units one.specification rows) (2 ^ 24) (1 + units one.specification rows) light (omega arith) in
+        let less = mul-le (weight_of task.program.module' number) (1 + whole_units one.whole rows) (2 ^ 24) (1 + whole_units one.whole rows) light (omega arith) in
         omega (arith, less, most);
   }
 
@@ -72,7 +73,7 @@ module _ (limits : Limits) (quantum : ℕ) (tables : List Contents) (queries : L
   no_pages_met : IsEnough limits rows queries b → status_of_ends ends ≡ PageLimitMet → ⊥
   no_pages_met enough is =
       let met = pages_met limits quantum tables queries b run is in
-      let within = all_contains (λ (one : Asked). page_bound one.specification rows ≤ limits.pages) queries met.0 enough.pages met.1 in
+      let within = all_contains (λ (one : Asked). whole_pages one.whole rows ≤ limits.pages) queries met.0 enough.pages met.1 in
       let above = met.2 in
       omega (arith, within, above)
 
@@ -125,7 +126,7 @@ record NoLimit (end : Option End) : Type 0 where
 
 module _ (tables : List Contents) (one : Asked) (b : Standing) (k : ℕ) (block : List ℕ) where
   abbrev out : Outcome
-  out = outcome one.specification (rows_in_tables tables)
+  out = whole_outcome one.whole (rows_in_tables tables)
 
   tells_end : (end : Option End) → NoLimit end → ShowsEnd tables one b k end block → TellsOutcome out one.header one.keys k block
   tells_end None free shows = absurd shows
@@ -158,7 +159,7 @@ module _ (tables : List Contents) (b : Standing) where
 
   none_raise : (counts : Bool) (queries : List Asked) (k : ℕ) (report : List ℕ) →
       ((n j : ℕ) → n ≡ k + j → j < length queries → NoLimit (end_in b.shared n) × (is_exception (end_in b.shared n) ≡ false)) →
-      ShowsEnds counts tables queries b k report → list_any (λ (one : Asked). is_raised (outcome one.specification (rows_in_tables tables))) queries ≡ false
+      ShowsEnds counts tables queries b k report → list_any (λ (one : Asked). is_raised (whole_outcome one.whole (rows_in_tables tables))) queries ≡ false
   none_raise counts [] k report free shows = refl
   none_raise counts (one ∷ queries) k report free (block, blocks, is, first, more) =
       let here = free k 0 (omega arith) (omega arith) in
@@ -166,13 +167,13 @@ module _ (tables : List Contents) (b : Standing) where
       (none_raise counts queries (suc k) blocks (λ n j n_is within. free n (suc j) (omega (arith, n_is)) (omega (arith, within))) more)
 
 -- one that raises is among them
-one_raises : (tables : List (List (List Val))) (queries : List Asked) (one : Asked) → Contains queries one → is_raised (outcome one.specification tables) ≡ true →
-    list_any (λ (other : Asked). is_raised (outcome other.specification tables)) queries ≡ true
+one_raises : (tables : List (List (List Val))) (queries : List Asked) (one : Asked) → Contains queries one → is_raised (whole_outcome one.whole tables) ≡ true →
+    list_any (λ (other : Asked). is_raised (whole_outcome other.whole tables)) queries ≡ true
 one_raises tables [] one among raised = absurd (omega (arith, among.1))
 one_raises tables (first ∷ queries) one (zero, within, is) raised =
-    let here : is_raised (outcome first.specification tables) ≡ true = subst (λ (q : Asked). is_raised (outcome q.specification tables) ≡ true) (sym is) raised in
+    let here : is_raised (whole_outcome first.whole tables) ≡ true = subst (λ (q : Asked). is_raised (whole_outcome q.whole tables) ≡ true) (sym is) raised in
     rw here refl
-one_raises tables (first ∷ queries) one (suc n, within, is) raised = or_last (is_raised (outcome first.specification tables)) (one_raises tables queries one (n, omega (arith, within), is) raised)
+one_raises tables (first ∷ queries) one (suc n, within, is) raised = or_last (is_raised (whole_outcome first.whole tables)) (one_raises tables queries one (n, omega (arith, within), is) raised)
   where
     or_last : (a : Bool) {b : Bool} → b ≡ true → (a || b) ≡ true
     or_last true is = refl
@@ -203,7 +204,7 @@ module _ (limits : Limits) (quantum : ℕ) (tables : List Contents) (queries : L
   meant counts report shows = by_exception (list_any is_exception all_ends) refl
     where
       raises : Bool
-      raises = list_any (λ (one : Asked). is_raised (outcome one.specification (rows_in_tables tables))) queries
+      raises = list_any (λ (one : Asked). is_raised (whole_outcome one.whole (rows_in_tables tables))) queries
 
       by_exception : (c : Bool) → list_any is_exception all_ends ≡ c → status_of_ends all_ends ≡ status_meant (rows_in_tables tables) queries
       by_exception true is =

@@ -11,17 +11,21 @@ use Rattle.qw_scalar.specs.Expression as meaning
 use Rattle.qw_scalar.specs.Tree.{expression_of}
 use Rattle.qw_scalar.specs.Typing.{IsTyped, has_kind, kind_of}
 use Rattle.qw_scalar.specs.declared.expression.Expr.{Expr}
-use Rattle.qw_meaning.specs.Query.{query_of}
-use Rattle.qw_meaning.specs.Select.{Entry, IsItemOver, Specification, entries_of}
+use Rattle.qw_meaning.specs.Select.{Entry, IsItemOver, entries_of}
+use Rattle.qw_grouped.specs.Whole.{Body, Whole, grouped, plain, sources_in}
+use Rattle.qw_grouped.specs.WholeQuery.{body_of, whole_of}
 use Rattle.qw_order.specs.declared.sort_key.SortKey.{SortKey}
 use Rattle.qw_token.specs.Token.{Lexeme}
 use Rattle.qw_ast.specs.Syntax.{Select}
 use Rattle.qw_parse.specs.Script.{AreAccepted, ReadsScript}
 use Rattle.qw_typer.specs.Meanings.{AreMeant}
-use Rattle.qw_typer.specs.Sizes.{AreSmall, IsSmall}
+use Rattle.qw_typer.specs.Sizes.{AreSmall, IsSmallBody}
 use Rattle.qw_typer.specs.Typed.{Means}
 use Rattle.qw_typer.specs.declared.query.TypedQuery.{TypedQuery}
-use Rattle.qw_typer.proofs.MeansLemmas.{IsOfTable, entries_there, items_have_kinds, many_names}
+use Rattle.qw_typer.proofs.MeansLemmas as typed
+use Rattle.qw_typer.proofs.MeansLemmas.{IsOfTable, entries_there, items_have_kinds, many_names, not_distinct}
+use Rattle.qw_whole.specs.WholePromises.{items_in}
+use Rattle.qw_compile_whole.specs.WholeTaken.{IsTaken}
 use Rattle.qw_sink.specs.declared.sink.Head.{Head}
 use Rattle.qw_top.specs.Top.{AreAsked, AsksFor, IsHeader}
 use Rattle.qw_top.specs.Inner.Queries.{IsEntryOver, IsOver, asked_of, head_of, heads_of}
@@ -61,10 +65,16 @@ entries_over : (schema : List Table) (entries : List Entry) → AllByRecursion (
 entries_over schema [] all = tt
 entries_over schema (e ∷ entries) all = (record { table = all.0.table; there = all.0.there; columns_are = all.0.columns_are }, entries_over schema entries all.1)
 
-is_over : (schema : List Table) (s : Select) (t : TypedQuery) → Means schema s (query_of t.query) t.names.items t.keys.items → IsSmall t.query → IsOver schema t
+-- what a query means is compiled
+is_taken : (schema : List Table) (s : Select) (whole : Whole) (names : List (List ℕ)) (keys : List SortKey) → Means schema s whole names keys → IsTaken whole
+is_taken schema s whole names keys means =
+    record { not_distinct = not_distinct schema s whole names keys means }
+
+is_over : (schema : List Table) (s : Select) (t : TypedQuery) → Means schema s (whole_of t.query) t.names.items t.keys.items → IsSmallBody t.query.body → IsOver schema t
 is_over schema s t means small = record {
-  entries = entries_over schema (entries_of (query_of t.query).sources) (entries_there schema s (query_of t.query) t.names.items t.keys.items means);
-  short = is_short t.query small;
+  entries = entries_over schema (entries_of (sources_in (body_of t.query.body))) (entries_there schema s (whole_of t.query) t.names.items t.keys.items means);
+  taken = is_taken schema s (whole_of t.query) t.names.items t.keys.items means;
+  short = is_short t.query.body small;
 }
 
 pub all_over : (schema : List Table) (script : List Select) (typed : List TypedQuery) → AreMeant schema script typed → AreSmall typed → AllByRecursion (IsOver schema) typed
@@ -95,10 +105,15 @@ head_kinds (name ∷ names) [] many kinds = absurd (omega (arith, many))
 head_kinds (name ∷ names) (e ∷ es) many kinds =
     ap (λ (k : Option Kind). k ∷ map (λ (h : Head). Some h.kind) (heads_of names es)) (the_kind (kind_of e) kinds.0) ∙ ap (λ (ks : List (Option Kind)). kind_of e ∷ ks) (head_kinds names es (omega (arith, many)) kinds.1)
 
-is_header : (schema : List Table) (s : Select) (specification : Specification) (names : List (List ℕ)) (keys : List SortKey) → Means schema s specification names keys → IsHeader specification names (heads_of names specification.items)
-is_header schema s specification names keys means =
-    let many = many_names schema s specification names keys means in
-    record { names_are = head_names names specification.items many; kinds_are = head_kinds names specification.items many (items_have_kinds schema s specification names keys means) }
+same_items : (body : Body) → typed.items_in body ≡ items_in body
+same_items (plain specification) = refl
+same_items (grouped query) = refl
+
+is_header : (schema : List Table) (s : Select) (whole : Whole) (names : List (List ℕ)) (keys : List SortKey) → Means schema s whole names keys → IsHeader whole names (heads_of names (items_in whole.body))
+is_header schema s whole names keys means =
+    let many = many_names schema s whole names keys means ∙ ap (λ (es : List meaning.Expression). length es) (same_items whole.body) in
+    let kinds = subst HasKinds (same_items whole.body) (items_have_kinds schema s whole names keys means) in
+    record { names_are = head_names names (items_in whole.body) many; kinds_are = head_kinds names (items_in whole.body) many kinds }
 
 -- ---- what the script asks for
 
@@ -110,7 +125,7 @@ are_asked schema (s ∷ script) (t ∷ typed) all = (
   record {
     names = t.names.items;
     means = all.0;
-    header = is_header schema s (query_of t.query) t.names.items t.keys.items all.0;
+    header = is_header schema s (whole_of t.query) t.names.items t.keys.items all.0;
   },
   are_asked schema script typed all.1,
 )
@@ -136,7 +151,11 @@ heads-more names es i other within =
     (λ (n : ℕ). heads_of (take n names) (map expression_of es) ≡ heads_of (take i names) (map expression_of es) ++ option_map_or (λ (e : Expr). head_of (get_or names i other) (expression_of e) ∷ []) (slice_get es i) [])
     next (heads-suc names es i other within)
 
-pub typed_at : (Holds : ℕ → Ty → Type 0) (es : List Expr) (i : ℕ) → AllByRecursion (IsItemOver Holds) (map expression_of es) → IfSome (slice_get es i) (λ (e : Expr). IsTyped (expression_of e))
-typed_at Holds [] i all = tt
-typed_at Holds (e ∷ es) zero all = all.0.0.0
-typed_at Holds (e ∷ es) (suc i) all = typed_at Holds es i all.1
+pub all_typed : (Holds : ℕ → Ty → Type 0) (es : List Expr) → AllByRecursion (IsItemOver Holds) (map expression_of es) → AllByRecursion (λ (e : Expr). IsTyped (expression_of e)) es
+all_typed Holds [] all = tt
+all_typed Holds (e ∷ es) all = (all.0.0.0, all_typed Holds es all.1)
+
+pub typed_at : (es : List Expr) (i : ℕ) → AllByRecursion (λ (e : Expr). IsTyped (expression_of e)) es → IfSome (slice_get es i) (λ (e : Expr). IsTyped (expression_of e))
+typed_at [] i all = tt
+typed_at (e ∷ es) zero all = all.0
+typed_at (e ∷ es) (suc i) all = typed_at es i all.1

@@ -11,12 +11,13 @@ use Rattle.qw_types.specs.declared.value.Val.{Val}
 use Rattle.qw_module.specs.Execution.{State, Running, Returned, Raised as HasRaised, Trapped}
 use Rattle.qw_module.specs.Validity.{IsShaped}
 use Rattle.std.specs.List.Sorted.{IsPermutation}
-use Rattle.qw_meaning.specs.Outcome.{IsSameOutcome, Outcome, Rows, Raises, outcome}
+use Rattle.qw_meaning.specs.Outcome.{IsSameOutcome, Outcome, Rows, Raises}
+use Rattle.qw_grouped.specs.Whole.{sources_in, whole_outcome}
 use Rattle.qw_meaning.specs.Select.{AreOfEntries, entries_of}
 use Rattle.qw_map.specs.Layout.{rows_at}
 use Rattle.qw_map.specs.Turns.{End, Done as EndedDone, Exception, Pages, Steps, Trap, Instance, IsWhole, Shared, end_at, end_of_refusal}
 use Rattle.qw_promise.specs.Compiled.{Answers, IsCompiled, bound, raised_for}
-use Rattle.qw_compile.specs.PlannedQueries.{page_bound, promise_of}
+use Rattle.qw_whole.specs.WholePromises.{promise_of_whole, whole_pages}
 use Rattle.qw_bench.specs.Bench.{AreServing, IsAt, Program, Serves, Task, end_in, rows_in_tables}
 use Rattle.qw_bench.specs.Standing.{Standing, AreTasksOf, rows_in}
 use Rattle.qw_bench.specs.declared.bench.Limits.{Limits}
@@ -37,7 +38,7 @@ use Rattle.qw_top.proofs.EachLemmas.{all_at}
 record TaskOf (limits : Limits) (asked : Asked) (tasks : List Task) (k : ℕ) : Type 0 where
   t : Task
   task : slice_get tasks k ≡ Some t
-  compiled : IsCompiled (promise_of asked.specification) t.program.layout t.program.module'
+  compiled : IsCompiled (promise_of_whole asked.whole) t.program.layout t.program.module'
   pages : t.pages ≡ limits.pages
   steps : t.steps ≡ limits.steps
 
@@ -50,8 +51,8 @@ task_of limits (query ∷ queries) (program ∷ programs) (t ∷ tasks) compiled
   t = t;
   task = refl;
   compiled =
-      subst (λ (q : Asked). IsCompiled (promise_of q.specification) t.program.layout t.program.module') (same_Some query asked found)
-      (subst (λ (p : Program). IsCompiled (promise_of query.specification) p.layout p.module') (sym are.0) compiled.0);
+      subst (λ (q : Asked). IsCompiled (promise_of_whole q.whole) t.program.layout t.program.module') (same_Some query asked found)
+      (subst (λ (p : Program). IsCompiled (promise_of_whole query.whole) p.layout p.module') (sym are.0) compiled.0);
   pages = are.1;
   steps = are.2;
 }
@@ -77,13 +78,13 @@ pub record EndedAs (limits : Limits) (tables : List Contents) (asked : Asked) (b
   pub task : slice_get b.tasks k ≡ Some t
   pub i : Instance
   pub found : slice_get b.shared.instances k ≡ Some i
-  pub compiled : IsCompiled (promise_of asked.specification) t.program.layout t.program.module'
+  pub compiled : IsCompiled (promise_of_whole asked.whole) t.program.layout t.program.module'
   pub serves : Serves b.shared.common.memory t i
   pub pages : t.pages ≡ limits.pages
   pub steps : t.steps ≡ limits.steps
   pub number : ℕ
   pub shaped : IsShaped t.program.module' number
-  pub at : IsAt (promise_of asked.specification) (rows_in_tables tables) b.shared.common.memory t number i i.end
+  pub at : IsAt (promise_of_whole asked.whole) (rows_in_tables tables) b.shared.common.memory t number i i.end
 
 pub end_is : (s : Shared) (k : ℕ) (i : Instance) → slice_get s.instances k ≡ Some i → end_in s k ≡ i.end
 end_is s k i found = ap (option_and_then (λ (instance : Instance). instance.end)) found
@@ -100,8 +101,8 @@ module _ (limits : Limits) (quantum : ℕ) (tables : List Contents) (queries : L
   ended_as k asked found within =
       let one = task_of limits queries run.programs b.tasks run.compiled run.tasks k asked found in
       let i = there b.shared.instances k (omega (arith, many_instances, within)) in
-      let answers = compiled-answers tables b.tasks run.start run.given (promise_of asked.specification) run.began k one.t i.0 one.task
-      (subst (λ (s : Shared). slice_get s.instances k ≡ Some i.0) run.turned i.1) one.compiled (all_at (λ (other : Asked). AreOfEntries (entries_of other.specification.sources) (rows_in_tables tables)) queries k asked run.read found) in
+      let answers = compiled-answers tables b.tasks run.start run.given (promise_of_whole asked.whole) run.began k one.t i.0 one.task
+      (subst (λ (s : Shared). slice_get s.instances k ≡ Some i.0) run.turned i.1) one.compiled (all_at (λ (other : Asked). AreOfEntries (entries_of (sources_in other.whole.body)) (rows_in_tables tables)) queries k asked run.read found) in
       record {
         t = one.t;
         task = one.task;
@@ -113,7 +114,7 @@ module _ (limits : Limits) (quantum : ℕ) (tables : List Contents) (queries : L
         steps = one.steps;
         number = answers.0;
         shaped = answers.1;
-        at = subst (λ (s : Shared). IsAt (promise_of asked.specification) (rows_in_tables tables) s.common.memory one.t answers.0 i.0 i.0.end) (sym run.turned) answers.2;
+        at = subst (λ (s : Shared). IsAt (promise_of_whole asked.whole) (rows_in_tables tables) s.common.memory one.t answers.0 i.0 i.0.end) (sym run.turned) answers.2;
       }
 
 -- ---- what is shown of it
@@ -136,15 +137,15 @@ module _ (limits : Limits) (tables : List Contents) (asked : Asked) (b : Standin
   -- what is answered of its end
   abbrev AnswersTo : End → Type 0
   AnswersTo end =
-      Answers (outcome asked.specification (rows_in_tables tables)) one.t.program.layout (bound (promise_of asked.specification) (rows_in_tables tables) one.t.program.module' one.number)
-      (page_bound asked.specification (rows_in_tables tables)) one.t.descriptor one.i.world b.shared.common.memory end
+      Answers (whole_outcome asked.whole (rows_in_tables tables)) one.t.program.layout (bound (promise_of_whole asked.whole) (rows_in_tables tables) one.t.program.module' one.number)
+      (whole_pages asked.whole (rows_in_tables tables)) one.t.descriptor one.i.world b.shared.common.memory end
 
   -- the block of an end shows it
   shows_at : (end : Option End) → IfSome end AnswersTo → (block : List ℕ) → IsBlock asked b k end block → ShowsEnd tables asked b k end block
   shows_at None at block is = absurd is
   shows_at (Some EndedDone) (none, (rows, same_out, there_is)) block (shown, printed, found, sorted, is) =
       let same : rows ≡ shown = same_Some rows shown (sym (rows_are ∙ there_is) ∙ found) in
-      let bag = bag_of (outcome asked.specification (rows_in_tables tables)) rows same_out in
+      let bag = bag_of (whole_outcome asked.whole (rows_in_tables tables)) rows same_out in
       (bag.0, shown, printed, bag.1, subst (λ (rs : List (List Val)). IsPermutation bag.0 rs) same bag.2, found, sorted, is)
   shows_at (Some (Exception code)) (none, (raised, other, out, among, code_is)) block (shown, shown_is, is) =
       let same : other ≡ shown = same_raised other shown (sym code_is ∙ shown_is) in
@@ -199,7 +200,7 @@ module _ (limits : Limits) (tables : List Contents) (asked : Asked) (b : Standin
   some_at : (end : Option End) → IsSome end → IfSome end (AnswersTo limits tables asked b k one) → (block : List ℕ) × ShowsEnd tables asked b k end block
   some_at None some at = cc
   some_at (Some EndedDone) some (none, (rows, same_out, there_is)) =
-      let bag = bag_of (outcome asked.specification (rows_in_tables tables)) rows same_out in
+      let bag = bag_of (whole_outcome asked.whole (rows_in_tables tables)) rows same_out in
       let printed = sorting.sorted_by asked.keys rows in
       (report_of_rows (suc k) asked.header printed, (bag.0, rows, printed, bag.1, bag.2, rows_are limits tables asked b k one ∙ there_is, sorting.there asked.keys rows, refl))
   some_at (Some (Exception code)) some (none, (raised, other, out, among, code_is)) = (report_of_exception (suc k) other, (raised, other, out, among, code_is, refl))
@@ -346,7 +347,7 @@ module _ (limits : Limits) (quantum : ℕ) (tables : List Contents) (queries : L
   answers_at p h end is = subst (λ (o : Option End). IfSome o (AnswersTo limits tables h.asked b h.k h.one)) is h.one.at.answers
 
   -- a limit of pages that was met is below the page bound of a query
-  pub pages_met : status_of_ends ends ≡ PageLimitMet → (asked : Asked) × Contains queries asked × (limits.pages < page_bound asked.specification (rows_in_tables tables))
+  pub pages_met : status_of_ends ends ≡ PageLimitMet → (asked : Asked) × Contains queries asked × (limits.pages < whole_pages asked.whole (rows_in_tables tables))
   pages_met is =
       let h = one_end is_pages (pages_status (list_any is_pages ends) (list_any is_steps ends) (list_any is_exception ends) is) in
       let pages = some_pages h.one.i.end h.is in
@@ -371,7 +372,7 @@ module _ (limits : Limits) (quantum : ℕ) (tables : List Contents) (queries : L
       )
 
   -- an exception that was raised is one of a query's outcome
-  pub exception_raised : status_of_ends ends ≡ Raised → (asked : Asked) × Contains queries asked × ((codes : List Code) × (outcome asked.specification (rows_in_tables tables) ≡ Raises codes))
+  pub exception_raised : status_of_ends ends ≡ Raised → (asked : Asked) × Contains queries asked × ((codes : List Code) × (whole_outcome asked.whole (rows_in_tables tables) ≡ Raises codes))
   exception_raised is =
       let h = one_end is_exception (raised_status (list_any is_pages ends) (list_any is_steps ends) (list_any is_exception ends) is) in
       let code = some_exception h.one.i.end h.is in

@@ -6,8 +6,9 @@ use Rattle.qw_types.specs.Contents.{Contents}
 use Rattle.qw_types.specs.declared.schema.Table.{Table}
 use Rattle.qw_linear.specs.Memory.{most_pages}
 use Rattle.qw_types.specs.declared.code.Code.{Code}
-use Rattle.qw_meaning.specs.Outcome.{Raises, outcome}
-use Rattle.qw_compile.specs.PlannedQueries.{page_bound}
+use Rattle.qw_meaning.specs.Outcome.{Raises}
+use Rattle.qw_grouped.specs.Whole.{whole_outcome}
+use Rattle.qw_whole.specs.WholePromises.{whole_pages}
 use Rattle.qw_bench.specs.Bench.{rows_in_tables}
 use Rattle.qw_bench.specs.Standing.{Standing, total_pages as pages_in_all}
 use Rattle.std.proofs.lemmas.Option.{same_Some}
@@ -274,7 +275,7 @@ module _ (limits : Limits) (told : List ℕ → Option (List ℕ)) (names : Name
       apart one (all_contains (P tables) queries' one here among) (subst (λ (t : List Contents). Q t one) (sym e.1) holds)
 
   pub pages_enough : (b : Standing) (kept : Option Standing) → IsEnough limits (rows_in_tables tables) queries b → RunExplains limits (Some told) names kept PageLimitMet → ⊥
-  pages_enough b kept enough met = asked_one (λ t one. page_bound one.specification (rows_in_tables t) ≤ limits.pages) (λ t one. limits.pages < page_bound one.specification (rows_in_tables t))
+  pages_enough b kept enough met = asked_one (λ t one. whole_pages one.whole (rows_in_tables t) ≤ limits.pages) (λ t one. limits.pages < whole_pages one.whole (rows_in_tables t))
       (λ one within above. omega (arith, within, above)) enough.pages met
 
   pub steps_enough : (b : Standing) (kept : Option Standing) → kept ≡ Some b → IsEnough limits (rows_in_tables tables) queries b → RunExplains limits (Some told) names kept StepLimitMet → ⊥
@@ -289,7 +290,7 @@ module _ (limits : Limits) (told : List ℕ → Option (List ℕ)) (names : Name
       omega (arith, within, above)
 
   pub raises_nothing : (kept : Option Standing) → AllByRecursion (RaisesNothing (rows_in_tables tables)) queries → RunExplains limits (Some told) names kept Raised → ⊥
-  raises_nothing kept none raised = asked_one (λ t one. RaisesNothing (rows_in_tables t) one) (λ t one. (codes : List Code) × (outcome one.specification (rows_in_tables t) ≡ Raises codes))
+  raises_nothing kept none raised = asked_one (λ t one. RaisesNothing (rows_in_tables t) one) (λ t one. (codes : List Code) × (whole_outcome one.whole (rows_in_tables t) ≡ Raises codes))
       (λ one is out. is out.0 out.1) none raised
 
 module _ (limits : Limits) (files : Files) (names : Names) (kept : Option Standing) (result : Status) (why : RunExplains limits files names kept result) (told : List ℕ → Option (List ℕ)) (schema : List Table)

@@ -1,6 +1,7 @@
 -- What is typed small is never too long to be compiled: its text literals, each as heavy as its octets, weigh the octets of all of them.
-use Rattle.std.proofs.Common.{◌≡◌, ◌≤◌, ◌++◌, length, sum_by, refl, arith}
-use Rattle.std.proofs.lemmas.List.Sums.{sum_by-append, sum_by-le-sum_by}
+use Rattle.std.proofs.Common.{◌≡◌, ℕ, ◌≤◌, List, [], ◌∷◌, ◌++◌, length, sum_by, refl, arith}
+use Rattle.std.specs.List.{flat_map}
+use Rattle.std.proofs.lemmas.List.Sums.{sum_by-append, sum_by-cons, sum_by-le-sum_by}
 use Rattle.qw_scalar.specs.declared.expression.Expr.{Expr}
 use Rattle.qw_scalar.specs.declared.expression.Cond.{Cond}
 use Rattle.qw_scalar.specs.declared.expression.Exprs.{Exprs}
@@ -13,10 +14,17 @@ use Rattle.qw_scalar.specs.declared.expression.Branches.TheVariants as Branches
 use Rattle.qw_scalar.specs.declared.expression.Matches.TheVariants as Matches
 use Rattle.qw_fold.specs.Texts.{texts_in, texts_of_all, texts_of_branches, texts_of_matches, texts_within}
 use Rattle.qw_meaning.specs.Query.{QueryParts}
+use Rattle.qw_grouped.specs.Query.{GroupedParts}
+use Rattle.qw_grouped.specs.declared.set_function.SetFunction.{SetFunction}
+use Rattle.qw_grouped.specs.declared.whole.Body.{Body}
+use Rattle.qw_grouped.specs.declared.whole.Body.TheVariants.{Plain, Grouped}
 use Rattle.qw_algebra.specs.Sizes.{tests_on}
 use Rattle.qw_physical.specs.Sizes.{weight_in, weight_within}
-use Rattle.qw_typer.specs.Sizes.{IsSmall, text_octets, text_octets_of, text_octets_of_all, text_octets_of_branches, text_octets_of_matches}
+use Rattle.qw_typer.specs.Sizes.{IsSmall, IsSmallBody, IsSmallGrouped, text_octets, text_octets_of, text_octets_of_all, text_octets_of_branches, text_octets_of_matches}
 use Rattle.qw_compile.specs.Limits.{IsShort}
+use Rattle.qw_compile.proofs.TextsFew.{octets_are}
+use Rattle.qw_compile_whole.specs.WholeLimits.{IsShortBody, IsShortGrouped}
+use Rattle.qw_compile_whole.specs.WholeTexts.{argument_texts, front_texts, texts_of_grouped}
 
 -- ---- the octets of a tree's texts
 mutual
@@ -68,10 +76,39 @@ light_within c = omega (arith, octets_within c)
 
 -- ---- a query's
 
-pub is_short : (parts : QueryParts) → IsSmall parts → IsShort parts
-is_short parts small =
+short_plain : (parts : QueryParts) → IsSmall parts → IsShort parts
+short_plain parts small =
     let tests = sum_by-le-sum_by (weight_within length) text_octets_of (tests_on parts.sources) light_within in
     let conjuncts = sum_by-le-sum_by (weight_within length) text_octets_of parts.conjuncts light_within in
     let items = sum_by-le-sum_by (weight_in length) text_octets parts.items light in
     let few_octets = small.few_octets in
     record { few_nodes = small.few_nodes; few_octets = omega (arith, tests, conjuncts, items, few_octets) }
+
+-- the octets of texts, of each of a list
+each_octets : {A : Type 0} (texts : A → List (List ℕ)) (octets : A → ℕ) (l : List A) → ((a : A) → sum_by (λ (t : List ℕ). length t) (texts a) ≡ octets a) → sum_by (λ (t : List ℕ). length t) (flat_map texts l) ≡ sum_by octets l
+each_octets texts octets [] h = omega arith
+each_octets texts octets (a ∷ l) h =
+    let rest = each_octets texts octets l h in
+    let first = h a in
+    let both = sum_by-append (λ (t : List ℕ). length t) (texts a) (flat_map texts l) in
+    let more = sum_by-cons octets a l in
+    omega (arith, first, rest, both, more)
+
+short_grouped : (parts : GroupedParts) → IsSmallGrouped parts → IsShortGrouped parts
+short_grouped parts small =
+    let tests = each_octets texts_within text_octets_of (tests_on parts.sources) octets_within in
+    let conjuncts = each_octets texts_within text_octets_of parts.conjuncts octets_within in
+    let arguments = each_octets (λ (f : SetFunction). texts_in f.argument) (λ (f : SetFunction). text_octets f.argument) parts.functions (λ (f : SetFunction). octets_in f.argument) in
+    let having = each_octets texts_within text_octets_of parts.having octets_within in
+    let items = each_octets texts_in text_octets parts.items octets_in in
+    let all = octets_are (texts_of_grouped parts) in
+    let apart = sum_by-append (λ (t : List ℕ). length t) (front_texts parts) (flat_map texts_within parts.having ++ flat_map texts_in parts.items) in
+    let front = sum_by-append (λ (t : List ℕ). length t) (flat_map texts_within (tests_on parts.sources)) (flat_map texts_within parts.conjuncts ++ argument_texts parts.functions) in
+    let tested = sum_by-append (λ (t : List ℕ). length t) (flat_map texts_within parts.conjuncts) (argument_texts parts.functions) in
+    let behind = sum_by-append (λ (t : List ℕ). length t) (flat_map texts_within parts.having) (flat_map texts_in parts.items) in
+    let few_octets = small.few_octets in
+    record { few_nodes = small.few_nodes; few_octets = omega (arith, all, apart, front, tested, behind, tests, conjuncts, arguments, having, items, few_octets) }
+
+pub is_short : (body : Body) → IsSmallBody body → IsShortBody body
+is_short (Plain parts) small = short_plain parts small
+is_short (Grouped parts) small = short_grouped parts small

@@ -11,7 +11,7 @@ use Rattle.qw_check.specs.Check.{HasFault, SpellsValid}
 use Rattle.qw_check.specs.declared.check.CheckFault.TheVariants as check_faults
 use Rattle.qw_map.specs.Layout.{Layout}
 use Rattle.qw_promise.specs.Compiled.{IsCompiled}
-use Rattle.qw_compile.specs.PlannedQueries.{promise_of}
+use Rattle.qw_whole.specs.WholePromises.{promise_of_whole}
 use Rattle.qw_bench.specs.Standing.{Standing}
 use Rattle.qw_command_line.specs.Words.{run, compile, check, Reading, RunOptions, command, no_command, out_of_range, TextNames, reading}
 use Rattle.qw_top.specs.Causes.{Cause, words_refused, number_out_of_range, schema_too_long, schema_refused, queries_too_long, queries_refused, queries_mistyped, no_statement, module_too_long, module_refused, status_of_cause}
@@ -75,7 +75,7 @@ IsScriptFile files names name = (name ≡ names.schema) ⊎ ((schema : List Tabl
 pub record SpellsCompiled (one : Asked) (octets : List ℕ) : Type 0 where
   pub layout : Layout
   pub m : Module
-  pub compiled : IsCompiled (promise_of one.specification) layout m
+  pub compiled : IsCompiled (promise_of_whole one.whole) layout m
   pub spelled : SpellsModule (contents_of m) octets
 
 -- what is written of a statement

@@ -15,11 +15,11 @@ use Rattle.qw_schema.specs.declared.parse.Count.TheVariants.{Tables, Columns}
 use Rattle.qw_schema.specs.declared.parse.SchemaFault.{SchemaFault}
 use Rattle.qw_schema.specs.declared.parse.SchemaFault.TheVariants as schema
 use Rattle.qw_parse.specs.declared.fault.Count.{Count as ScriptCount}
-use Rattle.qw_parse.specs.declared.fault.Count.TheVariants.{Statements, SelectItems, FromEntries, SortKeys, Nodes, LiteralOctets}
+use Rattle.qw_parse.specs.declared.fault.Count.TheVariants.{Statements, SelectItems, FromEntries, GroupColumns, SortKeys, Nodes, LiteralOctets}
 use Rattle.qw_parse.specs.declared.fault.ParseFault.{ParseFault}
 use Rattle.qw_parse.specs.declared.fault.ParseFault.TheVariants as script
 use Rattle.qw_typer.specs.declared.fault.FaultKind.{FaultKind}
-use Rattle.qw_typer.specs.declared.fault.FaultKind.TheVariants.{UnknownTable, UnknownColumn, Ambiguous, DuplicateAlias, Clash, ScaleTooLarge, LiteralTooLong, BadDate, BadOrdinal}
+use Rattle.qw_typer.specs.declared.fault.FaultKind.TheVariants.{UnknownTable, UnknownColumn, Ambiguous, DuplicateAlias, Clash, ScaleTooLarge, LiteralTooLong, BadDate, BadOrdinal, NotGrouped, NestedAggregate, TooManyFunctions}
 use Rattle.qw_typer.specs.declared.fault.TypeFault.{TypeFault}
 use Rattle.qw_typer.specs.declared.fault.TypeFault.TheVariants as typing
 use Rattle.qw_command_line.specs.Words.{name_of}
@@ -94,6 +94,7 @@ abbrev pub counted_in_script : ScriptCount → List ℕ
 counted_in_script Statements = codes "statements"
 counted_in_script SelectItems = codes "select items"
 counted_in_script FromEntries = codes "from entries"
+counted_in_script GroupColumns = codes "group columns"
 counted_in_script SortKeys = codes "sort keys"
 counted_in_script Nodes = codes "nodes"
 counted_in_script LiteralOctets = codes "literal octets"
@@ -133,6 +134,9 @@ kind_words ScaleTooLarge = codes "scale too large"
 kind_words LiteralTooLong = codes "literal too long"
 kind_words BadDate = codes "bad date"
 kind_words BadOrdinal = codes "bad ordinal"
+kind_words NotGrouped = codes "not grouped"
+kind_words NestedAggregate = codes "nested aggregate"
+kind_words TooManyFunctions = codes "too many functions"
 
 -- why a script means nothing over the schema
 abbrev pub typing_cause : TypeFault → List ℕ

@@ -6,10 +6,11 @@ use Rattle.qw_types.specs.Contents.{Contents}
 use Rattle.qw_types.specs.declared.code.Code.{Code}
 use Rattle.qw_types.specs.declared.schema.Table.{Table}
 use Rattle.qw_types.specs.declared.value.Val.{Val}
-use Rattle.qw_meaning.specs.Outcome.{Outcome, Rows, Raises, outcome}
+use Rattle.qw_meaning.specs.Outcome.{Outcome, Rows, Raises}
+use Rattle.qw_grouped.specs.Whole.{whole_outcome}
 use Rattle.qw_order.specs.Order.{key_order}
 use Rattle.qw_order.specs.declared.sort_key.SortKey.{SortKey}
-use Rattle.qw_compile.specs.PlannedQueries.{page_bound, units}
+use Rattle.qw_whole.specs.WholePromises.{whole_pages, whole_units}
 use Rattle.qw_bench.specs.Bench.{rows_in_tables}
 use Rattle.qw_bench.specs.Standing.{Standing}
 use Rattle.qw_bench.specs.declared.bench.Limits.{Limits}
@@ -29,11 +30,11 @@ use Rattle.qw_top.specs.declared.status.Status.TheVariants.{Done, Raised}
 -- The most instructions that a compiled module of the query runs over tables, whichever it is: with all that it calls it has at most 2^24,
 -- and each is run at most once more than the query has units.
 abbrev pub most_steps : Asked → List (List (List Val)) → ℕ
-most_steps one tables = 2 ^ 24 * (1 + units one.specification tables)
+most_steps one tables = 2 ^ 24 * (1 + whole_units one.whole tables)
 
 -- limits are enough for the query over tables, whichever module it is compiled to
 pub record SufficesFor (limits : Limits) (tables : List (List (List Val))) (one : Asked) : Type 0 where
-  pub pages : page_bound one.specification tables ≤ limits.pages
+  pub pages : whole_pages one.whole tables ≤ limits.pages
   pub steps : most_steps one tables ≤ limits.steps
 
 -- Limits are enough for queries over tables: for whichever modules they are compiled to; or, where a bench was kept, for those that it has.
@@ -49,7 +50,7 @@ is_raised (Raises codes) = true
 
 -- The status that queries mean over tables: that an exception was raised, where the outcome of one of them is one, and else that the work is done.
 abbrev pub status_meant : List (List (List Val)) → List Asked → Status
-status_meant tables queries = if list_any (λ (one : Asked). is_raised (outcome one.specification tables)) queries then Raised else Done
+status_meant tables queries = if list_any (λ (one : Asked). is_raised (whole_outcome one.whole tables)) queries then Raised else Done
 
 -- The block of query k, counted from 0, tells the outcome: rows under the header, each as often as the outcome has it (7.9), in an order that the keys
 -- allow (13.1); or one of its exceptions.
@@ -62,7 +63,7 @@ TellsOutcome (Raises codes) header keys k block = (one : Code) × Contains codes
 abbrev pub TellsOutcomes : (counts : Bool) → List (List (List Val)) → List Asked → Standing → (k : ℕ) → (report : List ℕ) → Type 0
 TellsOutcomes counts tables [] b k report = report ≡ []
 TellsOutcomes counts tables (one ∷ queries) b k report = (block : List ℕ) × (blocks : List ℕ) × (report ≡ block ++ counts_line counts b k ++ blocks)
-    × TellsOutcome (outcome one.specification tables) one.header one.keys k block × TellsOutcomes counts tables queries b (suc k) blocks
+    × TellsOutcome (whole_outcome one.whole tables) one.header one.keys k block × TellsOutcomes counts tables queries b (suc k) blocks
 
 -- A run ended as its queries mean over tables: with their status; it kept a bench; and a sink that had taken the first has taken the whole
 -- report on all of them besides.

@@ -6,12 +6,13 @@ use Rattle.qw_types.specs.Contents.{Contents}
 use Rattle.qw_types.specs.declared.code.Code.{Code}
 use Rattle.qw_types.specs.declared.schema.Table.{Table}
 use Rattle.qw_types.specs.declared.value.Val.{Val}
-use Rattle.qw_meaning.specs.Outcome.{Rows, Raises, outcome}
+use Rattle.qw_meaning.specs.Outcome.{Rows, Raises}
+use Rattle.qw_grouped.specs.Whole.{sources_in, whole_outcome}
 use Rattle.qw_map.specs.Turns.{Act, End, Done as EndedDone, Exception, Pages, Steps, Trap, Shared, turns}
 use Rattle.qw_meaning.specs.Select.{AreOfEntries, entries_of}
 use Rattle.qw_order.specs.Order.{AreSorted}
 use Rattle.qw_promise.specs.Compiled.{IsCompiled, raised_for}
-use Rattle.qw_compile.specs.PlannedQueries.{promise_of}
+use Rattle.qw_whole.specs.WholePromises.{promise_of_whole}
 use Rattle.qw_bench.specs.Bench.{AreRounds, IsStart, Program, end_in, held_in, ran_in, rows_in_tables}
 use Rattle.qw_bench.specs.Standing.{Standing, AreTasksOf, rows_in}
 use Rattle.qw_bench.specs.declared.bench.Limits.{Limits}
@@ -27,14 +28,14 @@ use Rattle.qw_top.specs.declared.status.Status.TheVariants.{Done, ReadFailed, Wr
 
 -- a program is a query's compiled form
 abbrev pub IsProgramOf : Asked → Program → Type 0
-IsProgramOf asked program = IsCompiled (promise_of asked.specification) program.layout program.module'
+IsProgramOf asked program = IsCompiled (promise_of_whole asked.whole) program.layout program.module'
 
 -- A bench has run queries over tables to their ends, under limits, in turns of so many instructions: there is room for them; the tables
 -- that they read have rows of the columns that they take them to have; it has one task for each query in order, its compiled module; it
 -- stands where rounds of turns led from a start of these tasks; and all instances ended.
 pub record HasRun (limits : Limits) (quantum : ℕ) (tables : List Contents) (queries : List Asked) (b : Standing) : Type 0 where
   pub room : HaveRoom limits tables queries
-  pub read : AllByRecursion (λ (asked : Asked). AreOfEntries (entries_of asked.specification.sources) (rows_in_tables tables)) queries
+  pub read : AllByRecursion (λ (asked : Asked). AreOfEntries (entries_of (sources_in asked.whole.body)) (rows_in_tables tables)) queries
   pub programs : List Program
   pub compiled : AllZip IsProgramOf queries programs
   pub tasks : AreTasksOf programs (same_limits limits queries) b.tasks
@@ -51,10 +52,10 @@ pub record HasRun (limits : Limits) (quantum : ℕ) (tables : List Contents) (qu
 abbrev pub ShowsEnd : List Contents → Asked → Standing → ℕ → Option End → (block : List ℕ) → Type 0
 ShowsEnd tables asked b k None block = ⊥
 ShowsEnd tables asked b k (Some EndedDone) block = (bag : List (List Val)) × (rows : List (List Val)) × (printed : List (List Val))
-    × (outcome asked.specification (rows_in_tables tables) ≡ Rows bag) × IsPermutation bag rows × (rows_in b k ≡ Some rows)
+    × (whole_outcome asked.whole (rows_in_tables tables) ≡ Rows bag) × IsPermutation bag rows × (rows_in b k ≡ Some rows)
     × AreSorted asked.keys rows printed × (block ≡ report_of_rows (suc k) asked.header printed)
 ShowsEnd tables asked b k (Some (Exception code)) block = (raised : List Code) × (one : Code)
-    × (outcome asked.specification (rows_in_tables tables) ≡ Raises raised) × Contains raised one × (code ≡ raised_for one) × (block ≡ report_of_exception (suc k) one)
+    × (whole_outcome asked.whole (rows_in_tables tables) ≡ Raises raised) × Contains raised one × (code ≡ raised_for one) × (block ≡ report_of_exception (suc k) one)
 ShowsEnd tables asked b k (Some (Pages held asked_for limit)) block = block ≡ report_of_pages (suc k) held asked_for limit
 ShowsEnd tables asked b k (Some (Steps limit)) block = block ≡ report_of_steps (suc k) limit
 ShowsEnd tables asked b k (Some Trap) block = ⊥

@@ -8,10 +8,9 @@ use Rattle.qw_types.specs.declared.schema.Table.{Table}
 use Rattle.qw_types.specs.declared.value.Val.{Val}
 use Rattle.qw_linear.specs.Memory.{most_pages}
 use Rattle.qw_csv.specs.Loading.{IsFirstFault, Loads}
-use Rattle.qw_meaning.specs.Outcome.{Raises, outcome}
-use Rattle.qw_meaning.specs.Select.{Specification}
+use Rattle.qw_meaning.specs.Outcome.{Raises}
+use Rattle.qw_grouped.specs.Whole.{Whole, whole_outcome}
 use Rattle.qw_order.specs.declared.sort_key.SortKey.{SortKey}
-use Rattle.qw_scalar.specs.Typing.{kind_of}
 use Rattle.qw_ast.specs.Syntax.{Select}
 use Rattle.qw_schema.specs.Parse.{IsRefused, ReadsSchema}
 use Rattle.qw_parse.specs.Script.{IsScriptRefused, ReadsScript}
@@ -19,7 +18,7 @@ use Rattle.qw_typer.specs.Typed.{HasFirstFault, Means}
 use Rattle.qw_typer.specs.declared.fault.TypeFault.{TypeFault}
 use Rattle.qw_module.specs.Validity.{IsShaped}
 use Rattle.qw_promise.specs.Compiled.{bound}
-use Rattle.qw_compile.specs.PlannedQueries.{page_bound, promise_of}
+use Rattle.qw_whole.specs.WholePromises.{cells_of, promise_of_whole, whole_pages}
 use Rattle.qw_bench.specs.Bench.{Task, rows_in_tables}
 use Rattle.qw_bench.specs.Standing.{Standing, total_pages as pages_in_all}
 use Rattle.qw_bench.specs.declared.bench.Limits.{Limits}
@@ -66,22 +65,22 @@ TablesAre files folder [] [] = Unit {0}
 TablesAre files folder (table ∷ tables) (one ∷ contents) = TableIs files folder table one × TablesAre files folder tables contents
 TablesAre files folder _ _ = ⊥
 
--- A query of a script: its specification, the header of its rows, and the keys by which these are sorted, none without ORDER BY.
+-- A query of a script: what it means, the header of its rows, and the keys by which these are sorted, none without ORDER BY.
 pub record Asked : Type 0 where
-  pub specification : Specification
+  pub whole : Whole
   pub header : List Head
   pub keys : List SortKey
 
--- The header of a specification's rows, whose columns have these names: of each column its name, and the kind of its values.
-pub record IsHeader (specification : Specification) (names : List (List ℕ)) (header : List Head) : Type 0 where
+-- The header of a query's rows, whose columns have these names: of each column its name, and the kind of its values.
+pub record IsHeader (whole : Whole) (names : List (List ℕ)) (header : List Head) : Type 0 where
   pub names_are : map (λ (head : Head). head.name) header ≡ names
-  pub kinds_are : map (λ (head : Head). Some head.kind) header ≡ map kind_of specification.items
+  pub kinds_are : map (λ (head : Head). Some head.kind) header ≡ cells_of whole
 
 -- a query of the text means this over the schema
 pub record IsAsked (schema : List Table) (query : Select) (one : Asked) : Type 0 where
   pub names : List (List ℕ)
-  pub means : Means schema query one.specification names one.keys
-  pub header : IsHeader one.specification names one.header
+  pub means : Means schema query one.whole names one.keys
+  pub header : IsHeader one.whole names one.header
 
 -- so do queries, one for one
 abbrev pub AreAsked : List Table → List Select → List Asked → Type 0
@@ -196,18 +195,18 @@ pub record IsPastSteps (steps : ℕ) (tables : List (List (List Val))) (b : Stan
   pub there : slice_get b.tasks k ≡ Some task
   pub number : ℕ
   pub shaped : IsShaped task.program.module' number
-  pub past : steps < bound (promise_of one.specification) tables task.program.module' number
+  pub past : steps < bound (promise_of_whole one.whole) tables task.program.module' number
 
 -- limits are enough for the queries of a bench over tables: the bound of each on pages is within them, and so is that of its module there
 -- on instructions
 pub record IsEnough (limits : Limits) (tables : List (List (List Val))) (queries : List Asked) (b : Standing) : Type 0 where
-  pub pages : AllByRecursion (λ (one : Asked). page_bound one.specification tables ≤ limits.pages) queries
+  pub pages : AllByRecursion (λ (one : Asked). whole_pages one.whole tables ≤ limits.pages) queries
   pub steps : (k number : ℕ) (one : Asked) (task : Task) → slice_get queries k ≡ Some one → slice_get b.tasks k ≡ Some task →
-      IsShaped task.program.module' number → bound (promise_of one.specification) tables task.program.module' number ≤ limits.steps
+      IsShaped task.program.module' number → bound (promise_of_whole one.whole) tables task.program.module' number ≤ limits.steps
 
 -- the query raises nothing over tables
 abbrev pub RaisesNothing : (tables : List (List (List Val))) → Asked → Type 0
-RaisesNothing tables one = (codes : List Code) → outcome one.specification tables ≡ Raises codes → ⊥
+RaisesNothing tables one = (codes : List Code) → whole_outcome one.whole tables ≡ Raises codes → ⊥
 
 -- The files of these names, and the bench that was kept, explain how a run under limits ended: they settle a cause of a refusal; or they
 -- ask for queries that have room, of which one raises, where an exception was raised; or has a bound on pages, or a module in the bench
@@ -215,8 +214,8 @@ RaisesNothing tables one = (codes : List Code) → outcome one.specification tab
 abbrev pub RunExplains : (limits : Limits) → Files → Names → (kept : Option Standing) → Status → Type 0
 RunExplains limits files names kept Done =
     (schema : List Table) × (tables : List Contents) × (queries : List Asked) × HasQueries files names schema tables queries × HaveRoom limits tables queries
-RunExplains limits files names kept Raised = AsksOne limits files names (λ tables one. (codes : List Code) × (outcome one.specification (rows_in_tables tables) ≡ Raises codes))
-RunExplains limits files names kept PageLimitMet = AsksOne limits files names (λ tables one. limits.pages < page_bound one.specification (rows_in_tables tables))
+RunExplains limits files names kept Raised = AsksOne limits files names (λ tables one. (codes : List Code) × (whole_outcome one.whole (rows_in_tables tables) ≡ Raises codes))
+RunExplains limits files names kept PageLimitMet = AsksOne limits files names (λ tables one. limits.pages < whole_pages one.whole (rows_in_tables tables))
 RunExplains limits files names kept StepLimitMet = (b : Standing) × (kept ≡ Some b) × (schema : List Table) × (tables : List Contents) × (queries : List Asked) × (k : ℕ) × (one : Asked)
     × HasQueries files names schema tables queries × HaveRoom limits tables queries × (slice_get queries k ≡ Some one) × IsPastSteps limits.steps (rows_in_tables tables) b k one
 RunExplains limits files names kept ReadFailed = Unit {0}

@@ -8,7 +8,8 @@ use Rattle.qw_types.specs.declared.value.Ty.TheVariants.{Integer, Date}
 use Rattle.qw_types.specs.declared.value.Val.TheVariants.{Num}
 use Rattle.qw_scalar.specs.declared.expression.Operator.TheVariants as operator
 use Rattle.qw_scalar.specs.Expression.{arithmetic, column, number}
-use Rattle.qw_meaning.specs.Select.{alone}
+use Rattle.qw_meaning.specs.Select.{Specification, alone}
+use Rattle.qw_grouped.specs.Whole.{Whole, plain}
 use Rattle.qw_promise.specs.WorkedQueries.{integers}
 use Rattle.qw_compile.specs.WorkedJoins.{equal_numbers}
 use Rattle.qw_top.specs.Top.{Asked}
@@ -20,18 +21,22 @@ worked_table = record {
   columns = record { name = codes "A"; ty = Integer; not_null = true } ∷ record { name = codes "B"; ty = Date; not_null = false } ∷ [];
 }
 
+-- a query that isn't grouped, without DISTINCT
+abbrev pub plain_whole : Specification → Whole
+plain_whole specification = record { body = plain specification; distinct = false }
+
 -- SELECT T.A FROM T, U WHERE T.A = U.A, over two tables of one column A INTEGER NOT NULL
 abbrev pub joined : Asked
-joined = record { specification = equal_numbers; header = record { name = codes "A"; kind = kind.Number 0 } ∷ []; keys = [] }
+joined = record { whole = plain_whole equal_numbers; header = record { name = codes "A"; kind = kind.Number 0 } ∷ []; keys = [] }
 
 -- SELECT 8 / (A - 1) AS Q FROM T, over the first of them
 abbrev pub divided : Asked
 divided = record {
-  specification = record {
+  whole = plain_whole (record {
     sources = alone (integers 0) ∷ [];
     conjuncts = [];
     items = arithmetic operator.Divide (number (pos 8) 0) (arithmetic operator.Subtract (column 0 Integer) (number (pos 1) 0)) ∷ [];
-  };
+  });
   header = record { name = codes "Q"; kind = kind.Number 0 } ∷ [];
   keys = [];
 }

@@ -190,6 +190,7 @@ fn counted_in_script(what: ScriptCount) -> &'static str
         ScriptCount::Statements => "statements",
         ScriptCount::SelectItems => "select items",
         ScriptCount::FromEntries => "from entries",
+        ScriptCount::GroupColumns => "group columns",
         ScriptCount::SortKeys => "sort keys",
         ScriptCount::Nodes => "nodes",
         ScriptCount::LiteralOctets => "literal octets",
@@ -223,6 +224,9 @@ fn kind_words(kind: FaultKind) -> &'static str
         FaultKind::LiteralTooLong => "literal too long",
         FaultKind::BadDate => "bad date",
         FaultKind::BadOrdinal => "bad ordinal",
+        FaultKind::NotGrouped => "not grouped",
+        FaultKind::NestedAggregate => "nested aggregate",
+        FaultKind::TooManyFunctions => "too many functions",
     }
 }
 

@@ -5,18 +5,19 @@ ghost use Rattle.qw_types.specs.declared.numeral.FieldFault.TheVariants.{NotDate
 ghost use Rattle.qw_types.specs.declared.value.Val.TheVariants.{Num};
 ghost use Rattle.qw_csv.specs.declared.cell.CellFault.TheVariants as cell;
 ghost use Rattle.qw_csv.specs.declared.loading.LoadFault.TheVariants as load;
-ghost use Rattle.qw_meaning.specs.Outcome.{Rows, outcome};
+ghost use Rattle.qw_meaning.specs.Outcome.{Rows};
+ghost use Rattle.qw_grouped.specs.Whole.{whole_outcome};
 ghost use Rattle.qw_map.specs.Turns.{Done, Exception, Pages, Steps};
 ghost use Rattle.qw_schema.specs.declared.parse.Count.TheVariants.{Columns};
 ghost use Rattle.qw_schema.specs.declared.parse.SchemaFault.TheVariants as schema;
-ghost use Rattle.qw_parse.specs.declared.fault.Count.TheVariants.{Statements, SelectItems, FromEntries, SortKeys, Nodes, LiteralOctets};
+ghost use Rattle.qw_parse.specs.declared.fault.Count.TheVariants.{Statements, SelectItems, FromEntries, GroupColumns, SortKeys, Nodes, LiteralOctets};
 ghost use Rattle.qw_parse.specs.declared.fault.ParseFault.TheVariants as script;
-ghost use Rattle.qw_typer.specs.declared.fault.FaultKind.TheVariants.{Ambiguous, BadDate, BadOrdinal, Clash, DuplicateAlias, LiteralTooLong, ScaleTooLarge, UnknownColumn, UnknownTable};
+ghost use Rattle.qw_typer.specs.declared.fault.FaultKind.TheVariants.{Ambiguous, BadDate, BadOrdinal, Clash, DuplicateAlias, LiteralTooLong, NestedAggregate, NotGrouped, ScaleTooLarge, TooManyFunctions, UnknownColumn, UnknownTable};
 ghost use Rattle.qw_typer.specs.declared.fault.TypeFault.TheVariants.{Fault};
 ghost use Rattle.qw_octet_grammar.specs.declared.fault.What.TheVariants.{DataSection};
 ghost use Rattle.qw_valid.specs.declared.valid.Part.TheVariants.{Exports};
 ghost use Rattle.qw_check.specs.declared.check.CheckFault.TheVariants as check;
-ghost use Rattle.qw_compile.specs.PlannedQueries.{page_bound};
+ghost use Rattle.qw_whole.specs.WholePromises.{whole_pages};
 ghost use Rattle.qw_bench.specs.Bench.{rows_in_tables};
 ghost use Rattle.qw_top.specs.Asking.{AsksWithin, IsOne};
 ghost use Rattle.qw_top.specs.Causes.{line_of_cause, module_refused, module_too_long, no_statement, number_out_of_range, queries_mistyped, queries_refused, queries_too_long, schema_refused, schema_too_long, table_refused, table_too_long, total_pages};
@@ -41,10 +42,10 @@ pub fn worked_statuses()
 /// `SELECT T.A FROM T, U WHERE T.A = U.A` as a script asks for it, over T of 4, 1, 7 and U of 4: the header of its one column; the one row 4, with
 /// nothing raised; and its bound on pages.
 pub fn worked_join()
-    ensures header { IsHeader joined.specification (codes "A" ∷ []) joined.header }
-    ensures rows { outcome joined.specification (rows_in_tables joined_tables) ≡ Rows ((Num (pos 4) ∷ []) ∷ []) }
+    ensures header { IsHeader joined.whole (codes "A" ∷ []) joined.header }
+    ensures rows { whole_outcome joined.whole (rows_in_tables joined_tables) ≡ Rows ((Num (pos 4) ∷ []) ∷ []) }
     ensures plain { RaisesNothing (rows_in_tables joined_tables) joined }
-    ensures pages { page_bound joined.specification (rows_in_tables joined_tables) ≡ 4 }
+    ensures pages { whole_pages joined.whole (rows_in_tables joined_tables) ≡ 4 }
 {}
 
 /// No compiled module of that query runs more than 2^24 * (1 + 1,067) instructions over these tables. So 4 pages and as many instructions are
@@ -96,6 +97,7 @@ pub fn worked_query_lines()
     ensures many_statements { line_of_cause (queries_refused (script.TooMany 1 Statements 64)) ≡ codes "queries: too many statements in statement 1, limit 64\n" }
     ensures many_items { line_of_cause (queries_refused (script.TooMany 1 SelectItems 64)) ≡ codes "queries: too many select items in statement 1, limit 64\n" }
     ensures many_entries { line_of_cause (queries_refused (script.TooMany 4 FromEntries 8)) ≡ codes "queries: too many from entries in statement 4, limit 8\n" }
+    ensures many_groups { line_of_cause (queries_refused (script.TooMany 2 GroupColumns 64)) ≡ codes "queries: too many group columns in statement 2, limit 64\n" }
     ensures many_keys { line_of_cause (queries_refused (script.TooMany 2 SortKeys 64)) ≡ codes "queries: too many sort keys in statement 2, limit 64\n" }
     ensures many_nodes { line_of_cause (queries_refused (script.TooMany 3 Nodes 1000)) ≡ codes "queries: too many nodes in statement 3, limit 1000\n" }
     ensures many_octets { line_of_cause (queries_refused (script.TooMany 2 LiteralOctets 16384)) ≡ codes "queries: too many literal octets in statement 2, limit 16384\n" }
@@ -109,6 +111,9 @@ pub fn worked_query_lines()
         ≡ codes "queries: literal too long 1000000000000000000 in statement 1\n" }
     ensures date { line_of_cause (queries_mistyped (Fault 1 BadDate (codes "'1998-02-29'"))) ≡ codes "queries: bad date '1998-02-29' in statement 1\n" }
     ensures ordinal { line_of_cause (queries_mistyped (Fault 1 BadOrdinal (codes "2"))) ≡ codes "queries: bad ordinal 2 in statement 1\n" }
+    ensures not_grouped { line_of_cause (queries_mistyped (Fault 1 NotGrouped (codes "B"))) ≡ codes "queries: not grouped B in statement 1\n" }
+    ensures nested { line_of_cause (queries_mistyped (Fault 3 NestedAggregate (codes "SUM"))) ≡ codes "queries: nested aggregate SUM in statement 3\n" }
+    ensures many_functions { line_of_cause (queries_mistyped (Fault 1 TooManyFunctions (codes "COUNT"))) ≡ codes "queries: too many functions COUNT in statement 1\n" }
     ensures pages { line_of_cause (total_pages 65536) ≡ codes "total pages 65536\n" }
 {}
 

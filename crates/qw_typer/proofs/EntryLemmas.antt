@@ -25,32 +25,32 @@ use Rattle.qw_typer.specs.declared.refusal.Refusal.{Refusal}
 use Rattle.qw_typer.specs.declared.refusal.Refusal.TheVariants as refusal
 use Rattle.qw_typer.specs.declared.scope.Entry.{Entry as CodeEntry}
 use Rattle.qw_typer.specs.Faults.{Fault, fault_where}
-use Rattle.qw_typer.specs.Meant.{Entry, Scope}
-use Rattle.qw_typer.specs.Typed.{columns_of, entries_faults, entry_name, in_scope, place_of, scope_from}
+use Rattle.qw_typer.specs.Meant.{Entry}
+use Rattle.qw_typer.specs.Typed.{columns_of, entries_faults, entry_name, in_scope, place_of, entries_from}
 use Rattle.qw_typer.specs.Inner.Queries.{HaveTables, IsOneOf}
-use Rattle.qw_typer.specs.Inner.Typing.{as_entry, in_reach, spelled}
+use Rattle.qw_typer.specs.Inner.Typing.{as_entries, as_entry, spelled}
 use Rattle.qw_typer.proofs.ScopeLemmas.{any_mapped}
 use Rattle.qw_typer.proofs.StepLemmas.{first_rest, push_length, push_map}
 
-abbrev pub names_in : Scope → List (List ℕ)
-names_in scope = map (λ (e : Entry). e.name) scope
+abbrev pub names_in : List Entry → List (List ℕ)
+names_in entries = map (λ (e : Entry). e.name) entries
 
-push_reach : (made : List CodeEntry) (x : CodeEntry) → in_reach (made ++ x ∷ []) ≡ in_reach made ++ as_entry x ∷ []
+push_reach : (made : List CodeEntry) (x : CodeEntry) → as_entries (made ++ x ∷ []) ≡ as_entries made ++ as_entry x ∷ []
 push_reach [] x = refl
 push_reach (y ∷ made) x = ap (λ es. as_entry y ∷ es) (push_reach made x)
 
-push_names : (scope : Scope) (e : Entry) → names_in (scope ++ e ∷ []) ≡ names_in scope ++ e.name ∷ []
+push_names : (entries : List Entry) (e : Entry) → names_in (entries ++ e ∷ []) ≡ names_in entries ++ e.name ∷ []
 push_names [] e = refl
-push_names (f ∷ scope) e = ap (λ ns. f.name ∷ ns) (push_names scope e)
+push_names (f ∷ entries) e = ap (λ ns. f.name ∷ ns) (push_names entries e)
 
 -- ---- what is kept while entries come
 
 -- the faults of the rest are all faults; the entries that are made stand before the rest; and they are few
 pub record EntriesWith (schema : List Table) (made : List CodeEntry) (rest all : List written.Entry) : Type 0 where
-  pub faults : entries_faults schema (names_in (in_reach made)) rest ≡ entries_faults schema [] all
-  pub scope : in_reach made ++ scope_from schema (length made) rest ≡ scope_from schema 0 all
+  pub faults : entries_faults schema (names_in (as_entries made)) rest ≡ entries_faults schema [] all
+  pub scope : as_entries made ++ entries_from schema (length made) rest ≡ entries_from schema 0 all
   pub few : length made + length rest ≤ 8
-  pub tables : HaveTables (in_reach made)
+  pub tables : HaveTables (as_entries made)
 
 pub entries_first : (schema : List Table) (all : List written.Entry) → length all ≤ 8 → EntriesWith schema [] all all
 entries_first schema all few = record { faults = refl; scope = refl; few = omega (arith, few); tables = tt }
@@ -61,38 +61,38 @@ no_faults schema before e es known fresh =
     ap (λ (b : Bool). (fault_where b UnknownTable (name_of e.table) ++ fault_where (list_any (bytes_eq (entry_name e)) before) DuplicateAlias (entry_name e)) ++ entries_faults schema (before ++ entry_name e ∷ []) es) known
     ∙ ap (λ (b : Bool). fault_where b DuplicateAlias (entry_name e) ++ entries_faults schema (before ++ entry_name e ∷ []) es) fresh
 
-tables_push : (made : List CodeEntry) (x : CodeEntry) → HaveTables (in_reach made) → AreColumns x.columns.now → HaveTables (in_reach (made ++ x ∷ []))
+tables_push : (made : List CodeEntry) (x : CodeEntry) → HaveTables (as_entries made) → AreColumns x.columns.now → HaveTables (as_entries (made ++ x ∷ []))
 tables_push [] x h one = (one, tt)
 tables_push (y ∷ made) x h one = (h.0, tables_push made x h.1 one)
 
 pub entries_kept : (schema : List Table) (made made' : List CodeEntry) (x : CodeEntry) (rest rest' all : List coded_entry.Entry) (e : coded_entry.Entry) → rest ≡ e ∷ rest' → made' ≡ made ++ x ∷ []
-    → is_none (place_of schema (name_of e.table.now)) ≡ false → as_entry x ≡ in_scope schema (length made) (syntax.entry_of e) → list_any (λ (f : Entry). bytes_eq x.name f.name) (in_reach made) ≡ false → AreColumns x.columns.now
+    → is_none (place_of schema (name_of e.table.now)) ≡ false → as_entry x ≡ in_scope schema (length made) (syntax.entry_of e) → list_any (λ (f : Entry). bytes_eq x.name f.name) (as_entries made) ≡ false → AreColumns x.columns.now
     → EntriesWith schema made (map syntax.entry_of rest) (map syntax.entry_of all) → EntriesWith schema made' (map syntax.entry_of rest') (map syntax.entry_of all)
 entries_kept schema made made' x rest rest' all e first more known is fresh columns before =
     let w = syntax.entry_of e in
     let others = map syntax.entry_of rest' in
     let name : x.name ≡ entry_name w = ap (λ (f : Entry). f.name) is in
-    let fresh' : list_any (bytes_eq (entry_name w)) (names_in (in_reach made)) ≡ false =
-    ap (λ (n : List ℕ). list_any (bytes_eq n) (names_in (in_reach made))) (sym name) ∙ any_mapped (bytes_eq x.name) (λ (f : Entry). f.name) (in_reach made) ∙ fresh in
-    let pushed : in_reach made' ≡ in_reach made ++ as_entry x ∷ [] = ap in_reach more ∙ push_reach made x in
-    let names : names_in (in_reach made') ≡ names_in (in_reach made) ++ entry_name w ∷ [] = ap names_in pushed ∙ push_names (in_reach made) (as_entry x) ∙ ap (λ (n : List ℕ). names_in (in_reach made) ++ n ∷ []) name in
+    let fresh' : list_any (bytes_eq (entry_name w)) (names_in (as_entries made)) ≡ false =
+    ap (λ (n : List ℕ). list_any (bytes_eq n) (names_in (as_entries made))) (sym name) ∙ any_mapped (bytes_eq x.name) (λ (f : Entry). f.name) (as_entries made) ∙ fresh in
+    let pushed : as_entries made' ≡ as_entries made ++ as_entry x ∷ [] = ap as_entries more ∙ push_reach made x in
+    let names : names_in (as_entries made') ≡ names_in (as_entries made) ++ entry_name w ∷ [] = ap names_in pushed ∙ push_names (as_entries made) (as_entry x) ∙ ap (λ (n : List ℕ). names_in (as_entries made) ++ n ∷ []) name in
     let count : length made' ≡ length made + 1 = omega (arith, ap (λ (es : List CodeEntry). length es) more, push_length made x) in
-    let before_faults : entries_faults schema (names_in (in_reach made)) (w ∷ others) ≡ entries_faults schema [] (map syntax.entry_of all) = rw first at before.faults in
-    let before_scope : in_reach made ++ (in_scope schema (length made) w ∷ scope_from schema (length made + 1) others) ≡ scope_from schema 0 (map syntax.entry_of all) = rw first at before.scope in
+    let before_faults : entries_faults schema (names_in (as_entries made)) (w ∷ others) ≡ entries_faults schema [] (map syntax.entry_of all) = rw first at before.faults in
+    let before_scope : as_entries made ++ (in_scope schema (length made) w ∷ entries_from schema (length made + 1) others) ≡ entries_from schema 0 (map syntax.entry_of all) = rw first at before.scope in
     let before_few : length made + length (w ∷ others) ≤ 8 = rw first at before.few in
     record {
-      faults = ap (λ (ns : List (List ℕ)). entries_faults schema ns others) names ∙ sym (no_faults schema (names_in (in_reach made)) w others known fresh') ∙ before_faults;
-      scope = ap (λ (es : Scope). es ++ scope_from schema (length made') others) pushed ∙ append_assoc (in_reach made) (as_entry x ∷ []) (scope_from schema (length made') others)
-          ∙ ap (λ (f : Entry). in_reach made ++ f ∷ scope_from schema (length made') others) is
-          ∙ ap (λ (n : ℕ). in_reach made ++ in_scope schema (length made) w ∷ scope_from schema n others) count
+      faults = ap (λ (ns : List (List ℕ)). entries_faults schema ns others) names ∙ sym (no_faults schema (names_in (as_entries made)) w others known fresh') ∙ before_faults;
+      scope = ap (λ (es : List Entry). es ++ entries_from schema (length made') others) pushed ∙ append_assoc (as_entries made) (as_entry x ∷ []) (entries_from schema (length made') others)
+          ∙ ap (λ (f : Entry). as_entries made ++ f ∷ entries_from schema (length made') others) is
+          ∙ ap (λ (n : ℕ). as_entries made ++ in_scope schema (length made) w ∷ entries_from schema n others) count
           ∙ before_scope;
       few = omega (arith, count, before_few);
       tables = rw more (tables_push made x before.tables columns);
     }
 
 pub entries_end : (schema : List Table) (made : List CodeEntry) (rest : List coded_entry.Entry) (all : List written.Entry) → length rest < 1 → EntriesWith schema made (map syntax.entry_of rest) all
-    → (entries_faults schema [] all ≡ []) × (in_reach made ≡ scope_from schema 0 all)
-entries_end schema made [] all none h = (sym h.faults, sym (append-nil (in_reach made)) ∙ h.scope)
+    → (entries_faults schema [] all ≡ []) × (as_entries made ≡ entries_from schema 0 all)
+entries_end schema made [] all none h = (sym h.faults, sym (append-nil (as_entries made)) ∙ h.scope)
 entries_end schema made (e ∷ rest) all none h = absurd (omega (arith, none))
 
 pub head_rest : {X : Type 0} (xs : List X) (d : X) → 1 ≤ length xs → xs ≡ get_or xs 0 d ∷ take (length xs - 1) (drop 1 xs)
@@ -130,8 +130,8 @@ entry_refused schema made rest rest' all e refusal.NoMemory first one h = tt
 entry_refused schema made rest rest' all e (refusal.Fault kind token) first one h =
     let w = syntax.entry_of e in
     let fs = fault_where (is_none (place_of schema (name_of w.table))) UnknownTable (name_of w.table) in
-    let gs = fault_where (list_any (bytes_eq (entry_name w)) (names_in (in_reach made))) DuplicateAlias (entry_name w) in
-    let more = entries_faults schema (names_in (in_reach made) ++ entry_name w ∷ []) (map syntax.entry_of rest') in
+    let gs = fault_where (list_any (bytes_eq (entry_name w)) (names_in (as_entries made))) DuplicateAlias (entry_name w) in
+    let more = entries_faults schema (names_in (as_entries made) ++ entry_name w ∷ []) (map syntax.entry_of rest') in
     let fault : Fault = record { kind = kind; name = spelled token } in
     let faults : (fs ++ gs) ++ more ≡ entries_faults schema [] (map syntax.entry_of all) = rw first at h.faults in
     subst (λ (all : List Fault). Contains all fault) faults (Contains-append_left (fs ++ gs) more fault (Contains-append_left fs gs fault one))
@@ -141,19 +141,19 @@ told true name e = (0, omega arith, refl)
 told false name e = absurd cc
 
 pub duplicate_refused : (schema : List Table) (made : List CodeEntry) (x : CodeEntry) (rest rest' all : List coded_entry.Entry) (e : coded_entry.Entry) (token : List ℕ) → rest ≡ e ∷ rest'
-    → as_entry x ≡ in_scope schema (length made) (syntax.entry_of e) → list_any (λ (f : Entry). bytes_eq x.name f.name) (in_reach made) ≡ true → name_of token ≡ entry_name (syntax.entry_of e)
+    → as_entry x ≡ in_scope schema (length made) (syntax.entry_of e) → list_any (λ (f : Entry). bytes_eq x.name f.name) (as_entries made) ≡ true → name_of token ≡ entry_name (syntax.entry_of e)
     → EntriesWith schema made (map syntax.entry_of rest) (map syntax.entry_of all) → Contains (entries_faults schema [] (map syntax.entry_of all)) (record { kind = DuplicateAlias; name = name_of token })
 duplicate_refused schema made x rest rest' all e token first is taken spelled h =
     let w = syntax.entry_of e in
     let name : x.name ≡ entry_name w = ap (λ (f : Entry). f.name) is in
-    let taken' : list_any (bytes_eq (entry_name w)) (names_in (in_reach made)) ≡ true =
-    ap (λ (n : List ℕ). list_any (bytes_eq n) (names_in (in_reach made))) (sym name) ∙ any_mapped (bytes_eq x.name) (λ (f : Entry). f.name) (in_reach made) ∙ taken in
+    let taken' : list_any (bytes_eq (entry_name w)) (names_in (as_entries made)) ≡ true =
+    ap (λ (n : List ℕ). list_any (bytes_eq n) (names_in (as_entries made))) (sym name) ∙ any_mapped (bytes_eq x.name) (λ (f : Entry). f.name) (as_entries made) ∙ taken in
     let fs = fault_where (is_none (place_of schema (name_of w.table))) UnknownTable (name_of w.table) in
-    let gs = fault_where (list_any (bytes_eq (entry_name w)) (names_in (in_reach made))) DuplicateAlias (entry_name w) in
-    let more = entries_faults schema (names_in (in_reach made) ++ entry_name w ∷ []) (map syntax.entry_of rest') in
+    let gs = fault_where (list_any (bytes_eq (entry_name w)) (names_in (as_entries made))) DuplicateAlias (entry_name w) in
+    let more = entries_faults schema (names_in (as_entries made) ++ entry_name w ∷ []) (map syntax.entry_of rest') in
     let fault : Fault = record { kind = DuplicateAlias; name = entry_name w } in
     let faults : (fs ++ gs) ++ more ≡ entries_faults schema [] (map syntax.entry_of all) = rw first at h.faults in
-    let there = told (list_any (bytes_eq (entry_name w)) (names_in (in_reach made))) (entry_name w) taken' in
+    let there = told (list_any (bytes_eq (entry_name w)) (names_in (as_entries made))) (entry_name w) taken' in
     let one = subst (λ (all : List Fault). Contains all fault) faults (Contains-append_left (fs ++ gs) more fault (Contains-append_right fs gs fault there)) in
     subst (λ (n : List ℕ). Contains (entries_faults schema [] (map syntax.entry_of all)) (record { kind = DuplicateAlias; name = n })) (sym spelled) one
 

@@ -1,23 +1,24 @@
 -- Checking construct by construct gives what is meant where there is no fault, and the first fault else.
-use Rattle.std.proofs.Common.{◌≡◌, ℕ, ◌+◌, List, [], ◌∷◌, ◌++◌, map, length, take, drop, Option, Some, None, Result, Ok, Err, refl, ap, ◌∙◌, arith}
-use Rattle.std.specs.Prelude.{Contains}
+use Rattle.std.proofs.Common.{◌≡◌, ℕ, ◌+◌, List, [], ◌∷◌, ◌++◌, map, length, take, drop, Option, Some, None, Result, Ok, Err, refl, ap, ◌∙◌, arith, true, option_map, unwrap_or}
+use Rattle.std.specs.Prelude.{Contains, codes}
 use Rattle.std.specs.Option.{option_map_or}
 use Rattle.qw_types.specs.declared.schema.Table.{Table}
 use Rattle.qw_meaning.specs.Select as specified
 use Rattle.qw_meaning.specs.Select.{Specification}
+use Rattle.qw_ast.specs.Grammar.{name_of}
 use Rattle.qw_ast.specs.Limits.{entries_in, entries_of}
 use Rattle.qw_ast.specs.Syntax as written
 use Rattle.qw_scalar.specs.declared.comparison.Comparison.TheVariants.{Equal}
 use Rattle.qw_scalar.specs.Expression as meaning
-use Rattle.qw_ast.specs.Syntax.{Expression, null, number, text, date, column, signed, arithmetic, extract, searched_case, simple_case, coalesce, null_if, Condition, comparison, between, among, is_null, both, either, negation_of, is, bracketed, condition, expression, Expressions, last, further, Branching, otherwise, when, SelectItem, Selected, all_columns, items, Joined, Source, Select}
-use Rattle.qw_typer.specs.Faults.{Fault, all_faults, among_faults, arithmetic_faults, branch_faults, case_faults, choices_faults, comparison_faults, condition_faults, faults, field_faults, first_of_all, first_of_branches, first_token, item_faults, matches_faults, or_own, sign_faults}
-use Rattle.qw_typer.specs.Meant.{Entry, Scope, all_meant, choices, condition_meant, matches, meant, with_not, with_sign}
-use Rattle.qw_typer.specs.Typed.{conjuncts, conjuncts_of, entry_meant, filter_faults, in_scope, items_meant, joins_faults, joins_meant, list_faults, over_faults, scope_from, scope_of, selected_faults, sources_faults, sources_meant}
+use Rattle.qw_ast.specs.Syntax.{Expression, null, number, text, date, column, signed, arithmetic, extract, searched_case, simple_case, coalesce, null_if, count_rows, set_function, Condition, comparison, between, among, is_null, both, either, negation_of, is, bracketed, condition, expression, Expressions, last, further, Branching, otherwise, when, SelectItem, Selected, all_columns, items, Joined, Source, Select}
+use Rattle.qw_typer.specs.Faults.{Fault, all_faults, among_faults, argument_faults, arithmetic_faults, branch_faults, case_faults, choices_faults, comparison_faults, condition_faults, faults, field_faults, first_of_all, first_of_branches, first_token, function_word, group_faults, item_faults, matches_faults, nested_faults, or_own, reference_faults, sign_faults}
+use Rattle.qw_typer.specs.Meant.{Entry, Scope, all_meant, choices, condition_meant, first_of, function_meant, in_group, matches, meant, referred, ungrouped, with_not, with_sign}
+use Rattle.qw_typer.specs.Typed.{conjuncts, conjuncts_of, entries_from, entry_meant, filter_faults, in_scope, items_meant, joins_faults, joins_meant, list_faults, scope_of, selected_faults, sources_faults, sources_meant, specification_meant}
 use Rattle.qw_typer.specs.Inner.Typing.{◌>>=◌, outcome, typed, typed_all, typed_choices, typed_condition, typed_conjuncts, typed_filter, typed_item, typed_items, typed_joined, typed_joins, typed_list, typed_matches, typed_over, typed_source, typed_sources}
 
 -- ---- one construct, over any operands
 
-one : {A B : Type 0} (fs : List Fault) (a : A) (own : A → List Fault) (f : A → B) → (outcome fs a >>= (λ x. outcome (own x) (f x))) ≡ outcome (or_own fs (own a)) (f a)
+pub one : {A B : Type 0} (fs : List Fault) (a : A) (own : A → List Fault) (f : A → B) → (outcome fs a >>= (λ x. outcome (own x) (f x))) ≡ outcome (or_own fs (own a)) (f a)
 one [] a own f = refl
 one (g ∷ gs) a own f = refl
 
@@ -38,7 +39,7 @@ plain : {A B : Type 0} (fs : List Fault) (a : A) (f : A → B) → (outcome fs a
 plain [] a f = refl
 plain (g ∷ gs) a f = refl
 
-plain_two : {A B C : Type 0} (fs gs : List Fault) (a : A) (b : B) (f : A → B → C) → (outcome fs a >>= (λ x. outcome gs b >>= (λ y. Ok (f x y)))) ≡ outcome (fs ++ gs) (f a b)
+pub plain_two : {A B C : Type 0} (fs gs : List Fault) (a : A) (b : B) (f : A → B → C) → (outcome fs a >>= (λ x. outcome gs b >>= (λ y. Ok (f x y)))) ≡ outcome (fs ++ gs) (f a b)
 plain_two [] [] a b f = refl
 plain_two [] (g ∷ gs) a b f = refl
 plain_two (g ∷ gs) hs a b f = refl
@@ -76,7 +77,8 @@ mutual
   typed_is scope (number octets) = refl
   typed_is scope (text octets) = refl
   typed_is scope (date string intervals) = refl
-  typed_is scope (column qualifier name) = refl
+  typed_is scope (column qualifier name) =
+      one (reference_faults scope.entries qualifier name) (first_of (referred scope.entries (option_map name_of qualifier) (name_of name))) (group_faults scope.grouping (name_of name)) (λ x. unwrap_or (in_group scope.grouping x) meaning.null)
   typed_is scope (signed sign a) = rw (typed_is scope a) (one (faults scope a) (meant scope a) (sign_faults (first_token a)) (with_sign sign))
   typed_is scope (arithmetic operator a b) =
       rw (typed_is scope a, typed_is scope b) (two (faults scope a) (faults scope b) (meant scope a) (meant scope b) (arithmetic_faults (first_token a) operator) (meaning.arithmetic operator))
@@ -91,6 +93,11 @@ mutual
       rw (all_is scope es) (one (all_faults scope es) (all_meant scope es) (λ ms. case_faults (first_of_all es) (meaning.coalesced ms)) (λ ms. meaning.case (meaning.coalesced ms)))
   typed_is scope (null_if a b) =
       rw (typed_is scope a, typed_is scope b) (two (faults scope a) (faults scope b) (meant scope a) (meant scope b) (comparison_faults (first_token a)) meaning.null_if)
+  typed_is scope (count_rows place) = plain (nested_faults scope.grouping (codes "COUNT")) true (λ b. function_meant scope.grouping place)
+  typed_is scope (set_function place f a) =
+      let inner = ungrouped scope.entries in
+      rw (typed_is inner a)
+      (chained (nested_faults scope.grouping (function_word f)) true (λ b. outcome (faults inner a) (meant inner a)) (λ b. faults inner a) (λ b. meant inner a) (argument_faults (first_token a) f) (λ x. function_meant scope.grouping place) (λ b. refl))
 
   pub condition_is : (scope : Scope) (c : Condition) → typed_condition scope c ≡ outcome (condition_faults scope c) (condition_meant scope c)
   condition_is scope (comparison op a b) =
@@ -178,7 +185,7 @@ first_fault (g ∷ gs) a f h = let e : g ≡ f = cc in (0, omega arith, e)
 
 -- ---- FROM
 
-filter_is : (scope : Scope) (o : Option Condition) → typed_filter scope o ≡ outcome (option_map_or (condition_faults scope) o []) (map (condition_meant scope) (option_map_or conjuncts_of o []))
+pub filter_is : (scope : Scope) (o : Option Condition) → typed_filter scope o ≡ outcome (option_map_or (condition_faults scope) o []) (map (condition_meant scope) (option_map_or conjuncts_of o []))
 filter_is scope None = refl
 filter_is scope (Some c) = conjuncts_is scope c
 
@@ -188,20 +195,20 @@ joined_with e cs = record { entry = entry_meant e; on = cs }
 abbrev source_with : Entry → List specified.Joined → specified.Source
 source_with e joins = record { first = entry_meant e; joins = joins }
 
-joined_is : (reach : Scope) (e : Entry) (j : Joined) → typed_joined reach e j ≡ outcome (condition_faults reach j.on) (joined_with e (map (condition_meant reach) (conjuncts_of j.on)))
-joined_is reach e j = rw (conjuncts_is reach j.on) (plain (condition_faults reach j.on) (map (condition_meant reach) (conjuncts_of j.on)) (joined_with e))
+joined_is : (reach : List Entry) (e : Entry) (j : Joined) → typed_joined reach e j ≡ outcome (condition_faults (ungrouped reach) j.on) (joined_with e (map (condition_meant (ungrouped reach)) (conjuncts_of j.on)))
+joined_is reach e j = rw (conjuncts_is (ungrouped reach) j.on) (plain (condition_faults (ungrouped reach) j.on) (map (condition_meant (ungrouped reach)) (conjuncts_of j.on)) (joined_with e))
 
-joins_is : (schema : List Table) (reached : Scope) (index : ℕ) (joins : List Joined)
-    → typed_joins reached (scope_from schema index (map (λ (j : Joined). j.entry) joins)) joins ≡ outcome (joins_faults schema reached index joins) (joins_meant schema reached index joins)
+joins_is : (schema : List Table) (reached : List Entry) (index : ℕ) (joins : List Joined)
+    → typed_joins reached (entries_from schema index (map (λ (j : Joined). j.entry) joins)) joins ≡ outcome (joins_faults schema reached index joins) (joins_meant schema reached index joins)
 joins_is schema reached index [] = refl
 joins_is schema reached index (j ∷ joins) =
     let e = in_scope schema index j.entry in
     let reach = reached ++ e ∷ [] in
-    let x = joined_with e (map (condition_meant reach) (conjuncts_of j.on)) in
-    let others = typed_joins reach (scope_from schema (index + 1) (map (λ (k : Joined). k.entry) joins)) joins in
+    let x = joined_with e (map (condition_meant (ungrouped reach)) (conjuncts_of j.on)) in
+    let others = typed_joins reach (entries_from schema (index + 1) (map (λ (k : Joined). k.entry) joins)) joins in
     ap (λ (r : Result specified.Joined Fault). r >>= (λ y. others >>= (λ ys. Ok (y ∷ ys)))) (joined_is reach e j)
-    ∙ ap (λ (r : Result (List specified.Joined) Fault). outcome (condition_faults reach j.on) x >>= (λ y. r >>= (λ ys. Ok (y ∷ ys)))) (joins_is schema reach (index + 1) joins)
-    ∙ plain_two (condition_faults reach j.on) (joins_faults schema reach (index + 1) joins) x (joins_meant schema reach (index + 1) joins) (λ y ys. y ∷ ys)
+    ∙ ap (λ (r : Result (List specified.Joined) Fault). outcome (condition_faults (ungrouped reach) j.on) x >>= (λ y. r >>= (λ ys. Ok (y ∷ ys)))) (joins_is schema reach (index + 1) joins)
+    ∙ plain_two (condition_faults (ungrouped reach) j.on) (joins_faults schema reach (index + 1) joins) x (joins_meant schema reach (index + 1) joins) (λ y ys. y ∷ ys)
 
 abbrev source_faults : List Table → ℕ → Source → List Fault
 source_faults schema index source = joins_faults schema (in_scope schema index source.first ∷ []) (index + 1) source.joins
@@ -209,47 +216,47 @@ source_faults schema index source = joins_faults schema (in_scope schema index s
 abbrev source_meant : List Table → ℕ → Source → specified.Source
 source_meant schema index source = source_with (in_scope schema index source.first) (joins_meant schema (in_scope schema index source.first ∷ []) (index + 1) source.joins)
 
-source_is : (schema : List Table) (index : ℕ) (source : Source) → typed_source (scope_from schema index (entries_in source)) source ≡ outcome (source_faults schema index source) (source_meant schema index source)
+source_is : (schema : List Table) (index : ℕ) (source : Source) → typed_source (entries_from schema index (entries_in source)) source ≡ outcome (source_faults schema index source) (source_meant schema index source)
 source_is schema index source =
     let e = in_scope schema index source.first in
     ap (λ (r : Result (List specified.Joined) Fault). r >>= (λ js. Ok (source_with e js))) (joins_is schema (e ∷ []) (index + 1) source.joins)
     ∙ plain (source_faults schema index source) (joins_meant schema (e ∷ []) (index + 1) source.joins) (source_with e)
 
-pub take_scope : (schema : List Table) (index : ℕ) (xs ys : List written.Entry) → take (length xs) (scope_from schema index (xs ++ ys)) ≡ scope_from schema index xs
+pub take_scope : (schema : List Table) (index : ℕ) (xs ys : List written.Entry) → take (length xs) (entries_from schema index (xs ++ ys)) ≡ entries_from schema index xs
 take_scope schema index [] ys = refl
-take_scope schema index (x ∷ xs) ys = ap (λ (es : Scope). in_scope schema index x ∷ es) (take_scope schema (index + 1) xs ys)
+take_scope schema index (x ∷ xs) ys = ap (λ (es : List Entry). in_scope schema index x ∷ es) (take_scope schema (index + 1) xs ys)
 
-pub drop_scope : (schema : List Table) (index : ℕ) (xs ys : List written.Entry) → drop (length xs) (scope_from schema index (xs ++ ys)) ≡ scope_from schema (index + length xs) ys
-drop_scope schema index [] ys = let same : index ≡ index + 0 = omega arith in ap (λ (n : ℕ). scope_from schema n ys) same
+pub drop_scope : (schema : List Table) (index : ℕ) (xs ys : List written.Entry) → drop (length xs) (entries_from schema index (xs ++ ys)) ≡ entries_from schema (index + length xs) ys
+drop_scope schema index [] ys = let same : index ≡ index + 0 = omega arith in ap (λ (n : ℕ). entries_from schema n ys) same
 drop_scope schema index (x ∷ xs) ys =
     let same : index + 1 + length xs ≡ index + length (x ∷ xs) = omega arith in
-    drop_scope schema (index + 1) xs ys ∙ ap (λ (n : ℕ). scope_from schema n ys) same
+    drop_scope schema (index + 1) xs ys ∙ ap (λ (n : ℕ). entries_from schema n ys) same
 
-sources_is : (schema : List Table) (index : ℕ) (sources : List Source) → typed_sources (scope_from schema index (entries_of sources)) sources ≡ outcome (sources_faults schema index sources) (sources_meant schema index sources)
+pub sources_is : (schema : List Table) (index : ℕ) (sources : List Source) → typed_sources (entries_from schema index (entries_of sources)) sources ≡ outcome (sources_faults schema index sources) (sources_meant schema index sources)
 sources_is schema index [] = refl
 sources_is schema index (source ∷ sources) =
     let own = entries_in source in
     let next = index + length own in
-    let behind = drop (length own) (scope_from schema index (own ++ entries_of sources)) in
+    let behind = drop (length own) (entries_from schema index (own ++ entries_of sources)) in
     let x = source_meant schema index source in
     ap (λ (r : Result specified.Source Fault). r >>= (λ y. typed_sources behind sources >>= (λ ys. Ok (y ∷ ys))))
-    (ap (λ (es : Scope). typed_source es source) (take_scope schema index own (entries_of sources)) ∙ source_is schema index source)
+    (ap (λ (es : List Entry). typed_source es source) (take_scope schema index own (entries_of sources)) ∙ source_is schema index source)
     ∙ ap (λ (r : Result (List specified.Source) Fault). outcome (source_faults schema index source) x >>= (λ y. r >>= (λ ys. Ok (y ∷ ys))))
-    (ap (λ (es : Scope). typed_sources es sources) (drop_scope schema index own (entries_of sources)) ∙ sources_is schema next sources)
+    (ap (λ (es : List Entry). typed_sources es sources) (drop_scope schema index own (entries_of sources)) ∙ sources_is schema next sources)
     ∙ plain_two (source_faults schema index source) (sources_faults schema next sources) x (sources_meant schema next sources) (λ y ys. y ∷ ys)
 
 -- what a query without a fault means
 abbrev pub meaning_of : List Table → Select → Specification
-meaning_of schema s = record {
-  sources = sources_meant schema 0 s.sources;
-  conjuncts = map (condition_meant (scope_of schema s)) (conjuncts s);
-  items = items_meant (scope_of schema s) s.selected;
-}
+meaning_of schema s = specification_meant schema s
 
 abbrev specified_with : List meaning.Expression → List specified.Source → List meaning.Condition → Specification
 specified_with is' sources cs = record { sources = sources; conjuncts = cs; items = is' }
 
-pub over_is : (schema : List Table) (s : Select) → typed_over (scope_of schema s) s ≡ outcome (over_faults schema s) (meaning_of schema s)
+-- the faults of one that isn't grouped, over the entries of FROM
+abbrev pub plain_faults : List Table → Select → List Fault
+plain_faults schema s = selected_faults (scope_of schema s) s.selected ++ (sources_faults schema 0 s.sources ++ filter_faults (scope_of schema s) s)
+
+pub over_is : (schema : List Table) (s : Select) → typed_over (scope_of schema s) s ≡ outcome (plain_faults schema s) (meaning_of schema s)
 over_is schema s =
     let scope = scope_of schema s in
     rw (list_is scope s.selected, sources_is schema 0 s.sources, filter_is scope s.filter)

@@ -7,6 +7,8 @@ use Rattle.qw_token.specs.Token.{Lexeme}
 use Rattle.qw_types.specs.declared.schema.Column.{Column}
 use Rattle.qw_types.specs.declared.value.Ty.{Ty}
 use Rattle.qw_meaning.specs.Query.{QueryParts}
+use Rattle.qw_grouped.specs.declared.whole.Body.{Body}
+use Rattle.qw_grouped.specs.declared.whole.Body.TheVariants.{Plain, Grouped}
 use Rattle.qw_ast.proofs.StatementLemmas.{drop_next}
 use Rattle.qw_scalar.specs.declared.expression.Expr.{Expr}
 use Rattle.qw_scalar.specs.declared.expression.Expr.TheVariants as expr
@@ -17,9 +19,9 @@ use Rattle.qw_scalar.specs.declared.expression.Matches.{Matches}
 use Rattle.qw_scalar.specs.Nodes as typed
 use Rattle.qw_ast.specs.SyntaxTree as syntax
 use Rattle.qw_ast.specs.declared.script.Item.{Item}
-use Rattle.qw_ast.specs.Syntax.{Select}
+use Rattle.qw_ast.specs.Syntax.{Select, Selected, all_columns, items}
 use Rattle.qw_ast.specs.Limits as script
-use Rattle.qw_ast.specs.Limits.{IsAccepted, IsQuery, items_of, octets, octets_condition, over_filter, over_items, over_sources}
+use Rattle.qw_ast.specs.Limits.{IsAccepted, IsQuery, items_of, over_filter, over_items, over_sources}
 use Rattle.qw_typer.specs.declared.scope.Entry.{Entry as CodeEntry}
 use Rattle.qw_typer.specs.declared.query.TypedQuery.{TypedQuery}
 use Rattle.qw_typer.specs.declared.refusal.Refusal.{Refusal}
@@ -27,11 +29,14 @@ use Rattle.qw_typer.specs.declared.tree.Results.{Results}
 use Rattle.qw_typer.specs.declared.tree.Typed.{Typed}
 use Rattle.qw_typer.specs.declared.tree.Values.{Values}
 use Rattle.qw_typer.specs.Literal.{string_value, undoubled}
-use Rattle.qw_typer.specs.Sizes.{AreSmall, IsSmall, tests_on, text_octets, text_octets_of}
+use Rattle.qw_typer.specs.Sizes.{AreSmall, IsSmallBody, tests_on, text_octets, text_octets_of}
 use Rattle.qw_typer.specs.Meant.{Entry}
-use Rattle.qw_typer.specs.Inner.Typing.{as_entry, in_reach}
-use Rattle.qw_typer.specs.Inner.Sizes.{ColumnsPushed, Fits, FitsAll, FitsBranches, FitsCondition, FitsItems, FitsMatches, FitsQuery, FitsTests, column_count, nodes, nodes_condition, selected_nodes}
+use Rattle.qw_typer.specs.Inner.Typing.{as_entries, as_entry}
+use Rattle.qw_typer.specs.Inner.Sizes.{ColumnsPushed, Fits, FitsAll, FitsBranches, FitsCondition, FitsItems, FitsMatches, FitsQuery, FitsTests, column_count, nodes, nodes_condition, octets, octets_condition, query_octets, selected_nodes}
+use Rattle.qw_typer.specs.Functions.{functions_in}
+use Rattle.qw_typer.specs.Inner.Grouping.{FitsBody, listed_nodes}
 use Rattle.qw_typer.proofs.ScriptSizes.{few_of_query}
+use Rattle.qw_typer.proofs.WeightLemmas.{argument_octets_are, few_arguments, inner_is, inner_octets_are, nodes_in_filter, nodes_in_items, nodes_in_sources, octets_in_filter, octets_in_sources, octets_of_items}
 
 -- ---- the value of a character string is the script's
 
@@ -108,17 +113,17 @@ pub columns_left_last : (before made : List Expr) (n m : ℕ) → ColumnsLeft be
 columns_left_last before made n m left = let nodes_few = left.nodes_few in record { nodes_few = omega (arith, nodes_few); octets_are = left.octets_are }
 
 -- all columns of entries
-pub entry_fits : (made made' : List Expr) (rest rest' : List CodeEntry) (e : CodeEntry) (all : ℕ) → rest ≡ e ∷ rest' → ColumnsPushed made made' (length e.columns.now) → FitsWith made (column_count (in_reach rest)) 0 all 0 → FitsWith made' (column_count (in_reach rest')) 0 all 0
+pub entry_fits : (made made' : List Expr) (rest rest' : List CodeEntry) (e : CodeEntry) (all : ℕ) → rest ≡ e ∷ rest' → ColumnsPushed made made' (length e.columns.now) → FitsWith made (column_count (as_entries rest)) 0 all 0 → FitsWith made' (column_count (as_entries rest')) 0 all 0
 entry_fits made made' rest rest' e all first pushed before =
-    let count : column_count (in_reach rest) ≡ length e.columns.now + column_count (in_reach rest') =
-    ap (λ (es : List CodeEntry). column_count (in_reach es)) first ∙ sum_by-cons (λ (f : Entry). length f.columns) (as_entry e) (in_reach rest') in
+    let count : column_count (as_entries rest) ≡ length e.columns.now + column_count (as_entries rest') =
+    ap (λ (es : List CodeEntry). column_count (as_entries es)) first ∙ sum_by-cons (λ (f : Entry). length f.columns) (as_entry e) (as_entries rest') in
     let nodes_left = before.nodes_left in
     let octets_left = before.octets_left in
     let nodes_few = pushed.nodes_few in
     let octets_are = pushed.octets_are in
     record { nodes_left = omega (arith, count, nodes_left, nodes_few); octets_left = omega (arith, octets_left, octets_are) }
 
-pub entries_fit : (made : List Expr) (rest : List CodeEntry) (all : ℕ) → FitsWith made (column_count (in_reach rest)) 0 all 0 → FitsItems made all 0
+pub entries_fit : (made : List Expr) (rest : List CodeEntry) (all : ℕ) → FitsWith made (column_count (as_entries rest)) 0 all 0 → FitsItems made all 0
 entries_fit made rest all h = let n = h.nodes_left in let k = h.octets_left in record { nodes_fit = omega (arith, n); octets_fit = omega (arith, k) }
 
 pub items_widen : (made : List Expr) (n m k : ℕ) → n ≤ m → FitsItems made n k → FitsItems made m k
@@ -166,21 +171,67 @@ query_fits parts s listed joined tested =
     let j = tested.octets_fit in
     record { nodes_fit = omega (arith, n, a, m); octets_fit = omega (arith, k, b, j) }
 
+-- as many as the written query has, and `*`
+listed : (selected : Selected) → selected_nodes selected ≤ 512 + over_items nodes (items_of selected)
+listed all_columns = omega arith
+listed (items list) = omega arith
+
+listed_group : (selected : Selected) → listed_nodes selected ≤ 64 + over_items nodes (items_of selected)
+listed_group all_columns = omega arith
+listed_group (items list) = omega arith
+
 -- one that a script takes is typed small
-pub is_small : (s : Select) (t : TypedQuery) (tokens : List Lexeme) → FitsQuery t.query s → IsAccepted tokens s → IsSmall t.query
-is_small s t tokens fits accepted =
+pub is_small : (s : Select) (body : Body) (tokens : List Lexeme) → FitsBody body s → IsAccepted tokens s → IsSmallBody body
+is_small s (Grouped parts) tokens fits accepted =
     let most = few_of_query tokens s accepted.query in
+    let in_items = most.in_items in
+    let in_sources = most.in_sources in
+    let in_filter = most.in_filter in
+    let in_having = most.in_having in
     let few_nodes = accepted.few_nodes in
     let few_octets = accepted.few_octets in
     let n = fits.nodes_fit in
     let k = fits.octets_fit in
-    record { few_nodes = omega (arith, most, few_nodes, n); few_octets = omega (arith, few_octets, k) }
+    let f = fits.few_functions in
+    let star = listed_group s.selected in
+    let within = inner_is s in
+    let arguments = few_arguments (functions_in s) in
+    let sources = nodes_in_sources s.sources in
+    let filter = nodes_in_filter s.filter in
+    let octets_within = inner_octets_are s in
+    let argument_octets = argument_octets_are (functions_in s) in
+    let source_octets = octets_in_sources s.sources in
+    let filter_octets = octets_in_filter s.filter in
+    record {
+      few_nodes = omega (arith, in_items, in_sources, in_filter, in_having, few_nodes, n, f, star, within, arguments, sources, filter);
+      few_octets = omega (arith, few_octets, k, octets_within, argument_octets, source_octets, filter_octets);
+    }
+is_small s (Plain parts) tokens fits accepted =
+    let most = few_of_query tokens s accepted.query in
+    let in_items = most.in_items in
+    let in_sources = most.in_sources in
+    let in_filter = most.in_filter in
+    let few_nodes = accepted.few_nodes in
+    let few_octets = accepted.few_octets in
+    let n = fits.nodes_fit in
+    let k = fits.octets_fit in
+    let star = listed s.selected in
+    let items = nodes_in_items (items_of s.selected) in
+    let sources = nodes_in_sources s.sources in
+    let filter = nodes_in_filter s.filter in
+    let item_octets = octets_of_items (items_of s.selected) in
+    let source_octets = octets_in_sources s.sources in
+    let filter_octets = octets_in_filter s.filter in
+    record {
+      few_nodes = omega (arith, in_items, in_sources, in_filter, few_nodes, n, star, items, sources, filter);
+      few_octets = omega (arith, few_octets, k, item_octets, source_octets, filter_octets);
+    }
 
 -- ---- a script, query by query
 
-small_push : (made : List TypedQuery) (t : TypedQuery) → AreSmall made → IsSmall t.query → AreSmall (made ++ t ∷ [])
+small_push : (made : List TypedQuery) (t : TypedQuery) → AreSmall made → IsSmallBody t.query.body → AreSmall (made ++ t ∷ [])
 small_push [] t small one = (one, tt)
 small_push (u ∷ made) t small one = (small.0, small_push made t small.1 one)
 
-pub small_kept : (s : Select) (made made' : List TypedQuery) (t : TypedQuery) → made' ≡ made ++ t ∷ [] → IsQuery s → FitsQuery t.query s → AreSmall made → AreSmall made'
-small_kept s made made' t more query fits small = rw more (small_push made t small (is_small s t query.0 fits query.1))
+pub small_kept : (s : Select) (made made' : List TypedQuery) (t : TypedQuery) → made' ≡ made ++ t ∷ [] → IsQuery s → FitsBody t.query.body s → AreSmall made → AreSmall made'
+small_kept s made made' t more query fits small = rw more (small_push made t small (is_small s t.query.body query.0 fits query.1))

@@ -5,17 +5,27 @@ mod DayLemmas
 mod EntryLemmas
 mod FaultLemmas
 mod FitLemmas
+mod GroupedFits
+mod GroupedLemmas
+mod GroupedSound
+mod GroupingLemmas
 mod KeyLemmas
 pub mod LawLemmas
 mod LiteralLemmas
+mod MadeLemmas
 pub mod MeansLemmas
 mod MovedLemmas
 mod OutcomeLemmas
+mod PlacedLemmas
 mod QueryLemmas
 mod ScopeLemmas
 mod ScriptSizes
 mod ShownLemmas
 mod SoundLemmas
 mod SourceLemmas
+mod StarLemmas
+mod StarredLemmas
 mod StepLemmas
+mod TypedLemmas
+mod WeightLemmas
 mod WithinLemmas

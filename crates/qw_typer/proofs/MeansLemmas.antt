@@ -1,6 +1,7 @@
--- What follows of a specification that a query means: its entries are tables of the schema, each item has a kind and a name, and each key is
+-- What follows of what a query means: its entries are tables of the schema, each item has a kind and a name, and each key is
 -- a result column.
-use Rattle.std.proofs.Common.{◌≡◌, ◌<◌, ℕ, suc, true, false, List, [], ◌∷◌, ◌++◌, ◌+◌, ◌*◌, arith, map, length, get_or, Option, Some, None, refl, sym, ap, ◌∙◌, slice_get, subst, is_none}
+use Rattle.std.specs.Prelude.{if◌then◌else◌}
+use Rattle.std.proofs.Common.{Bool, position, ◌==◌, ◌≡◌, ◌<◌, ℕ, suc, true, false, List, [], ◌∷◌, ◌++◌, ◌+◌, ◌*◌, arith, map, length, get_or, Option, Some, None, refl, sym, ap, ◌∙◌, slice_get, subst, is_none}
 use Rattle.std.specs.List.{AllByRecursion, list_any}
 use Rattle.std.specs.Str.{bytes_eq}
 use Rattle.std.proofs.lemmas.List.{length-append, length-map}
@@ -13,19 +14,44 @@ use Rattle.qw_scalar.specs.Expression as meaning
 use Rattle.qw_scalar.specs.Typing.{has_kind, kind_of}
 use Rattle.qw_order.specs.declared.sort_key.SortKey.{SortKey}
 use Rattle.qw_meaning.specs.Select as specified
-use Rattle.qw_meaning.specs.Select.{Specification}
+use Rattle.qw_grouped.specs.Whole.{Body, Whole, grouped, plain, sources_in}
+use Rattle.qw_grouped.specs.declared.query.GroupedColumn.{GroupedColumn}
 use Rattle.qw_ast.specs.Grammar.{name_of}
 use Rattle.qw_ast.specs.Limits.{entries_of}
 use Rattle.qw_ast.specs.Syntax as written
 use Rattle.qw_ast.specs.Syntax.{SelectItem, Selected, all_columns, items, Select}
-use Rattle.qw_typer.specs.declared.fault.FaultKind.TheVariants.{DuplicateAlias, UnknownTable}
-use Rattle.qw_typer.specs.Faults.{fault_where, faults, first_token, item_faults, or_own}
+use Rattle.qw_typer.specs.declared.fault.FaultKind.TheVariants.{DuplicateAlias, NotGrouped, UnknownTable}
+use Rattle.qw_typer.specs.Faults.{fault_where, faults, first_token, group_faults, item_faults, or_own}
 use Rattle.qw_typer.specs.Keys.{keys_meant}
-use Rattle.qw_typer.specs.Meant.{Scope, meant}
-use Rattle.qw_typer.specs.Typed.{Means, columns_from, entries_faults, entry_meant, entry_name, in_scope, item_names, items_meant, list_faults, order_faults, over_faults, place_of, result_names, scope_from, scope_of, selected_faults}
+use Rattle.qw_typer.specs.Grouping.{columns_ungrouped, grouping_faults, is_grouped, starred, starred_faults}
+use Rattle.qw_typer.specs.Meant.{Entry, Grouping, Scope, column_grouped, meant}
+use Rattle.qw_typer.specs.Typed.{Means, columns_from, columns_meant, column_names, entries_faults, entries_from, entry_meant, entry_name, in_scope, item_names, items_meant, list_faults, order_faults, over_faults, place_of, result_names, entries_named, grouped_meant, scope_over, selected_faults, sources_meant, specification_meant}
 use Rattle.qw_typer.proofs.KeyLemmas.{keys_below}
-use Rattle.qw_typer.proofs.LawLemmas.{entries_meant}
+use Rattle.qw_typer.proofs.GroupedLemmas.{plain_scope}
+use Rattle.qw_typer.proofs.GroupedSound.{has_kind_at, starred_more}
+use Rattle.qw_typer.proofs.LawLemmas.{entries_meant, starred_length}
 use Rattle.qw_typer.proofs.SoundLemmas.{all_both, no_both, no_own, not_where, tested}
+
+-- ---- what is asked
+
+-- the select list
+abbrev pub items_in : Body → List meaning.Expression
+items_in (plain specification) = specification.items
+items_in (grouped query) = query.items
+
+pub not_distinct : (schema : List Table) (s : Select) (whole : Whole) (names : List (List ℕ)) (keys : List SortKey) → Means schema s whole names keys → whole.distinct ≡ false
+not_distinct schema s whole names keys means = ap (λ (w : Whole). w.distinct) means.whole_is
+
+body_items : (schema : List Table) (s : Select) (b : Bool) → is_grouped s ≡ b → items_in (if b then grouped (grouped_meant schema s) else plain (specification_meant schema s)) ≡ items_meant (scope_over schema s) s.selected
+body_items schema s true e = refl
+body_items schema s false e = ap (λ (sc : Scope). items_meant sc s.selected) (sym (plain_scope schema s e))
+
+body_sources : (schema : List Table) (s : Select) (b : Bool) → sources_in (if b then grouped (grouped_meant schema s) else plain (specification_meant schema s)) ≡ sources_meant schema 0 s.sources
+body_sources schema s true = refl
+body_sources schema s false = refl
+
+items_are : (schema : List Table) (s : Select) (whole : Whole) (names : List (List ℕ)) (keys : List SortKey) → Means schema s whole names keys → items_in whole.body ≡ items_meant (scope_over schema s) s.selected
+items_are schema s whole names keys means = ap (λ (w : Whole). items_in w.body) means.whole_is ∙ body_items schema s (is_grouped s) refl
 
 -- ---- entries
 
@@ -49,7 +75,7 @@ entry_there schema number w known = by_place (place_of schema (name_of w.table))
         let there : slice_get schema i ≡ Some t = slice_get-get_or schema i none before in
         record { table = t; there = rw e there; columns_are = rw (e, there) refl }
 
-scope_there : (schema : List Table) (before : List (List ℕ)) (number : ℕ) (es : List written.Entry) → entries_faults schema before es ≡ [] → AllByRecursion (IsOfTable schema) (map entry_meant (scope_from schema number es))
+scope_there : (schema : List Table) (before : List (List ℕ)) (number : ℕ) (es : List written.Entry) → entries_faults schema before es ≡ [] → AllByRecursion (IsOfTable schema) (map entry_meant (entries_from schema number es))
 scope_there schema before number [] h = tt
 scope_there schema before number (e ∷ es) h =
     let fs = fault_where (is_none (place_of schema (name_of e.table))) UnknownTable (name_of e.table) in
@@ -58,10 +84,10 @@ scope_there schema before number (e ∷ es) h =
     let p = no_both fs gs q.0 in
     (entry_there schema number e (not_where (is_none (place_of schema (name_of e.table))) UnknownTable (name_of e.table) p.0), scope_there schema (before ++ entry_name e ∷ []) (number + 1) es q.1)
 
-pub entries_there : (schema : List Table) (s : Select) (specification : Specification) (names : List (List ℕ)) (keys : List SortKey) → Means schema s specification names keys → AllByRecursion (IsOfTable schema) (specified.entries_of specification.sources)
-entries_there schema s specification names keys means =
+pub entries_there : (schema : List Table) (s : Select) (whole : Whole) (names : List (List ℕ)) (keys : List SortKey) → Means schema s whole names keys → AllByRecursion (IsOfTable schema) (specified.entries_of (sources_in whole.body))
+entries_there schema s whole names keys means =
     let q = no_own (entries_faults schema [] (entries_of s.sources)) (or_own (over_faults schema s) (order_faults schema s)) means.faultless in
-    let same : map entry_meant (scope_from schema 0 (entries_of s.sources)) ≡ specified.entries_of specification.sources = sym (ap specified.entries_of means.sources_are ∙ entries_meant schema 0 s.sources) in
+    let same : map entry_meant (entries_from schema 0 (entries_of s.sources)) ≡ specified.entries_of (sources_in whole.body) = sym (ap (λ (w : Whole). specified.entries_of (sources_in w.body)) means.whole_is ∙ ap specified.entries_of (body_sources schema s (is_grouped s)) ∙ entries_meant schema 0 s.sources) in
     subst (AllByRecursion (IsOfTable schema)) same (scope_there schema [] 0 (entries_of s.sources) q.0)
 
 -- ---- items
@@ -73,9 +99,25 @@ column_kinds : (place : ℕ) (columns : List Column) → HaveKinds (columns_from
 column_kinds place [] = tt
 column_kinds place (c ∷ columns) = (refl, column_kinds (suc place) columns)
 
-all_kinds : (scope : Scope) → HaveKinds (items_meant scope all_columns)
+all_kinds : (entries : List Entry) → HaveKinds (columns_meant entries)
 all_kinds [] = tt
-all_kinds (e ∷ es) = all_both (λ (x : meaning.Expression). has_kind (kind_of x) ≡ true) (columns_from (64 * e.number) e.columns) (items_meant es all_columns) (column_kinds (64 * e.number) e.columns) (all_kinds es)
+all_kinds (e ∷ es) = all_both (λ (x : meaning.Expression). has_kind (kind_of x) ≡ true) (columns_from (64 * e.number) e.columns) (columns_meant es) (column_kinds (64 * e.number) e.columns) (all_kinds es)
+
+starred_kinds : (g : Grouping) (place : ℕ) (columns : List Column) → columns_ungrouped g place columns ≡ [] → HaveKinds (starred (Some g) (columns_from place columns))
+starred_kinds g place [] h = tt
+starred_kinds g place (c ∷ columns) h =
+    let q = no_both (group_faults (Some g) c.name (meaning.column place c.ty)) (columns_ungrouped g (suc place) columns) h in
+    let there = not_where (is_none (column_grouped g (meaning.column place c.ty))) NotGrouped c.name q.0 in
+    (has_kind_at g (position (λ (d : GroupedColumn). d.number == place) g.columns) there, starred_kinds g (suc place) columns q.1)
+
+all_starred : (grouping : Option Grouping) (entries : List Entry) → starred_faults grouping entries ≡ [] → HaveKinds (starred grouping (columns_meant entries))
+all_starred None entries h = all_kinds entries
+all_starred (Some g) [] h = tt
+all_starred (Some g) (e ∷ es) h =
+    let q = no_both (columns_ungrouped g (64 * e.number) e.columns) (starred_faults (Some g) es) h in
+    let here = columns_from (64 * e.number) e.columns in
+    subst HaveKinds (sym (starred_more g here (columns_meant es)))
+    (all_both (λ (x : meaning.Expression). has_kind (kind_of x) ≡ true) (starred (Some g) here) (starred (Some g) (columns_meant es)) (starred_kinds g (64 * e.number) e.columns q.0) (all_starred (Some g) es q.1))
 
 list_kinds : (scope : Scope) (list : List SelectItem) → list_faults scope list ≡ [] → HaveKinds (map (λ (i : SelectItem). meant scope i.value) list)
 list_kinds scope [] h = tt
@@ -85,16 +127,17 @@ list_kinds scope (i ∷ others) h =
     (tested (has_kind (kind_of (meant scope i.value))) _ _ p.1, list_kinds scope others q.1)
 
 item_kinds : (scope : Scope) (selected : Selected) → selected_faults scope selected ≡ [] → HaveKinds (items_meant scope selected)
-item_kinds scope all_columns h = all_kinds scope
+item_kinds scope all_columns h = all_starred scope.grouping scope.entries h
 item_kinds scope (items list) h = list_kinds scope list h
 
 -- each item has a kind
-pub items_have_kinds : (schema : List Table) (s : Select) (specification : Specification) (names : List (List ℕ)) (keys : List SortKey) → Means schema s specification names keys → AllByRecursion (λ (e : meaning.Expression). has_kind (kind_of e) ≡ true) specification.items
-items_have_kinds schema s specification names keys means =
+pub items_have_kinds : (schema : List Table) (s : Select) (whole : Whole) (names : List (List ℕ)) (keys : List SortKey) → Means schema s whole names keys → AllByRecursion (λ (e : meaning.Expression). has_kind (kind_of e) ≡ true) (items_in whole.body)
+items_have_kinds schema s whole names keys means =
     let q = no_own (entries_faults schema [] (entries_of s.sources)) (or_own (over_faults schema s) (order_faults schema s)) means.faultless in
     let r = no_own (over_faults schema s) (order_faults schema s) q.1 in
-    let p = no_both (selected_faults (scope_of schema s) s.selected) _ r.0 in
-    subst HaveKinds (sym means.items_are) (item_kinds (scope_of schema s) s.selected p.0)
+    let own = no_own (grouping_faults (entries_named schema s) s) _ r.0 in
+    let p = no_both (selected_faults (scope_over schema s) s.selected) _ own.1 in
+    subst HaveKinds (sym (items_are schema s whole names keys means)) (item_kinds (scope_over schema s) s.selected p.0)
 
 -- ---- names
 
@@ -102,38 +145,38 @@ many_columns : (place : ℕ) (columns : List Column) → length (columns_from pl
 many_columns place [] = refl
 many_columns place (c ∷ columns) = ap suc (many_columns (suc place) columns)
 
-many_named : (position : ℕ) (list : List SelectItem) → length (item_names position list) ≡ length list
-many_named position [] = refl
-many_named position (i ∷ others) = ap suc (many_named (suc position) others)
+many_named : (position' : ℕ) (list : List SelectItem) → length (item_names position' list) ≡ length list
+many_named position' [] = refl
+many_named position' (i ∷ others) = ap suc (many_named (suc position') others)
 
-many_of_all : (scope : Scope) → length (result_names scope all_columns) ≡ length (items_meant scope all_columns)
+many_of_all : (entries : List Entry) → length (column_names entries) ≡ length (columns_meant entries)
 many_of_all [] = refl
 many_of_all (e ∷ es) =
-    let a = length-append (map (λ (c : Column). c.name) e.columns) (result_names es all_columns) in
-    let b = length-append (columns_from (64 * e.number) e.columns) (items_meant es all_columns) in
+    let a = length-append (map (λ (c : Column). c.name) e.columns) (column_names es) in
+    let b = length-append (columns_from (64 * e.number) e.columns) (columns_meant es) in
     let c = length-map e.columns (λ (c : Column). c.name) in
     let d = many_columns (64 * e.number) e.columns in
     let others = many_of_all es in
     omega (arith, a, b, c, d, others)
 
 many : (scope : Scope) (selected : Selected) → length (result_names scope selected) ≡ length (items_meant scope selected)
-many scope all_columns = many_of_all scope
+many scope all_columns = many_of_all scope.entries ∙ sym (starred_length scope.grouping (columns_meant scope.entries))
 many scope (items list) = many_named 1 list ∙ sym (length-map list (λ (i : SelectItem). meant scope i.value))
 
 -- there are as many names as items
-pub many_names : (schema : List Table) (s : Select) (specification : Specification) (names : List (List ℕ)) (keys : List SortKey) → Means schema s specification names keys → length names ≡ length specification.items
-many_names schema s specification names keys means =
-    ap (λ (ns : List (List ℕ)). length ns) means.names_are ∙ many (scope_of schema s) s.selected ∙ sym (ap (λ (es : List meaning.Expression). length es) means.items_are)
+pub many_names : (schema : List Table) (s : Select) (whole : Whole) (names : List (List ℕ)) (keys : List SortKey) → Means schema s whole names keys → length names ≡ length (items_in whole.body)
+many_names schema s whole names keys means =
+    ap (λ (ns : List (List ℕ)). length ns) means.names_are ∙ many (scope_over schema s) s.selected ∙ sym (ap (λ (es : List meaning.Expression). length es) (items_are schema s whole names keys means))
 
 -- ---- keys
 
 -- each key is one of the result columns
-pub keys_within : (schema : List Table) (s : Select) (specification : Specification) (names : List (List ℕ)) (keys : List SortKey) → Means schema s specification names keys → AllByRecursion (λ (k : SortKey). k.position < length specification.items) keys
-keys_within schema s specification names keys means =
+pub keys_within : (schema : List Table) (s : Select) (whole : Whole) (names : List (List ℕ)) (keys : List SortKey) → Means schema s whole names keys → AllByRecursion (λ (k : SortKey). k.position < length (items_in whole.body)) keys
+keys_within schema s whole names keys means =
     let q = no_own (entries_faults schema [] (entries_of s.sources)) (or_own (over_faults schema s) (order_faults schema s)) means.faultless in
     let r = no_own (over_faults schema s) (order_faults schema s) q.1 in
-    let scope = scope_of schema s in
+    let scope = scope_over schema s in
     let columns = items_meant scope s.selected in
     let below = keys_below scope (result_names scope s.selected) columns (many scope s.selected) s.order r.1 in
-    subst (λ (ks : List SortKey). AllByRecursion (λ (k : SortKey). k.position < length specification.items) ks) (sym means.keys_are)
-    (subst (λ (es : List meaning.Expression). AllByRecursion (λ (k : SortKey). k.position < length es) (keys_meant scope (result_names scope s.selected) columns s.order)) (sym means.items_are) below)
+    subst (λ (ks : List SortKey). AllByRecursion (λ (k : SortKey). k.position < length (items_in whole.body)) ks) (sym means.keys_are)
+    (subst (λ (es : List meaning.Expression). AllByRecursion (λ (k : SortKey). k.position < length es) (keys_meant scope (result_names scope s.selected) columns s.order)) (sym (items_are schema s whole names keys means)) below)

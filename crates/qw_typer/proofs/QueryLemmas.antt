@@ -1,11 +1,12 @@
 -- A query over the entries of its FROM, and over a schema.
-use Rattle.std.proofs.Common.{◌≡◌, ℕ, ◌*◌, ◌≤◌, List, [], ◌∷◌, length, Ok, refl, sym, ap, ◌∙◌, arith, subst}
+use Rattle.std.proofs.Common.{◌≡◌, false, ℕ, ◌*◌, ◌≤◌, List, [], ◌∷◌, length, Ok, refl, sym, ap, ◌∙◌, arith, subst}
 use Rattle.std.specs.Prelude.{Contains}
 use Rattle.std.proofs.lemmas.List.{length-map}
 use Rattle.std.proofs.lemmas.List.Sums.{sum_by-cons}
 use Rattle.qw_types.specs.declared.schema.Table.{Table}
 use Rattle.qw_meaning.specs.Query.{QueryParts, query_of}
 use Rattle.qw_meaning.specs.Select.{IsSpecification, Specification}
+use Rattle.qw_grouped.specs.Whole.{Whole, plain}
 use Rattle.qw_order.specs.declared.sort_key.SortKey.{SortKey}
 use Rattle.qw_ast.specs.Limits.{entries_of}
 use Rattle.qw_ast.specs.Syntax as written
@@ -16,13 +17,15 @@ use Rattle.qw_typer.specs.declared.refusal.Refusal.{Refusal}
 use Rattle.qw_typer.specs.declared.refusal.Refusal.TheVariants as refusal
 use Rattle.qw_typer.specs.declared.scope.Entry.{Entry as CodeEntry}
 use Rattle.qw_typer.specs.Faults.{Fault, or_own}
+use Rattle.qw_typer.specs.Grouping.{is_grouped}
 use Rattle.qw_typer.specs.Keys.{keys_faults, keys_meant}
-use Rattle.qw_typer.specs.Meant.{Entry, Scope}
-use Rattle.qw_typer.specs.Typed.{IsWithin, Means, entries_faults, items_meant, order_faults, over_faults, query_faults, result_names, scope_from, scope_of}
-use Rattle.qw_typer.specs.Inner.Queries.{HaveTables, IsOneOf}
+use Rattle.qw_typer.specs.Meant.{Entry, Scope, ungrouped}
+use Rattle.qw_typer.specs.Typed.{IsWithin, Means, entries_faults, entries_from, items_meant, order_faults, over_faults, query_faults, result_names, scope_of}
+use Rattle.qw_typer.specs.Inner.Queries.{HaveTables, IsFrom, IsOneOf}
 use Rattle.qw_typer.specs.Inner.Sizes.{column_count}
-use Rattle.qw_typer.specs.Inner.Typing.{Refuses, as_entry, in_reach, outcome, spelled, typed_over}
-use Rattle.qw_typer.proofs.FaultLemmas.{first_fault, meaning_of, no_fault, over_is}
+use Rattle.qw_typer.specs.Inner.Typing.{Refuses, as_entries, as_entry, outcome, spelled, typed_over}
+use Rattle.qw_typer.proofs.FaultLemmas.{first_fault, meaning_of, no_fault, over_is, plain_faults}
+use Rattle.qw_typer.proofs.GroupedLemmas.{plain_keys, plain_meant, plain_order, plain_over, plain_scope}
 use Rattle.qw_typer.proofs.LawLemmas.{length_scope, specified_query}
 
 -- ---- what is refused
@@ -56,72 +59,82 @@ own_first (refusal.Fault kind token) (f ∷ fs) gs h = h
 pub entries_refused : (schema : List Table) (s : Select) (named : List written.Entry) (r : Refusal) → named ≡ entries_of s.sources → IsOneOf r (entries_faults schema [] named) → IsOneOf r (query_faults schema s)
 entries_refused schema s named r same h = own_first r (entries_faults schema [] (entries_of s.sources)) (or_own (over_faults schema s) (order_faults schema s)) (rw same at h)
 
--- without one the scope is that of FROM
-abbrev pub IsScope : List Table → List written.Entry → Scope → Type 0
-IsScope schema named scope = (entries_faults schema [] named ≡ []) × (scope ≡ scope_from schema 0 named)
+-- without one the entries are those of FROM
+abbrev pub AreEntries : List Table → List written.Entry → List Entry → Type 0
+AreEntries schema named entries = (entries_faults schema [] named ≡ []) × (entries ≡ entries_from schema 0 named)
 
-whole_scope : (schema : List Table) (s : Select) (named : List written.Entry) (scope : Scope) → named ≡ entries_of s.sources → IsScope schema named scope → (entries_faults schema [] (entries_of s.sources) ≡ []) × (scope ≡ scope_of schema s)
-whole_scope schema s named scope same known = (rw same at known.0, known.1 ∙ ap (λ (es : List written.Entry). scope_from schema 0 es) same)
+pub from_known : (schema : List Table) (s : Select) (named : List written.Entry) (entries : List Entry) → named ≡ entries_of s.sources → AreEntries schema named entries → HaveTables entries → IsFrom schema s entries
+from_known schema s named entries same known tables = record { faultless = rw same at known.0; are = known.1 ∙ ap (λ (es : List written.Entry). entries_from schema 0 es) same; tables = tables }
+
+whole_scope : (schema : List Table) (s : Select) (named : List written.Entry) (entries : List Entry) → named ≡ entries_of s.sources → AreEntries schema named entries
+    → (entries_faults schema [] (entries_of s.sources) ≡ []) × (ungrouped entries ≡ scope_of schema s)
+whole_scope schema s named entries same known = (rw same at known.0, ap ungrouped (known.1 ∙ ap (λ (es : List written.Entry). entries_from schema 0 es) same))
 
 -- and one of what stands over them
-pub over_refused : (schema : List Table) (s : Select) (named : List written.Entry) (scope : Scope) (r : Refusal) → named ≡ entries_of s.sources → IsScope schema named scope → Refuses r (typed_over scope s) → IsOneOf r (query_faults schema s)
-over_refused schema s named scope r same known h =
-    let whole = whole_scope schema s named scope same known in
-    let over = refused_outcome r (over_faults schema s) (meaning_of schema s) (rw (whole.1, over_is schema s) at h) in
-    rw whole.0 (own_first r (over_faults schema s) (order_faults schema s) over)
+pub over_refused : (schema : List Table) (s : Select) (named : List written.Entry) (entries : List Entry) (r : Refusal) → is_grouped s ≡ false → named ≡ entries_of s.sources → AreEntries schema named entries → Refuses r (typed_over (ungrouped entries) s) → IsOneOf r (query_faults schema s)
+over_refused schema s named entries r plain_one same known h =
+    let whole = whole_scope schema s named entries same known in
+    let over = refused_outcome r (plain_faults schema s) (meaning_of schema s) (subst (Refuses r) (ap (λ (sc : Scope). typed_over sc s) whole.1 ∙ over_is schema s) h) in
+    rw whole.0 (own_first r (over_faults schema s) (order_faults schema s) (subst (IsOneOf r) (sym (plain_over schema s plain_one)) over))
 
 -- the keys over the result columns of what was typed
 abbrev KeysOver : Scope → QueryParts → List (List ℕ) → Select → List Fault
 KeysOver scope parts names s = keys_faults scope names (query_of parts).items s.order
 
-same_order : (schema : List Table) (s : Select) (scope : Scope) (parts : QueryParts) (names : List (List ℕ)) → scope ≡ scope_of schema s → meaning_of schema s ≡ query_of parts → names ≡ result_names scope s.selected → KeysOver scope parts names s ≡ order_faults schema s
+same_order : (schema : List Table) (s : Select) (scope : Scope) (parts : QueryParts) (names : List (List ℕ)) → scope ≡ scope_of schema s → meaning_of schema s ≡ query_of parts → names ≡ result_names scope s.selected → KeysOver scope parts names s ≡ plain_order schema s
 same_order schema s scope parts names same is names_are =
     let named : names ≡ result_names (scope_of schema s) s.selected = names_are ∙ ap (λ (sc : Scope). result_names sc s.selected) same in
     let items : (query_of parts).items ≡ items_meant (scope_of schema s) s.selected = sym (ap (λ (q : Specification). q.items) is) in
     rw (same, named, items) refl
 
 -- and one of the keys over what stands over them
-pub keys_refused : (schema : List Table) (s : Select) (named : List written.Entry) (scope : Scope) (parts : QueryParts) (names : List (List ℕ)) (r : Refusal) → named ≡ entries_of s.sources → IsScope schema named scope
-    → typed_over scope s ≡ Ok (query_of parts) → names ≡ result_names scope s.selected → IsOneOf r (keys_faults scope names (query_of parts).items s.order) → IsOneOf r (query_faults schema s)
-keys_refused schema s named scope parts names r same known gives names_are h =
-    let whole = whole_scope schema s named scope same known in
-    let o = no_fault (over_faults schema s) (meaning_of schema s) (query_of parts) (sym (over_is schema s) ∙ ap (λ (sc : Scope). typed_over sc s) (sym whole.1) ∙ gives) in
-    rw (whole.0, o.0) (rw (same_order schema s scope parts names whole.1 o.1 names_are) at h)
+pub keys_refused : (schema : List Table) (s : Select) (named : List written.Entry) (entries : List Entry) (parts : QueryParts) (names : List (List ℕ)) (r : Refusal) → is_grouped s ≡ false → named ≡ entries_of s.sources → AreEntries schema named entries
+    → typed_over (ungrouped entries) s ≡ Ok (query_of parts) → names ≡ result_names (ungrouped entries) s.selected → IsOneOf r (keys_faults (ungrouped entries) names (query_of parts).items s.order) → IsOneOf r (query_faults schema s)
+keys_refused schema s named entries parts names r plain_one same known gives names_are h =
+    let whole = whole_scope schema s named entries same known in
+    let o = no_fault (plain_faults schema s) (meaning_of schema s) (query_of parts) (sym (over_is schema s) ∙ ap (λ (sc : Scope). typed_over sc s) (sym whole.1) ∙ gives) in
+    let none = plain_over schema s plain_one ∙ o.0 in
+    rw (whole.0, none) (subst (IsOneOf r) (same_order schema s (ungrouped entries) parts names whole.1 o.1 names_are ∙ sym (plain_keys schema s plain_one)) h)
 
 -- ---- what is given
 
-pub query_means : (schema : List Table) (s : Select) (named : List written.Entry) (scope : Scope) (parts : QueryParts) (names : List (List ℕ)) (keys : List SortKey) → named ≡ entries_of s.sources → IsScope schema named scope
-    → typed_over scope s ≡ Ok (query_of parts) → names ≡ result_names scope s.selected → (keys_faults scope names (query_of parts).items s.order ≡ []) × (keys ≡ keys_meant scope names (query_of parts).items s.order) → Means schema s (query_of parts) names keys
-query_means schema s named scope parts names keys same known gives names_are found =
-    let whole = whole_scope schema s named scope same known in
-    let o = no_fault (over_faults schema s) (meaning_of schema s) (query_of parts) (sym (over_is schema s) ∙ ap (λ (sc : Scope). typed_over sc s) (sym whole.1) ∙ gives) in
+-- a query that isn't grouped, without DISTINCT
+abbrev pub plain_whole : Specification → Whole
+plain_whole specification = record { body = plain specification; distinct = false }
+
+pub query_means : (schema : List Table) (s : Select) (named : List written.Entry) (entries : List Entry) (parts : QueryParts) (names : List (List ℕ)) (keys : List SortKey) → is_grouped s ≡ false → named ≡ entries_of s.sources → AreEntries schema named entries
+    → typed_over (ungrouped entries) s ≡ Ok (query_of parts) → names ≡ result_names (ungrouped entries) s.selected → (keys_faults (ungrouped entries) names (query_of parts).items s.order ≡ []) × (keys ≡ keys_meant (ungrouped entries) names (query_of parts).items s.order) → Means schema s (plain_whole (query_of parts)) names keys
+query_means schema s named entries parts names keys plain_one same known gives names_are found =
+    let whole = whole_scope schema s named entries same known in
+    let o = no_fault (plain_faults schema s) (meaning_of schema s) (query_of parts) (sym (over_is schema s) ∙ ap (λ (sc : Scope). typed_over sc s) (sym whole.1) ∙ gives) in
     let named : names ≡ result_names (scope_of schema s) s.selected = names_are ∙ ap (λ (sc : Scope). result_names sc s.selected) whole.1 in
     let items : (query_of parts).items ≡ items_meant (scope_of schema s) s.selected = sym (ap (λ (q : Specification). q.items) o.1) in
+    let none = plain_over schema s plain_one ∙ o.0 in
+    let same_scope = plain_scope schema s plain_one in
+    let keyed : keys ≡ keys_meant (scope_of schema s) (result_names (scope_of schema s) s.selected) (items_meant (scope_of schema s) s.selected) s.order = found.1 ∙ rw (whole.1, named, items) refl in
     record {
-      faultless = rw (whole.0, o.0) (sym (same_order schema s scope parts names whole.1 o.1 names_are) ∙ found.0);
-      sources_are = ap (λ (q : Specification). q.sources) (sym o.1);
-      conjuncts_are = ap (λ (q : Specification). q.conjuncts) (sym o.1);
-      items_are = ap (λ (q : Specification). q.items) (sym o.1);
-      names_are = named;
-      keys_are = found.1 ∙ rw (whole.1, named, items) refl;
+      faultless = rw (whole.0, none) (plain_keys schema s plain_one ∙ sym (same_order schema s (ungrouped entries) parts names whole.1 o.1 names_are) ∙ found.0);
+      whole_is = ap plain_whole (sym o.1) ∙ sym (plain_meant schema s plain_one);
+      names_are = named ∙ ap (λ (sc : Scope). result_names sc s.selected) (sym same_scope);
+      keys_are = keyed ∙ ap (λ (sc : Scope). keys_meant sc (result_names sc s.selected) (items_meant sc s.selected) s.order) (sym same_scope);
     }
 
-pub query_specified : (schema : List Table) (s : Select) (named : List written.Entry) (scope : Scope) (parts : QueryParts) → named ≡ entries_of s.sources → IsScope schema named scope → HaveTables scope → IsWithin s
-    → typed_over scope s ≡ Ok (query_of parts) → IsSpecification (query_of parts)
-query_specified schema s named scope parts same known tables within gives =
-    let whole = whole_scope schema s named scope same known in
-    let o = no_fault (over_faults schema s) (meaning_of schema s) (query_of parts) (sym (over_is schema s) ∙ ap (λ (sc : Scope). typed_over sc s) (sym whole.1) ∙ gives) in
-    subst IsSpecification o.1 (specified_query schema s (subst HaveTables whole.1 tables) within o.0)
+pub query_specified : (schema : List Table) (s : Select) (named : List written.Entry) (entries : List Entry) (parts : QueryParts) → is_grouped s ≡ false → named ≡ entries_of s.sources → AreEntries schema named entries → HaveTables entries → IsWithin s
+    → typed_over (ungrouped entries) s ≡ Ok (query_of parts) → IsSpecification (query_of parts)
+query_specified schema s named entries parts plain_one same known tables within gives =
+    let whole = whole_scope schema s named entries same known in
+    let o = no_fault (plain_faults schema s) (meaning_of schema s) (query_of parts) (sym (over_is schema s) ∙ ap (λ (sc : Scope). typed_over sc s) (sym whole.1) ∙ gives) in
+    subst IsSpecification o.1 (specified_query schema s (subst HaveTables (ap (λ (sc : Scope). sc.entries) whole.1) tables) within o.0)
 
 -- ---- sizes
 
-many_reached : (schema : List Table) (s : Select) (named : List written.Entry) (scope : Scope) → named ≡ entries_of s.sources → IsScope schema named scope → length scope ≡ length (entries_of s.sources)
-many_reached schema s named scope same known = ap (λ (es : Scope). length es) known.1 ∙ length_scope schema 0 named ∙ ap (λ (es : List written.Entry). length es) same
+many_reached : (schema : List Table) (s : Select) (named : List written.Entry) (entries : List Entry) → named ≡ entries_of s.sources → AreEntries schema named entries → length entries ≡ length (entries_of s.sources)
+many_reached schema s named entries same known = ap (λ (es : List Entry). length es) known.1 ∙ length_scope schema 0 named ∙ ap (λ (es : List written.Entry). length es) same
 
-pub as_many : (schema : List Table) (s : Select) (named : List written.Entry) (entries : List CodeEntry) → named ≡ entries_of s.sources → IsScope schema named (in_reach entries) → length entries ≡ length (entries_of s.sources)
-as_many schema s named entries same known = sym (length-map entries as_entry) ∙ many_reached schema s named (in_reach entries) same known
+pub as_many : (schema : List Table) (s : Select) (named : List written.Entry) (entries : List CodeEntry) → named ≡ entries_of s.sources → AreEntries schema named (as_entries entries) → length entries ≡ length (entries_of s.sources)
+as_many schema s named entries same known = sym (length-map entries as_entry) ∙ many_reached schema s named (as_entries entries) same known
 
-counted : (scope : Scope) → HaveTables scope → column_count scope ≤ 64 * length scope
+counted : (entries : List Entry) → HaveTables entries → column_count entries ≤ 64 * length entries
 counted [] h = omega arith
 counted (e ∷ es) h =
     let count = sum_by-cons (λ (f : Entry). length f.columns) e es in
@@ -129,9 +142,9 @@ counted (e ∷ es) h =
     let others = counted es h.1 in
     omega (arith, count, few, others)
 
-pub few_columns : (schema : List Table) (s : Select) (named : List written.Entry) (scope : Scope) → named ≡ entries_of s.sources → IsScope schema named scope → HaveTables scope → IsWithin s → column_count scope ≤ 512
-few_columns schema s named scope same known tables within =
-    let most = counted scope tables in
-    let many = many_reached schema s named scope same known in
+pub few_columns : (schema : List Table) (s : Select) (named : List written.Entry) (entries : List Entry) → named ≡ entries_of s.sources → AreEntries schema named entries → HaveTables entries → IsWithin s → column_count entries ≤ 512
+few_columns schema s named entries same known tables within =
+    let most = counted entries tables in
+    let many = many_reached schema s named entries same known in
     let few = within.few_entries in
     omega (arith, most, many, few)

@@ -1,21 +1,22 @@
--- A query of the grammar is typed with at most three and a half times its nodes, and 512 for `*`. A query with NULL elsewhere than
+-- A query of the grammar is typed with at most three and a half times its nodes, but for `*`. A query with NULL elsewhere than
 -- as a result of a CASE has no such bound, so the proof goes along the rules of the grammar.
 use Rattle.std.proofs.Common.{◌≡◌, ℕ, zero, suc, ◌+◌, ◌*◌, ◌≤◌, Bool, true, false, List, [], ◌∷◌, ◌++◌, Option, arith}
 use Rattle.std.specs.List.{AllByRecursion}
 use Rattle.qw_token.specs.Token.{Lexeme}
 use Rattle.qw_scalar.specs.declared.expression.Operator.{Operator}
 use Rattle.qw_ast.specs.Syntax.{Expression, arithmetic, Condition, both, either, Clause, condition, expression, SelectItem, Selected, Joined, Source, Select}
-use Rattle.qw_ast.specs.ScriptGrammar.{Series, first, more, IsNothing, nothing, appended, arguments, IsResult, null_result, result, Branch, is_condition, IsBranch, branch, IsElse, no_else, else_result, branching, IsPrimary, a_number, a_string, a_date, a_column, a_qualified_column, brackets, a_searched_case, a_simple_case, a_coalesce, a_null_if, an_extract, IsFactor, unsigned_factor, signed_factor, IsTerm, IsValueExpression, IsPredicate, a_comparison, a_between, an_in, a_null_test, IsBooleanPrimary, predicate, condition_brackets, IsBooleanTest, no_test, a_test, IsBooleanFactor, no_negation, a_negation, IsBooleanTerm, IsSearchCondition, IsClause, IsNested, IsItem, item, IsSelectList, asterisk, some_items, IsFilter, unfiltered, filtered, IsJoined, a_joined, IsSource, a_source, AreSources, some_sources, IsSelect, a_select, IsSelectOf}
+use Rattle.qw_ast.specs.ScriptGrammar.{Series, first, more, IsNothing, nothing, appended, arguments, IsResult, null_result, result, Branch, is_condition, IsBranch, branch, IsElse, no_else, else_result, branching, IsPrimary, a_number, a_string, a_date, a_column, a_qualified_column, brackets, a_searched_case, a_simple_case, a_coalesce, a_null_if, an_extract, a_row_count, a_set_function, IsFactor, unsigned_factor, signed_factor, IsTerm, IsValueExpression, IsPredicate, a_comparison, a_between, an_in, a_null_test, IsBooleanPrimary, predicate, condition_brackets, IsBooleanTest, no_test, a_test, IsBooleanFactor, no_negation, a_negation, IsBooleanTerm, IsSearchCondition, IsClause, IsNested, IsItem, item, IsSelectList, asterisk, some_items, IsFilter, unfiltered, filtered, IsHaving, no_having, a_having, IsJoined, a_joined, IsSource, a_source, AreSources, some_sources, IsSelect, a_select, IsSelectOf}
 use Rattle.qw_ast.specs.Limits as script
-use Rattle.qw_typer.specs.Inner.Sizes.{nodes, nodes_condition, nodes_clause, nodes_all, nodes_branches, selected_nodes, query_nodes}
+use Rattle.qw_typer.specs.Inner.Sizes.{nodes, weight, weight_condition, weight_clause, weight_all, weight_branches}
+use Rattle.qw_typer.proofs.WeightLemmas.{weighed}
 
 -- ---- what is said of each
 
 pub record FewNodes (e : Expression) : Type 0 where
-  pub few : 2 * nodes e + 4 ≤ 7 * script.nodes e
+  pub few : 2 * weight e + 4 ≤ 7 * script.nodes e
 
 pub record FewNodesOf (c : Condition) : Type 0 where
-  pub few : 2 * nodes_condition c + 7 ≤ 7 * script.nodes_condition c
+  pub few : 2 * weight_condition c + 7 ≤ 7 * script.nodes_condition c
 
 abbrev IsFew : Clause → Type 0
 IsFew (condition c) = FewNodesOf c
@@ -23,7 +24,7 @@ IsFew (expression e) = FewNodes e
 
 -- NULL may stand here
 pub record FewInResult (e : Expression) : Type 0 where
-  pub few : 2 * nodes e ≤ 7 * script.nodes e + 2
+  pub few : 2 * weight e ≤ 7 * script.nodes e + 2
 
 -- a WHEN that has a condition has so many fewer
 abbrev gain : Bool → ℕ
@@ -31,10 +32,17 @@ gain true = 3
 gain false = 0
 
 pub record FewInBranch (searched : Bool) (b : Branch) : Type 0 where
-  pub few : 2 + 2 * nodes_clause b.test + 2 * nodes b.result + gain searched ≤ 7 * script.nodes_clause b.test + 7 * script.nodes b.result
+  pub few : 2 + 2 * weight_clause b.test + 2 * weight b.result + gain searched ≤ 7 * script.nodes_clause b.test + 7 * script.nodes b.result
 
 pub record FewInSource (s : Source) : Type 0 where
-  pub few : 2 * script.over_joins nodes_condition s.joins ≤ 7 * script.over_joins script.nodes_condition s.joins
+  pub few : 2 * script.over_joins weight_condition s.joins ≤ 7 * script.over_joins script.nodes_condition s.joins
+
+-- of each clause of a query
+pub record IsFewIn (s : Select) : Type 0 where
+  pub in_items : 2 * script.over_items weight (script.items_of s.selected) ≤ 7 * script.over_items script.nodes (script.items_of s.selected)
+  pub in_sources : 2 * script.over_sources weight_condition s.sources ≤ 7 * script.over_sources script.nodes_condition s.sources
+  pub in_filter : 2 * script.over_filter weight_condition s.filter ≤ 7 * script.over_filter script.nodes_condition s.filter
+  pub in_having : 2 * script.over_filter weight_condition s.having ≤ 7 * script.over_filter script.nodes_condition s.having
 
 -- ---- lists
 
@@ -56,15 +64,15 @@ list_all : {A O : Type 0} {Between : O → List Lexeme → List Lexeme → Type 
 list_all P each xs ts rest h =
     series_all (AllByRecursion P) (none_yet P) (λ o ys y us vs all one. all_appended P ys y all (each y us vs one)) xs ts rest h
 
-few_arguments : (e : Expression) (es : List Expression) → FewNodes e → AllByRecursion FewNodes es → 2 * nodes_all (arguments e es) + 2 ≤ 7 * script.nodes_all (arguments e es)
+few_arguments : (e : Expression) (es : List Expression) → FewNodes e → AllByRecursion FewNodes es → 2 * weight_all (arguments e es) + 2 ≤ 7 * script.nodes_all (arguments e es)
 few_arguments e [] one all = let few = one.few in omega (arith, few)
 few_arguments e (f ∷ es) one all = let few = one.few in let rest = few_arguments f es all.0 all.1 in omega (arith, few, rest)
 
-few_branches : (searched : Bool) (bs : List Branch) (other : Expression) → AllByRecursion (FewInBranch searched) bs → FewInResult other → 2 * nodes_branches (branching bs other) ≤ 7 * script.nodes_branches (branching bs other) + 4
+few_branches : (searched : Bool) (bs : List Branch) (other : Expression) → AllByRecursion (FewInBranch searched) bs → FewInResult other → 2 * weight_branches (branching bs other) ≤ 7 * script.nodes_branches (branching bs other) + 4
 few_branches searched [] other all last' = let few = last'.few in omega (arith, few)
 few_branches searched (b ∷ bs) other all last' = let few = all.0.few in let rest = few_branches searched bs other all.1 last' in omega (arith, few, rest)
 
-few_items : (list : List SelectItem) → AllByRecursion (λ (i : SelectItem). FewNodes i.value) list → 2 * script.over_items nodes list ≤ 7 * script.over_items script.nodes list
+few_items : (list : List SelectItem) → AllByRecursion (λ (i : SelectItem). FewNodes i.value) list → 2 * script.over_items weight list ≤ 7 * script.over_items script.nodes list
 few_items [] all = omega arith
 few_items (i ∷ others) all = let few = all.0.few in let rest = few_items others all.1 in omega (arith, few, rest)
 
@@ -130,6 +138,12 @@ module _ (Inner : Clause → List Lexeme → List Lexeme → Type 0) (inner : (c
       let operand = inner (expression e) ts (closing ∷ rest) one in
       let few = operand.few in
       record { few = omega (arith, few) }
+  few_primary _ _ _ (a_row_count word opening star closing rest is_word open_there star_there close_there) = record { few = omega arith }
+  few_primary _ _ _ (a_set_function f e word opening closing ts us rest is_word open_there all one close_there) =
+      let argument = inner (expression e) us (closing ∷ rest) one in
+      let few = argument.few in
+      let least = weighed e in
+      record { few = omega (arith, few, least) }
 
   few_factor : (e : Expression) (ts rest : List Lexeme) → IsFactor Inner e ts rest → FewNodes e
   few_factor _ _ _ (unsigned_factor e ts rest h) = few_primary e ts rest h
@@ -191,21 +205,20 @@ module _ (Inner : Clause → List Lexeme → List Lexeme → Type 0) (inner : (c
   few_item : (i : SelectItem) (ts rest : List Lexeme) → IsItem Inner i ts rest → FewNodes i.value
   few_item _ _ _ (item e name ts us rest h n) = inner (expression e) ts us h
 
-  few_selected : (selected : Selected) (ts rest : List Lexeme) → IsSelectList Inner selected ts rest → 2 * selected_nodes selected ≤ 7 * script.over_items script.nodes (script.items_of selected) + 1024
+  few_selected : (selected : Selected) (ts rest : List Lexeme) → IsSelectList Inner selected ts rest → 2 * script.over_items weight (script.items_of selected) ≤ 7 * script.over_items script.nodes (script.items_of selected)
   few_selected _ _ _ (asterisk t rest star) = omega arith
   few_selected _ _ _ (some_items i others ts us rest h are) =
       let all = list_all (λ (j : SelectItem). FewNodes j.value) few_item others us rest are in
-      let few = few_items (i ∷ others) (few_item i ts us h, all) in
-      omega (arith, few)
+      few_items (i ∷ others) (few_item i ts us h, all)
 
-  few_filter : (filter : Option Condition) (ts rest : List Lexeme) → IsFilter Inner filter ts rest → 2 * script.over_filter nodes_condition filter ≤ 7 * script.over_filter script.nodes_condition filter
+  few_filter : (filter : Option Condition) (ts rest : List Lexeme) → IsFilter Inner filter ts rest → 2 * script.over_filter weight_condition filter ≤ 7 * script.over_filter script.nodes_condition filter
   few_filter _ _ _ (unfiltered rest) = omega arith
   few_filter _ _ _ (filtered c word ts rest w h) = let one = inner (condition c) ts rest h in let few = one.few in omega (arith, few)
 
   few_joined_condition : (j : Joined) (ts rest : List Lexeme) → IsJoined Inner j ts rest → FewNodesOf j.on
   few_joined_condition _ _ _ (a_joined e c word ts us rest is_entry w h) = inner (condition c) us rest h
 
-  few_joins : (js : List Joined) → AllByRecursion (λ (j : Joined). FewNodesOf j.on) js → 2 * script.over_joins nodes_condition js ≤ 7 * script.over_joins script.nodes_condition js
+  few_joins : (js : List Joined) → AllByRecursion (λ (j : Joined). FewNodesOf j.on) js → 2 * script.over_joins weight_condition js ≤ 7 * script.over_joins script.nodes_condition js
   few_joins [] all = omega arith
   few_joins (j ∷ others) all = let few = all.0.few in let rest = few_joins others all.1 in omega (arith, few, rest)
 
@@ -213,23 +226,28 @@ module _ (Inner : Clause → List Lexeme → List Lexeme → Type 0) (inner : (c
   few_source _ _ _ (a_source e js ts us rest is_entry are) =
       record { few = few_joins js (list_all (λ (j : Joined). FewNodesOf j.on) few_joined_condition js us rest are) }
 
-  few_all_sources : (ss : List Source) → AllByRecursion FewInSource ss → 2 * script.over_sources nodes_condition ss ≤ 7 * script.over_sources script.nodes_condition ss
+  few_all_sources : (ss : List Source) → AllByRecursion FewInSource ss → 2 * script.over_sources weight_condition ss ≤ 7 * script.over_sources script.nodes_condition ss
   few_all_sources [] all = omega arith
   few_all_sources (s ∷ others) all = let few = all.0.few in let rest = few_all_sources others all.1 in omega (arith, few, rest)
 
-  few_sources : (ss : List Source) (ts rest : List Lexeme) → AreSources Inner ss ts rest → 2 * script.over_sources nodes_condition ss ≤ 7 * script.over_sources script.nodes_condition ss
+  few_sources : (ss : List Source) (ts rest : List Lexeme) → AreSources Inner ss ts rest → 2 * script.over_sources weight_condition ss ≤ 7 * script.over_sources script.nodes_condition ss
   few_sources _ _ _ (some_sources s others ts us rest h are) = few_all_sources (s ∷ others) (few_source s ts us h, list_all FewInSource few_source others us rest are)
 
-  few_select : (s : Select) (ts rest : List Lexeme) → IsSelect Inner s ts rest → 2 * query_nodes s ≤ 7 * script.query_nodes s + 1024
-  few_select _ _ _ (a_select selected sources filter order word from ts us vs ws xs rest w all list w' froms where' ordered') =
-      let one = few_selected selected us (from ∷ vs) list in
-      let two = few_filter filter ws xs where' in
-      let three = few_sources sources vs ws froms in
-      omega (arith, one, two, three)
+  few_having : (having : Option Condition) (ts rest : List Lexeme) → IsHaving Inner having ts rest → 2 * script.over_filter weight_condition having ≤ 7 * script.over_filter script.nodes_condition having
+  few_having _ _ _ (no_having rest) = omega arith
+  few_having _ _ _ (a_having c word ts rest w h) = let one = inner (condition c) ts rest h in let few = one.few in omega (arith, few)
+
+  few_select : (s : Select) (ts rest : List Lexeme) → IsSelect Inner s ts rest → IsFewIn s
+  few_select _ _ _ (a_select selected sources filter grouping having order word from ts us vs ws xs ys zs rest w all list w' froms where' groups having' order') = record {
+    in_items = few_selected selected us (from ∷ vs) list;
+    in_sources = few_sources sources vs ws froms;
+    in_filter = few_filter filter ws xs where';
+    in_having = few_having having ys zs having';
+  }
 
 few_nested : (n : ℕ) (c : Clause) (ts rest : List Lexeme) → IsNested n c ts rest → IsFew c
 few_nested zero c ts rest h = absurd h
 few_nested (suc n) c ts rest h = few_clause (IsNested n) (few_nested n) c ts rest h
 
-pub few_of_query : (tokens : List Lexeme) (s : Select) → IsSelectOf tokens s → 2 * query_nodes s ≤ 7 * script.query_nodes s + 1024
+pub few_of_query : (tokens : List Lexeme) (s : Select) → IsSelectOf tokens s → IsFewIn s
 few_of_query tokens s h = few_select (IsNested 33) (few_nested 33) s tokens [] h

@@ -1,10 +1,11 @@
 -- What has no fault is typed over the columns of the entries that it reaches.
-use Rattle.std.proofs.Common.{◌≡◌, ℕ, zero, suc, ◌+◌, ◌*◌, ◌≤◌, ◌^◌, ◌&&◌, Bool, true, false, not, nat_lt, nat_le, pos, List, [], ◌∷◌, ◌++◌, map, Option, Some, None, max, refl, ap, ◌∙◌, arith, inl, inr, slice_get, position, is_none, unwrap_or, option_map, subst}
+use Rattle.std.proofs.Common.{◌≡◌, ℕ, zero, suc, ◌+◌, ◌*◌, ◌≤◌, ◌^◌, ◌&&◌, Bool, true, false, not, nat_lt, nat_le, pos, List, [], ◌∷◌, ◌++◌, map, Option, Some, None, max, refl, ap, ◌∙◌, arith, inl, inr, slice_get, position, is_none, length, sym, ◌==◌, unwrap_or, option_map, subst}
 use Rattle.std.specs.Prelude.{◌⊎◌, if◌then◌else◌}
 use Rattle.std.specs.List.{AllByRecursion}
 use Rattle.std.specs.Option.{option_and_then}
 use Rattle.std.specs.Str.{bytes_eq}
 use Rattle.std.specs.Str.Parse.{digits_value}
+use Rattle.std.proofs.lemmas.List.{length-map}
 use Rattle.std.proofs.lemmas.Option.{slice_get-map}
 use Rattle.qw_types.specs.Digits.{are_digits}
 use Rattle.std.proofs.lemmas.Bool.{and_parts, cases_Bool}
@@ -23,18 +24,19 @@ use Rattle.qw_scalar.specs.declared.comparison.Comparison.TheVariants.{Equal, Gr
 use Rattle.qw_scalar.specs.Columns.{HasColumns, HaveColumns}
 use Rattle.qw_scalar.specs.Expression as meaning
 use Rattle.qw_scalar.specs.Typing.{AreTyped, IsTyped, ScalesAllowed, agree, are_comparable, has_kind, is_date, is_number, kind_of}
+use Rattle.qw_grouped.specs.declared.query.GroupedColumn.{GroupedColumn}
 use Rattle.qw_ast.specs.declared.script.Sign.{Sign}
 use Rattle.qw_ast.specs.declared.script.Sign.TheVariants.{Plus, Minus}
 use Rattle.qw_typer.specs.declared.fault.FaultKind.{FaultKind}
 use Rattle.qw_typer.specs.declared.fault.FaultKind.TheVariants.{Clash, UnknownTable}
 use Rattle.qw_ast.specs.Grammar.{name_of}
-use Rattle.qw_ast.specs.Syntax.{Days, Expression, null, number, text, date, column, signed, arithmetic, extract, searched_case, simple_case, coalesce, null_if, Condition, comparison, between, among, is_null, both, either, negation_of, is, bracketed, condition, expression, Expressions, last, further, Branching, otherwise, when}
+use Rattle.qw_ast.specs.Syntax.{Days, Expression, null, number, text, date, column, signed, arithmetic, extract, searched_case, simple_case, coalesce, null_if, count_rows, set_function, Condition, comparison, between, among, is_null, both, either, negation_of, is, bracketed, condition, expression, Expressions, last, further, Branching, otherwise, when}
 use Rattle.qw_typer.specs.Days.{Day}
 use Rattle.qw_typer.specs.Literal.{after_intervals, date_at, date_of, day_shown, digits_of, is_short, number_of, scale_of, string_value}
 use Rattle.qw_typer.proofs.DateLemmas.{at_most, date_typed}
-use Rattle.qw_typer.specs.Faults.{Fault, all_faults, among_faults, branch_faults, case_faults, choices_faults, comparison_faults, condition_faults, counted_faults, fault_where, faults, first_of_all, first_of_branches, first_token, is_allowed, is_known, matches_faults, or_own, qualifier_of, results_agree, results_kind}
+use Rattle.qw_typer.specs.Faults.{Fault, all_faults, among_faults, branch_faults, case_faults, choices_faults, comparison_faults, condition_faults, counted_faults, fault_where, faults, first_of_all, first_of_branches, first_token, group_faults, is_allowed, is_known, matches_faults, or_own, qualifier_of, reference_faults, results_agree, results_kind}
 use Rattle.qw_scalar.proofs.ColumnLemmas.{columns_more}
-use Rattle.qw_typer.specs.Meant.{Entry, Scope, all_meant, choices, column_named, condition_meant, first_of, is_qualified, listed, matches, meant, referred, with_not, with_sign}
+use Rattle.qw_typer.specs.Meant.{Entry, FunctionColumn, Grouping, Scope, all_meant, choices, column_named, condition_meant, first_of, function_meant, in_group, is_qualified, listed, matches, meant, referred, with_not, with_sign}
 use Rattle.qw_typer.specs.Inner.Typing.{AreScaled, IsScaled, kind_scale}
 use Rattle.qw_typer.proofs.CaseLemmas.{agree_at, kind_cases, scaled_case, scaled_cases}
 
@@ -197,16 +199,36 @@ types_of columns = map (λ (c : Column). c.ty) columns
 abbrev pub IsIn : Entry → ℕ → Ty → Type 0
 IsIn e i ty = (k : ℕ) × (i ≡ 64 * e.number + k) × (slice_get (types_of e.columns) k ≡ Some ty)
 
--- and one in scope
-abbrev pub IsAt : Scope → ℕ → Ty → Type 0
+-- and one of these entries
+abbrev pub IsAt : List Entry → ℕ → Ty → Type 0
 IsAt [] i ty = ⊥
 IsAt (e ∷ es) i ty = IsIn e i ty ⊎ IsAt es i ty
 
 abbrev pub HasSized : List Column → Type 0
 HasSized columns = AllByRecursion (λ (c : Column). IsSized c.ty) columns
 
-abbrev pub AreSized : Scope → Type 0
-AreSized scope = AllByRecursion (λ (e : Entry). HasSized e.columns) scope
+abbrev pub AreSized : List Entry → Type 0
+AreSized entries = AllByRecursion (λ (e : Entry). HasSized e.columns) entries
+
+-- the types of the grouped table's columns
+abbrev pub types_in : Grouping → List Ty
+types_in g = map (λ (c : GroupedColumn). c.ty) g.columns ++ map (λ (f : FunctionColumn). f.ty) g.functions
+
+-- the columns that expressions are over: those of the entries, and where there is a grouped table its own
+abbrev pub Reaches : List Entry → Option Grouping → ℕ → Ty → Type 0
+Reaches entries None i ty = IsAt entries i ty
+Reaches entries (Some g) i ty = slice_get (types_in g) i ≡ Some ty
+
+abbrev pub HasColumn : Scope → ℕ → Ty → Type 0
+HasColumn scope i ty = Reaches scope.entries scope.grouping i ty
+
+-- all columns are of types that there are
+abbrev pub HasSizedTypes : Option Grouping → Type 0
+HasSizedTypes None = Unit {0}
+HasSizedTypes (Some g) = AllByRecursion IsSized (types_in g)
+
+abbrev pub IsSizedScope : Scope → Type 0
+IsSizedScope scope = AreSized scope.entries × HasSizedTypes scope.grouping
 
 pub all_more : {A : Type 0} (P Q : A → Type 0) → ((x : A) → P x → Q x) → (xs : List A) → AllByRecursion P xs → AllByRecursion Q xs
 all_more P Q more [] h = tt
@@ -254,7 +276,7 @@ if_good : (Holds : ℕ → Ty → Type 0) (b : Bool) (es : List meaning.Expressi
 if_good Holds true es h = h
 if_good Holds false es h = tt
 
-referred_good : (scope : Scope) → AreSized scope → (qualifier : Option (List ℕ)) (name : List ℕ) → AllByRecursion (IsGood (IsAt scope)) (referred scope qualifier name)
+referred_good : (entries : List Entry) → AreSized entries → (qualifier : Option (List ℕ)) (name : List ℕ) → AllByRecursion (IsGood (IsAt entries)) (referred entries qualifier name)
 referred_good [] s qualifier name = tt
 referred_good (entry ∷ others) s qualifier name =
     let here = if is_qualified qualifier entry then listed (column_named entry name) else [] in
@@ -267,6 +289,77 @@ only_good : (Holds : ℕ → Ty → Type 0) (name : List ℕ) (es : List meaning
 only_good Holds name [] none all = absurd cc
 only_good Holds name (e ∷ []) none all = all.0
 only_good Holds name (e ∷ f ∷ es) none all = absurd cc
+
+-- ---- over the grouped table
+
+typed_column : (Holds : ℕ → Ty → Type 0) (i : ℕ) (ty : Ty) → IsSized ty → Holds i ty → IsGood Holds (meaning.column i ty)
+typed_column Holds i ty sized holds = let small = scale_small ty sized in record { typed = small; columns = holds; scaled = type_scaled ty; small = small }
+
+pub sized_type : (types : List Ty) (i : ℕ) (ty : Ty) → AllByRecursion IsSized types → slice_get types i ≡ Some ty → IsSized ty
+sized_type [] i ty s e = absurd cc
+sized_type (t ∷ types) zero ty s e = let same : t ≡ ty = cc in subst IsSized same s.0
+sized_type (t ∷ types) (suc i) ty s e = sized_type types i ty s.1 e
+
+pub get_before : (xs ys : List Ty) (i : ℕ) (ty : Ty) → slice_get xs i ≡ Some ty → slice_get (xs ++ ys) i ≡ Some ty
+get_before [] ys i ty e = absurd cc
+get_before (x ∷ xs) ys zero ty e = e
+get_before (x ∷ xs) ys (suc i) ty e = get_before xs ys i ty e
+
+get_behind : (xs ys : List Ty) (i : ℕ) (ty : Ty) → slice_get ys i ≡ Some ty → slice_get (xs ++ ys) (length xs + i) ≡ Some ty
+get_behind [] ys i ty e = let same : i ≡ 0 + i = omega arith in ap (slice_get ys) (sym same) ∙ e
+get_behind (x ∷ xs) ys i ty e =
+    let same : length (x ∷ xs) + i ≡ suc (length xs + i) = omega arith in
+    ap (slice_get (x ∷ (xs ++ ys))) same ∙ get_behind xs ys i ty e
+
+-- a column of the grouped table, by its type
+column_there : (entries : List Entry) (g : Grouping) → HasSizedTypes (Some g) → (i : ℕ) (ty : Ty) → slice_get (types_in g) i ≡ Some ty → IsGood (Reaches entries (Some g)) (meaning.column i ty)
+column_there entries g s i ty e = typed_column (Reaches entries (Some g)) i ty (sized_type (types_in g) i ty s e) e
+
+grouped_at : (entries : List Entry) (g : Grouping) → HasSizedTypes (Some g) → (k : ℕ) (o : Option GroupedColumn) → slice_get g.columns k ≡ o
+    → IsGood (Reaches entries (Some g)) (unwrap_or (option_map (λ (c : GroupedColumn). meaning.column k c.ty) o) meaning.null)
+grouped_at entries g s k None e = null_good (Reaches entries (Some g))
+grouped_at entries g s k (Some c) e =
+    let types = map (λ (d : GroupedColumn). d.ty) g.columns in
+    let is : slice_get types k ≡ Some c.ty = slice_get-map (λ (d : GroupedColumn). d.ty) g.columns k ∙ ap (option_map (λ (d : GroupedColumn). d.ty)) e in
+    column_there entries g s k c.ty (get_before types (map (λ (f : FunctionColumn). f.ty) g.functions) k c.ty is)
+
+pub grouped_good : (entries : List Entry) (g : Grouping) → HasSizedTypes (Some g) → (o : Option ℕ)
+    → IsGood (Reaches entries (Some g)) (unwrap_or (option_and_then (λ (k : ℕ). option_map (λ (c : GroupedColumn). meaning.column k c.ty) (slice_get g.columns k)) o) meaning.null)
+grouped_good entries g s None = null_good (Reaches entries (Some g))
+grouped_good entries g s (Some k) = grouped_at entries g s k (slice_get g.columns k) refl
+
+group_good : (entries : List Entry) (grouping : Option Grouping) → HasSizedTypes grouping → (e : meaning.Expression) → IsGood (IsAt entries) e → IsGood (Reaches entries grouping) (unwrap_or (in_group grouping e) meaning.null)
+group_good entries None s e h = h
+group_good entries (Some g) s (meaning.column i ty) h = grouped_good entries g s (position (λ (c : GroupedColumn). c.number == i) g.columns)
+group_good entries (Some g) s meaning.null h = null_good (Reaches entries (Some g))
+group_good entries (Some g) s (meaning.number v sc) h = null_good (Reaches entries (Some g))
+group_good entries (Some g) s (meaning.date d) h = null_good (Reaches entries (Some g))
+group_good entries (Some g) s (meaning.text t) h = null_good (Reaches entries (Some g))
+group_good entries (Some g) s (meaning.arithmetic operator a b) h = null_good (Reaches entries (Some g))
+group_good entries (Some g) s (meaning.negative a) h = null_good (Reaches entries (Some g))
+group_good entries (Some g) s (meaning.extract field a) h = null_good (Reaches entries (Some g))
+group_good entries (Some g) s (meaning.brought a sc) h = null_good (Reaches entries (Some g))
+group_good entries (Some g) s (meaning.choice c a b) h = null_good (Reaches entries (Some g))
+
+function_there : (entries : List Entry) (g : Grouping) → HasSizedTypes (Some g) → (k : ℕ) (o : Option FunctionColumn) → slice_get g.functions k ≡ o
+    → IsGood (Reaches entries (Some g)) (unwrap_or (option_map (λ (f : FunctionColumn). meaning.column (length g.columns + k) f.ty) o) meaning.null)
+function_there entries g s k None e = null_good (Reaches entries (Some g))
+function_there entries g s k (Some f) e =
+    let before = map (λ (c : GroupedColumn). c.ty) g.columns in
+    let types = map (λ (h : FunctionColumn). h.ty) g.functions in
+    let is : slice_get types k ≡ Some f.ty = slice_get-map (λ (h : FunctionColumn). h.ty) g.functions k ∙ ap (option_map (λ (h : FunctionColumn). h.ty)) e in
+    let count : length before ≡ length g.columns = length-map g.columns (λ (c : GroupedColumn). c.ty) in
+    let there : slice_get (types_in g) (length g.columns + k) ≡ Some f.ty = ap (λ (n : ℕ). slice_get (before ++ types) (n + k)) (sym count) ∙ get_behind before types k f.ty is in
+    column_there entries g s (length g.columns + k) f.ty there
+
+function_placed : (entries : List Entry) (g : Grouping) → HasSizedTypes (Some g) → (o : Option ℕ)
+    → IsGood (Reaches entries (Some g)) (unwrap_or (option_and_then (λ (k : ℕ). option_map (λ (f : FunctionColumn). meaning.column (length g.columns + k) f.ty) (slice_get g.functions k)) o) meaning.null)
+function_placed entries g s None = null_good (Reaches entries (Some g))
+function_placed entries g s (Some k) = function_there entries g s k (slice_get g.functions k) refl
+
+function_good : (entries : List Entry) (grouping : Option Grouping) → HasSizedTypes grouping → (place : ℕ) → IsGood (Reaches entries grouping) (function_meant grouping place)
+function_good entries None s place = null_good (IsAt entries)
+function_good entries (Some g) s place = function_placed entries g s (position (λ (f : FunctionColumn). f.place == place) g.functions)
 
 number_good : (Holds : ℕ → Ty → Type 0) (octets : List ℕ) → is_none (number_of octets) ≡ false → IsGood Holds (unwrap_or (number_of octets) meaning.null)
 number_good Holds octets h = elim (cases_Bool (is_short octets)) [
@@ -295,63 +388,66 @@ date_good Holds string intervals o e h =
 -- ---- every construct
 
 mutual
-  pub good : (scope : Scope) → AreSized scope → (e : Expression) → faults scope e ≡ [] → IsGood (IsAt scope) (meant scope e)
-  good scope s null h = null_good (IsAt scope)
-  good scope s (number octets) h = number_good (IsAt scope) octets (not_where (is_none (number_of octets)) _ octets h)
-  good scope s (text octets) h = text_good (IsAt scope) (string_value octets)
-  good scope s (date string intervals) h = date_good (IsAt scope) string intervals (date_of string intervals) refl (not_where (is_none (date_of string intervals)) _ string h)
+  pub good : (scope : Scope) → IsSizedScope scope → (e : Expression) → faults scope e ≡ [] → IsGood (HasColumn scope) (meant scope e)
+  good scope s null h = null_good (HasColumn scope)
+  good scope s (number octets) h = number_good (HasColumn scope) octets (not_where (is_none (number_of octets)) _ octets h)
+  good scope s (text octets) h = text_good (HasColumn scope) (string_value octets)
+  good scope s (date string intervals) h = date_good (HasColumn scope) string intervals (date_of string intervals) refl (not_where (is_none (date_of string intervals)) _ string h)
   good scope s (column qualifier name) h =
-      let es = referred scope (option_map name_of qualifier) (name_of name) in
-      let p = no_own (fault_where (not (is_known scope (option_map name_of qualifier))) UnknownTable (qualifier_of qualifier)) (counted_faults (name_of name) es) h in
-      only_good (IsAt scope) (name_of name) es p.1 (referred_good scope s (option_map name_of qualifier) (name_of name))
+      let es = referred scope.entries (option_map name_of qualifier) (name_of name) in
+      let p = no_own (reference_faults scope.entries qualifier name) (group_faults scope.grouping (name_of name) (first_of es)) h in
+      let q = no_own (fault_where (not (is_known scope.entries (option_map name_of qualifier))) UnknownTable (qualifier_of qualifier)) (counted_faults (name_of name) es) p.0 in
+      group_good scope.entries scope.grouping s.1 (first_of es) (only_good (IsAt scope.entries) (name_of name) es q.1 (referred_good scope.entries s.0 (option_map name_of qualifier) (name_of name)))
   good scope s (signed sign a) h =
       let p = no_own (faults scope a) _ h in
-      sign_good (IsAt scope) sign (meant scope a) (tested (is_number (kind_of (meant scope a))) _ _ p.1) (good scope s a p.0)
+      sign_good (HasColumn scope) sign (meant scope a) (tested (is_number (kind_of (meant scope a))) _ _ p.1) (good scope s a p.0)
   good scope s (arithmetic operator a b) h =
       let p = no_own (faults scope a ++ faults scope b) _ h in
       let q = no_both (faults scope a) (faults scope b) p.0 in
       let t = no_own (fault_where (not (is_number (kind_of (meant scope a)) && is_number (kind_of (meant scope b)))) Clash (first_token a)) _ p.1 in
       let n = and_parts (is_number (kind_of (meant scope a))) (is_number (kind_of (meant scope b))) (tested (is_number (kind_of (meant scope a)) && is_number (kind_of (meant scope b))) _ _ t.0) in
-      arithmetic_good (IsAt scope) operator (meant scope a) (meant scope b) n.0 n.1 (tested (is_allowed operator (meaning.scale_of (meant scope a)) (meaning.scale_of (meant scope b))) _ _ t.1) (good scope s a q.0) (good scope s b q.1)
+      arithmetic_good (HasColumn scope) operator (meant scope a) (meant scope b) n.0 n.1 (tested (is_allowed operator (meaning.scale_of (meant scope a)) (meaning.scale_of (meant scope b))) _ _ t.1) (good scope s a q.0) (good scope s b q.1)
   good scope s (extract field a) h =
       let p = no_own (faults scope a) _ h in
-      extract_good (IsAt scope) field (meant scope a) (tested (is_date (kind_of (meant scope a))) _ _ p.1) (good scope s a p.0)
+      extract_good (HasColumn scope) field (meant scope a) (tested (is_date (kind_of (meant scope a))) _ _ p.1) (good scope s a p.0)
   good scope s (searched_case branches) h =
       let p = no_own (choices_faults scope branches) _ h in
-      case_good (IsAt scope) (choices scope branches) (choices_good scope s branches p.0) (case_tested (first_of_branches branches) (choices scope branches) p.1)
+      case_good (HasColumn scope) (choices scope branches) (choices_good scope s branches p.0) (case_tested (first_of_branches branches) (choices scope branches) p.1)
   good scope s (simple_case x branches) h =
       let p = no_own (faults scope x) _ h in
       let q = no_own (branch_faults (first_token x) branches ++ matches_faults scope (first_token x) (meant scope x) branches) _ p.1 in
       let t = no_both (branch_faults (first_token x) branches) (matches_faults scope (first_token x) (meant scope x) branches) q.0 in
-      case_good (IsAt scope) (matches scope (meant scope x) branches) (matches_good scope s (first_token x) (meant scope x) (good scope s x p.0) branches t.1) (case_tested (first_token x) (matches scope (meant scope x) branches) q.1)
+      case_good (HasColumn scope) (matches scope (meant scope x) branches) (matches_good scope s (first_token x) (meant scope x) (good scope s x p.0) branches t.1) (case_tested (first_token x) (matches scope (meant scope x) branches) q.1)
   good scope s (coalesce es) h =
       let p = no_own (all_faults scope es) _ h in
-      case_good (IsAt scope) (meaning.coalesced (all_meant scope es)) (coalesced_good (IsAt scope) (all_meant scope es) (all_good scope s es p.0)) (case_tested (first_of_all es) (meaning.coalesced (all_meant scope es)) p.1)
+      case_good (HasColumn scope) (meaning.coalesced (all_meant scope es)) (coalesced_good (HasColumn scope) (all_meant scope es) (all_good scope s es p.0)) (case_tested (first_of_all es) (meaning.coalesced (all_meant scope es)) p.1)
   good scope s (null_if a b) h =
       let p = no_own (faults scope a ++ faults scope b) _ h in
       let q = no_both (faults scope a) (faults scope b) p.0 in
-      null_if_good (IsAt scope) (meant scope a) (meant scope b) (tested (are_comparable (kind_of (meant scope a)) (kind_of (meant scope b))) _ _ p.1) (good scope s a q.0) (good scope s b q.1)
+      null_if_good (HasColumn scope) (meant scope a) (meant scope b) (tested (are_comparable (kind_of (meant scope a)) (kind_of (meant scope b))) _ _ p.1) (good scope s a q.0) (good scope s b q.1)
+  good scope s (count_rows place) h = function_good scope.entries scope.grouping s.1 place
+  good scope s (set_function place f a) h = function_good scope.entries scope.grouping s.1 place
 
-  pub condition_good : (scope : Scope) → AreSized scope → (c : Condition) → condition_faults scope c ≡ [] → IsGoodCondition (IsAt scope) (condition_meant scope c)
+  pub condition_good : (scope : Scope) → IsSizedScope scope → (c : Condition) → condition_faults scope c ≡ [] → IsGoodCondition (HasColumn scope) (condition_meant scope c)
   condition_good scope s (comparison op a b) h =
       let p = no_own (faults scope a ++ faults scope b) _ h in
       let q = no_both (faults scope a) (faults scope b) p.0 in
-      comparison_good (IsAt scope) op (meant scope a) (meant scope b) (tested (are_comparable (kind_of (meant scope a)) (kind_of (meant scope b))) _ _ p.1) (good scope s a q.0) (good scope s b q.1)
+      comparison_good (HasColumn scope) op (meant scope a) (meant scope b) (tested (are_comparable (kind_of (meant scope a)) (kind_of (meant scope b))) _ _ p.1) (good scope s a q.0) (good scope s b q.1)
   condition_good scope s (between negated x a b) h =
       let p = no_own (faults scope x ++ (faults scope a ++ faults scope b)) _ h in
       let q = no_both (faults scope x) (faults scope a ++ faults scope b) p.0 in
       let r = no_both (faults scope a) (faults scope b) q.1 in
       let t = no_both (comparison_faults (first_token x) (meant scope x) (meant scope a)) (comparison_faults (first_token x) (meant scope x) (meant scope b)) p.1 in
-      not_good (IsAt scope) negated _ (between_good (IsAt scope) (meant scope x) (meant scope a) (meant scope b)
+      not_good (HasColumn scope) negated _ (between_good (HasColumn scope) (meant scope x) (meant scope a) (meant scope b)
       (tested (are_comparable (kind_of (meant scope x)) (kind_of (meant scope a))) _ _ t.0) (tested (are_comparable (kind_of (meant scope x)) (kind_of (meant scope b))) _ _ t.1)
       (good scope s x q.0) (good scope s a r.0) (good scope s b r.1))
   condition_good scope s (among negated x es) h =
       let p = no_own (faults scope x ++ all_faults scope es) _ h in
       let q = no_both (faults scope x) (all_faults scope es) p.0 in
-      not_good (IsAt scope) negated _ (among_good (IsAt scope) (first_token x) (meant scope x) (all_meant scope es) p.1 (good scope s x q.0) (all_good scope s es q.1))
+      not_good (HasColumn scope) negated _ (among_good (HasColumn scope) (first_token x) (meant scope x) (all_meant scope es) p.1 (good scope s x q.0) (all_good scope s es q.1))
   condition_good scope s (is_null negated a) h =
       let g = good scope s a h in
-      not_good (IsAt scope) negated _ (record { typed = g.typed; columns = g.columns })
+      not_good (HasColumn scope) negated _ (record { typed = g.typed; columns = g.columns })
   condition_good scope s (both c d) h =
       let q = no_both (condition_faults scope c) (condition_faults scope d) h in
       let x = condition_good scope s c q.0 in
@@ -363,14 +459,14 @@ mutual
       let y = condition_good scope s d q.1 in
       record { typed = (x.typed, y.typed); columns = (x.columns, y.columns) }
   condition_good scope s (negation_of c) h = let x = condition_good scope s c h in record { typed = x.typed; columns = x.columns }
-  condition_good scope s (is negated c t) h = let x = condition_good scope s c h in not_good (IsAt scope) negated _ (record { typed = x.typed; columns = x.columns })
+  condition_good scope s (is negated c t) h = let x = condition_good scope s c h in not_good (HasColumn scope) negated _ (record { typed = x.typed; columns = x.columns })
   condition_good scope s (bracketed c) h = condition_good scope s c h
 
-  pub all_good : (scope : Scope) → AreSized scope → (es : Expressions) → all_faults scope es ≡ [] → AllGood (IsAt scope) (all_meant scope es)
+  pub all_good : (scope : Scope) → IsSizedScope scope → (es : Expressions) → all_faults scope es ≡ [] → AllGood (HasColumn scope) (all_meant scope es)
   all_good scope s (last e) h = good scope s e h
   all_good scope s (further e es) h = let q = no_both (faults scope e) (all_faults scope es) h in (good scope s e q.0, all_good scope s es q.1)
 
-  pub choices_good : (scope : Scope) → AreSized scope → (branches : Branching) → choices_faults scope branches ≡ [] → AreGood (IsAt scope) (choices scope branches)
+  pub choices_good : (scope : Scope) → IsSizedScope scope → (branches : Branching) → choices_faults scope branches ≡ [] → AreGood (HasColumn scope) (choices scope branches)
   choices_good scope s (otherwise e) h = good scope s e h
   choices_good scope s (when (condition c) e rest) h =
       let q = no_both (condition_faults scope c) (faults scope e ++ choices_faults scope rest) h in
@@ -378,12 +474,12 @@ mutual
       (condition_good scope s c q.0, (good scope s e r.0, choices_good scope s rest r.1))
   choices_good scope s (when (expression v) e rest) h = absurd cc
 
-  pub matches_good : (scope : Scope) → AreSized scope → (token : List ℕ) (x : meaning.Expression) → IsGood (IsAt scope) x → (branches : Branching) → matches_faults scope token x branches ≡ []
-      → AreGood (IsAt scope) (matches scope x branches)
+  pub matches_good : (scope : Scope) → IsSizedScope scope → (token : List ℕ) (x : meaning.Expression) → IsGood (HasColumn scope) x → (branches : Branching) → matches_faults scope token x branches ≡ []
+      → AreGood (HasColumn scope) (matches scope x branches)
   matches_good scope s token x g (otherwise e) h = good scope s e h
   matches_good scope s token x g (when (condition c) e rest) h = absurd cc
   matches_good scope s token x g (when (expression v) e rest) h =
       let q = no_both (or_own (faults scope v) (comparison_faults token x (meant scope v))) (faults scope e ++ matches_faults scope token x rest) h in
       let p = no_own (faults scope v) _ q.0 in
       let r = no_both (faults scope e) (matches_faults scope token x rest) q.1 in
-      (comparison_good (IsAt scope) Equal x (meant scope v) (tested (are_comparable (kind_of x) (kind_of (meant scope v))) _ _ p.1) g (good scope s v p.0), (good scope s e r.0, matches_good scope s token x g rest r.1))
+      (comparison_good (HasColumn scope) Equal x (meant scope v) (tested (are_comparable (kind_of x) (kind_of (meant scope v))) _ _ p.1) g (good scope s v p.0), (good scope s e r.0, matches_good scope s token x g rest r.1))

@@ -11,18 +11,18 @@ use Rattle.qw_scalar.specs.declared.expression.Cond.{Cond}
 use Rattle.qw_scalar.specs.Nodes as typed
 use Rattle.qw_ast.specs.declared.script.Joined as coded_join
 use Rattle.qw_ast.specs.declared.script.Source as coded_source
-use Rattle.qw_ast.specs.Limits.{entries_in, entries_of, octets_condition, over_joins, over_sources}
+use Rattle.qw_ast.specs.Limits.{entries_in, entries_of, over_joins, over_sources}
 use Rattle.qw_ast.specs.Syntax.{Joined, Source}
 use Rattle.qw_ast.specs.SyntaxTree as syntax
 use Rattle.qw_ast.proofs.StatementLemmas.{drop_next}
 use Rattle.qw_typer.specs.declared.refusal.Refusal.{Refusal}
 use Rattle.qw_typer.specs.declared.scope.Entry.{Entry as CodeEntry}
 use Rattle.qw_typer.specs.Faults.{Fault}
-use Rattle.qw_typer.specs.Meant.{Scope}
+use Rattle.qw_typer.specs.Meant.{Entry}
 use Rattle.qw_typer.specs.Typed.{entry_meant}
 use Rattle.qw_typer.specs.Sizes.{tests_in, tests_on, text_octets_of}
-use Rattle.qw_typer.specs.Inner.Sizes.{FitsTests, nodes_condition}
-use Rattle.qw_typer.specs.Inner.Typing.{◌>>=◌, Refuses, as_entry, in_reach, typed_joined, typed_joins, typed_source, typed_sources}
+use Rattle.qw_typer.specs.Inner.Sizes.{FitsTests, nodes_condition, octets_condition}
+use Rattle.qw_typer.specs.Inner.Typing.{◌>>=◌, Refuses, as_entries, as_entry, typed_joined, typed_joins, typed_source, typed_sources}
 use Rattle.qw_typer.proofs.OutcomeLemmas.{refuses_then}
 use Rattle.qw_typer.proofs.StepLemmas.{push_length, push_map}
 
@@ -30,57 +30,57 @@ use Rattle.qw_typer.proofs.StepLemmas.{push_length, push_map}
 
 -- behind those that are made come those of the rest
 abbrev pub AfterJoins : List CodeEntry → List made_join.Joined → List Joined → Result (List specified.Joined) Fault
-AfterJoins own made rest = typed_joins (in_reach (take (length made + 1) own)) (in_reach (drop (length made + 1) own)) rest >>= (λ xs. Ok (map joined_of made ++ xs))
+AfterJoins own made rest = typed_joins (as_entries (take (length made + 1) own)) (as_entries (drop (length made + 1) own)) rest >>= (λ xs. Ok (map joined_of made ++ xs))
 
 -- what the next join reaches, and the entries behind its own
 joins_split : (own : List CodeEntry) (n : ℕ) (e : CodeEntry) (j : Joined) (joins : List Joined) → n < length own → e ≡ get_or own n e
-    → typed_joins (in_reach (take n own)) (in_reach (drop n own)) (j ∷ joins)
-    ≡ (typed_joined (in_reach (take (n + 1) own)) (as_entry e) j >>= (λ x. typed_joins (in_reach (take (n + 1) own)) (in_reach (drop (n + 1) own)) joins >>= (λ xs. Ok (x ∷ xs))))
+    → typed_joins (as_entries (take n own)) (as_entries (drop n own)) (j ∷ joins)
+    ≡ (typed_joined (as_entries (take (n + 1) own)) (as_entry e) j >>= (λ x. typed_joins (as_entries (take (n + 1) own)) (as_entries (drop (n + 1) own)) joins >>= (λ xs. Ok (x ∷ xs))))
 joins_split own n e j joins lt is =
     let behind : drop n own ≡ e ∷ drop (n + 1) own = drop_next own n e lt ∙ ap (λ (f : CodeEntry). f ∷ drop (n + 1) own) (sym is) in
-    let reach : in_reach (take (n + 1) own) ≡ in_reach (take n own) ++ as_entry e ∷ [] =
-    ap in_reach (take_more own n e lt ∙ ap (λ (f : CodeEntry). take n own ++ f ∷ []) (sym is)) ∙ map-append as_entry (take n own) (e ∷ []) in
-    ap (λ (es : List CodeEntry). typed_joins (in_reach (take n own)) (in_reach es) (j ∷ joins)) behind
-    ∙ ap (λ (scope : Scope). typed_joined scope (as_entry e) j >>= (λ x. typed_joins scope (in_reach (drop (n + 1) own)) joins >>= (λ xs. Ok (x ∷ xs)))) (sym reach)
+    let reach : as_entries (take (n + 1) own) ≡ as_entries (take n own) ++ as_entry e ∷ [] =
+    ap as_entries (take_more own n e lt ∙ ap (λ (f : CodeEntry). take n own ++ f ∷ []) (sym is)) ∙ map-append as_entry (take n own) (e ∷ []) in
+    ap (λ (es : List CodeEntry). typed_joins (as_entries (take n own)) (as_entries es) (j ∷ joins)) behind
+    ∙ ap (λ (scope : List Entry). typed_joined scope (as_entry e) j >>= (λ x. typed_joins scope (as_entries (drop (n + 1) own)) joins >>= (λ xs. Ok (x ∷ xs)))) (sym reach)
 
 one_more : (made made' : List made_join.Joined) (x : made_join.Joined) → made' ≡ made ++ x ∷ [] → length made' + 1 ≡ length made + 1 + 1
 one_more made made' x more = let a = ap (λ (xs : List made_join.Joined). length xs) more in let b = push_length made x in omega (arith, a, b)
 
 pub joins_kept : (own : List CodeEntry) (n : ℕ) (e : CodeEntry) (made made' : List made_join.Joined) (x : made_join.Joined) (rest rest' : List coded_join.Joined) (j : coded_join.Joined) (all : Result (List specified.Joined) Fault)
-    → n ≡ length made + 1 → n < length own → e ≡ get_or own n e → rest ≡ j ∷ rest' → made' ≡ made ++ x ∷ [] → typed_joined (in_reach (take (n + 1) own)) (as_entry e) (syntax.joined_of j) ≡ Ok (joined_of x)
+    → n ≡ length made + 1 → n < length own → e ≡ get_or own n e → rest ≡ j ∷ rest' → made' ≡ made ++ x ∷ [] → typed_joined (as_entries (take (n + 1) own)) (as_entry e) (syntax.joined_of j) ≡ Ok (joined_of x)
     → all ≡ AfterJoins own made (map syntax.joined_of rest) → all ≡ AfterJoins own made' (map syntax.joined_of rest')
 joins_kept own n e made made' x rest rest' j all number lt is first more gives before =
     let w = syntax.joined_of j in
     let others = map syntax.joined_of rest' in
     let at : length made + 1 ≡ n = sym number in
     let count : length made' + 1 ≡ n + 1 = one_more made made' x more ∙ ap (λ (k : ℕ). k + 1) at in
-    let r = typed_joins (in_reach (take (n + 1) own)) (in_reach (drop (n + 1) own)) others in
+    let r = typed_joins (as_entries (take (n + 1) own)) (as_entries (drop (n + 1) own)) others in
     let from : all ≡ AfterJoins own made (w ∷ others) = rw first at before in
     from
-    ∙ ap (λ (k : ℕ). typed_joins (in_reach (take k own)) (in_reach (drop k own)) (w ∷ others) >>= (λ xs. Ok (map joined_of made ++ xs))) at
+    ∙ ap (λ (k : ℕ). typed_joins (as_entries (take k own)) (as_entries (drop k own)) (w ∷ others) >>= (λ xs. Ok (map joined_of made ++ xs))) at
     ∙ ap (λ (q : Result (List specified.Joined) Fault). q >>= (λ xs. Ok (map joined_of made ++ xs))) (joins_split own n e w others lt is ∙ ap (λ (q : Result specified.Joined Fault). q >>= (λ y. r >>= (λ ys. Ok (y ∷ ys)))) gives)
     ∙ added r
-    ∙ ap (λ (k : ℕ). typed_joins (in_reach (take k own)) (in_reach (drop k own)) others >>= (λ xs. Ok (map joined_of made' ++ xs))) (sym count)
+    ∙ ap (λ (k : ℕ). typed_joins (as_entries (take k own)) (as_entries (drop k own)) others >>= (λ xs. Ok (map joined_of made' ++ xs))) (sym count)
   where
     added : (r : Result (List specified.Joined) Fault) → ((r >>= (λ xs. Ok (joined_of x ∷ xs))) >>= (λ xs. Ok (map joined_of made ++ xs))) ≡ (r >>= (λ xs. Ok (map joined_of made' ++ xs)))
     added (Ok xs) = ap Ok (sym (ap (λ (ms : List made_join.Joined). map joined_of ms ++ xs) more ∙ push_map joined_of made x xs))
     added (Err f) = refl
 
 pub joins_refused : (r : Refusal) (own : List CodeEntry) (n : ℕ) (e : CodeEntry) (made : List made_join.Joined) (rest rest' : List coded_join.Joined) (j : coded_join.Joined) (all : Result (List specified.Joined) Fault)
-    → n ≡ length made + 1 → n < length own → e ≡ get_or own n e → rest ≡ j ∷ rest' → all ≡ AfterJoins own made (map syntax.joined_of rest) → Refuses r (typed_joined (in_reach (take (n + 1) own)) (as_entry e) (syntax.joined_of j)) → Refuses r all
+    → n ≡ length made + 1 → n < length own → e ≡ get_or own n e → rest ≡ j ∷ rest' → all ≡ AfterJoins own made (map syntax.joined_of rest) → Refuses r (typed_joined (as_entries (take (n + 1) own)) (as_entry e) (syntax.joined_of j)) → Refuses r all
 joins_refused r own n e made rest rest' j all number lt is first before refused =
     let w = syntax.joined_of j in
     let others = map syntax.joined_of rest' in
     let from : all ≡ AfterJoins own made (w ∷ others) = rw first at before in
     let whole = from
-    ∙ ap (λ (k : ℕ). typed_joins (in_reach (take k own)) (in_reach (drop k own)) (w ∷ others) >>= (λ xs. Ok (map joined_of made ++ xs))) (sym number)
+    ∙ ap (λ (k : ℕ). typed_joins (as_entries (take k own)) (as_entries (drop k own)) (w ∷ others) >>= (λ xs. Ok (map joined_of made ++ xs))) (sym number)
     ∙ ap (λ (q : Result (List specified.Joined) Fault). q >>= (λ xs. Ok (map joined_of made ++ xs))) (joins_split own n e w others lt is) in
     rw whole
-    (refuses_then r (typed_joined (in_reach (take (n + 1) own)) (as_entry e) w >>= (λ x. typed_joins (in_reach (take (n + 1) own)) (in_reach (drop (n + 1) own)) others >>= (λ xs. Ok (x ∷ xs)))) (λ xs. Ok (map joined_of made ++ xs))
-    (refuses_then r (typed_joined (in_reach (take (n + 1) own)) (as_entry e) w) (λ x. typed_joins (in_reach (take (n + 1) own)) (in_reach (drop (n + 1) own)) others >>= (λ xs. Ok (x ∷ xs))) refused))
+    (refuses_then r (typed_joined (as_entries (take (n + 1) own)) (as_entry e) w >>= (λ x. typed_joins (as_entries (take (n + 1) own)) (as_entries (drop (n + 1) own)) others >>= (λ xs. Ok (x ∷ xs)))) (λ xs. Ok (map joined_of made ++ xs))
+    (refuses_then r (typed_joined (as_entries (take (n + 1) own)) (as_entry e) w) (λ x. typed_joins (as_entries (take (n + 1) own)) (as_entries (drop (n + 1) own)) others >>= (λ xs. Ok (x ∷ xs))) refused))
 
-pub joins_first : (own : List CodeEntry) (joins : List Joined) → typed_joins (in_reach (take 1 own)) (in_reach (drop 1 own)) joins ≡ AfterJoins own [] joins
-joins_first own joins = same (typed_joins (in_reach (take 1 own)) (in_reach (drop 1 own)) joins)
+pub joins_first : (own : List CodeEntry) (joins : List Joined) → typed_joins (as_entries (take 1 own)) (as_entries (drop 1 own)) joins ≡ AfterJoins own [] joins
+joins_first own joins = same (typed_joins (as_entries (take 1 own)) (as_entries (drop 1 own)) joins)
   where
     same : (r : Result (List specified.Joined) Fault) → r ≡ (r >>= (λ xs. Ok ([] ++ xs)))
     same (Ok xs) = refl
@@ -93,23 +93,23 @@ joins_end own made (j ∷ rest) all none h = absurd (omega (arith, none))
 -- ---- a source
 
 pub source_gives : (own : List CodeEntry) (e : CodeEntry) (source : coded_source.Source) (joins : List made_join.Joined) (first : specified.Entry) (made : made_source.Source) → 0 < length own → e ≡ get_or own 0 e
-    → typed_joins (in_reach (take 1 own)) (in_reach (drop 1 own)) (map syntax.joined_of source.joins.items) ≡ Ok (map joined_of joins) → source_of made ≡ record { first = entry_meant (as_entry e); joins = map joined_of joins }
-    → typed_source (in_reach own) (syntax.source_of source) ≡ Ok (source_of made)
+    → typed_joins (as_entries (take 1 own)) (as_entries (drop 1 own)) (map syntax.joined_of source.joins.items) ≡ Ok (map joined_of joins) → source_of made ≡ record { first = entry_meant (as_entry e); joins = map joined_of joins }
+    → typed_source (as_entries own) (syntax.source_of source) ≡ Ok (source_of made)
 source_gives [] e source joins first made some is gives same = absurd (omega (arith, some))
 source_gives (f ∷ own) e source joins first made some is gives same =
     ap (λ (q : Result (List specified.Joined) Fault). q >>= (λ js. Ok (record { first = entry_meant (as_entry f); joins = js }))) gives
     ∙ ap (λ (g : CodeEntry). Ok (record { first = entry_meant (as_entry g); joins = map joined_of joins })) (sym is) ∙ ap Ok (sym same)
 
-pub source_refused : (r : Refusal) (own : List CodeEntry) (source : coded_source.Source) → 0 < length own → Refuses r (typed_joins (in_reach (take 1 own)) (in_reach (drop 1 own)) (map syntax.joined_of source.joins.items))
-    → Refuses r (typed_source (in_reach own) (syntax.source_of source))
+pub source_refused : (r : Refusal) (own : List CodeEntry) (source : coded_source.Source) → 0 < length own → Refuses r (typed_joins (as_entries (take 1 own)) (as_entries (drop 1 own)) (map syntax.joined_of source.joins.items))
+    → Refuses r (typed_source (as_entries own) (syntax.source_of source))
 source_refused r [] source some refused = absurd (omega (arith, some))
 source_refused r (f ∷ own) source some refused =
-    refuses_then r (typed_joins (as_entry f ∷ []) (in_reach own) (map syntax.joined_of source.joins.items)) (λ js. Ok (record { first = entry_meant (as_entry f); joins = js })) refused
+    refuses_then r (typed_joins (as_entry f ∷ []) (as_entries own) (map syntax.joined_of source.joins.items)) (λ js. Ok (record { first = entry_meant (as_entry f); joins = js })) refused
 
 -- ---- sources
 
 abbrev pub AfterSources : List CodeEntry → List made_source.Source → List Source → Result (List specified.Source) Fault
-AfterSources entries made rest = typed_sources (in_reach entries) rest >>= (λ xs. Ok (map source_of made ++ xs))
+AfterSources entries made rest = typed_sources (as_entries entries) rest >>= (λ xs. Ok (map source_of made ++ xs))
 
 -- how many entries a source has
 pub own_count : (source : coded_source.Source) → length (entries_in (syntax.source_of source)) ≡ length source.joins.items + 1
@@ -119,23 +119,23 @@ own_count source =
     omega (arith, a, b)
 
 sources_split : (entries own behind : List CodeEntry) (source : coded_source.Source) (sources : List Source) → own ≡ take (length source.joins.items + 1) entries → behind ≡ drop (length source.joins.items + 1) entries
-    → typed_sources (in_reach entries) (syntax.source_of source ∷ sources)
-    ≡ (typed_source (in_reach own) (syntax.source_of source) >>= (λ x. typed_sources (in_reach behind) sources >>= (λ xs. Ok (x ∷ xs))))
+    → typed_sources (as_entries entries) (syntax.source_of source ∷ sources)
+    ≡ (typed_source (as_entries own) (syntax.source_of source) >>= (λ x. typed_sources (as_entries behind) sources >>= (λ xs. Ok (x ∷ xs))))
 sources_split entries own behind source sources o b =
     let w = syntax.source_of source in
     let n = length source.joins.items + 1 in
     let count = own_count source in
-    let own_is : take (length (entries_in w)) (in_reach entries) ≡ in_reach own = ap (λ (k : ℕ). take k (in_reach entries)) count ∙ take-map as_entry n entries ∙ ap in_reach (sym o) in
-    let behind_is : drop (length (entries_in w)) (in_reach entries) ≡ in_reach behind = ap (λ (k : ℕ). drop k (in_reach entries)) count ∙ drop-map as_entry n entries ∙ ap in_reach (sym b) in
-    ap (λ (scope : Scope). typed_source scope w >>= (λ x. typed_sources (drop (length (entries_in w)) (in_reach entries)) sources >>= (λ xs. Ok (x ∷ xs)))) own_is
-    ∙ ap (λ (scope : Scope). typed_source (in_reach own) w >>= (λ x. typed_sources scope sources >>= (λ xs. Ok (x ∷ xs)))) behind_is
+    let own_is : take (length (entries_in w)) (as_entries entries) ≡ as_entries own = ap (λ (k : ℕ). take k (as_entries entries)) count ∙ take-map as_entry n entries ∙ ap as_entries (sym o) in
+    let behind_is : drop (length (entries_in w)) (as_entries entries) ≡ as_entries behind = ap (λ (k : ℕ). drop k (as_entries entries)) count ∙ drop-map as_entry n entries ∙ ap as_entries (sym b) in
+    ap (λ (scope : List Entry). typed_source scope w >>= (λ x. typed_sources (drop (length (entries_in w)) (as_entries entries)) sources >>= (λ xs. Ok (x ∷ xs)))) own_is
+    ∙ ap (λ (scope : List Entry). typed_source (as_entries own) w >>= (λ x. typed_sources scope sources >>= (λ xs. Ok (x ∷ xs)))) behind_is
 
 pub sources_kept : (entries own behind : List CodeEntry) (made made' : List made_source.Source) (x : made_source.Source) (rest rest' : List coded_source.Source) (s : coded_source.Source) (all : Result (List specified.Source) Fault)
-    → own ≡ take (length s.joins.items + 1) entries → behind ≡ drop (length s.joins.items + 1) entries → rest ≡ s ∷ rest' → made' ≡ made ++ x ∷ [] → typed_source (in_reach own) (syntax.source_of s) ≡ Ok (source_of x)
+    → own ≡ take (length s.joins.items + 1) entries → behind ≡ drop (length s.joins.items + 1) entries → rest ≡ s ∷ rest' → made' ≡ made ++ x ∷ [] → typed_source (as_entries own) (syntax.source_of s) ≡ Ok (source_of x)
     → all ≡ AfterSources entries made (map syntax.source_of rest) → all ≡ AfterSources behind made' (map syntax.source_of rest')
 sources_kept entries own behind made made' x rest rest' s all o b first more gives before =
     let others = map syntax.source_of rest' in
-    let r = typed_sources (in_reach behind) others in
+    let r = typed_sources (as_entries behind) others in
     let from : all ≡ AfterSources entries made (syntax.source_of s ∷ others) = rw first at before in
     from
     ∙ ap (λ (q : Result (List specified.Source) Fault). q >>= (λ xs. Ok (map source_of made ++ xs))) (sources_split entries own behind s others o b ∙ ap (λ (q : Result specified.Source Fault). q >>= (λ y. r >>= (λ ys. Ok (y ∷ ys)))) gives)
@@ -146,18 +146,18 @@ sources_kept entries own behind made made' x rest rest' s all o b first more giv
     added (Err f) = refl
 
 pub sources_refused : (r : Refusal) (entries own : List CodeEntry) (made : List made_source.Source) (rest rest' : List coded_source.Source) (s : coded_source.Source) (all : Result (List specified.Source) Fault)
-    → own ≡ take (length s.joins.items + 1) entries → rest ≡ s ∷ rest' → all ≡ AfterSources entries made (map syntax.source_of rest) → Refuses r (typed_source (in_reach own) (syntax.source_of s)) → Refuses r all
+    → own ≡ take (length s.joins.items + 1) entries → rest ≡ s ∷ rest' → all ≡ AfterSources entries made (map syntax.source_of rest) → Refuses r (typed_source (as_entries own) (syntax.source_of s)) → Refuses r all
 sources_refused r entries own made rest rest' s all o first before refused =
     let others = map syntax.source_of rest' in
     let behind = drop (length s.joins.items + 1) entries in
     let from : all ≡ AfterSources entries made (syntax.source_of s ∷ others) = rw first at before in
     let whole = from ∙ ap (λ (q : Result (List specified.Source) Fault). q >>= (λ xs. Ok (map source_of made ++ xs))) (sources_split entries own behind s others o refl) in
     rw whole
-    (refuses_then r (typed_source (in_reach own) (syntax.source_of s) >>= (λ x. typed_sources (in_reach behind) others >>= (λ xs. Ok (x ∷ xs)))) (λ xs. Ok (map source_of made ++ xs))
-    (refuses_then r (typed_source (in_reach own) (syntax.source_of s)) (λ x. typed_sources (in_reach behind) others >>= (λ xs. Ok (x ∷ xs))) refused))
+    (refuses_then r (typed_source (as_entries own) (syntax.source_of s) >>= (λ x. typed_sources (as_entries behind) others >>= (λ xs. Ok (x ∷ xs)))) (λ xs. Ok (map source_of made ++ xs))
+    (refuses_then r (typed_source (as_entries own) (syntax.source_of s)) (λ x. typed_sources (as_entries behind) others >>= (λ xs. Ok (x ∷ xs))) refused))
 
-pub sources_first : (entries : List CodeEntry) (sources : List Source) → typed_sources (in_reach entries) sources ≡ AfterSources entries [] sources
-sources_first entries sources = same (typed_sources (in_reach entries) sources)
+pub sources_first : (entries : List CodeEntry) (sources : List Source) → typed_sources (as_entries entries) sources ≡ AfterSources entries [] sources
+sources_first entries sources = same (typed_sources (as_entries entries) sources)
   where
     same : (r : Result (List specified.Source) Fault) → r ≡ (r >>= (λ xs. Ok ([] ++ xs)))
     same (Ok xs) = refl

@@ -9,14 +9,14 @@ use Rattle.qw_types.specs.declared.schema.Table.{Table}
 use Rattle.qw_scalar.specs.declared.expression.Expr.{Expr}
 use Rattle.qw_scalar.specs.declared.expression.Expr.TheVariants as expr
 use Rattle.qw_scalar.specs.Expression as meaning
-use Rattle.qw_meaning.specs.Query.{query_of}
+use Rattle.qw_grouped.specs.WholeQuery.{whole_of}
 use Rattle.qw_scalar.specs.Tree.{expression_of}
 use Rattle.qw_ast.specs.declared.script.Item.{Item}
 use Rattle.qw_ast.specs.declared.script.Statement.{Statement}
 use Rattle.qw_ast.specs.Limits.{IsQuery}
 use Rattle.qw_ast.specs.SyntaxTree as syntax
 use Rattle.qw_ast.specs.SyntaxTree.{select_of}
-use Rattle.qw_ast.specs.Syntax.{Select, SelectItem, all_columns}
+use Rattle.qw_ast.specs.Syntax.{Select, SelectItem}
 use Rattle.qw_ast.proofs.StatementLemmas.{drop_next}
 use Rattle.qw_typer.specs.declared.fault.TypeFault.{TypeFault}
 use Rattle.qw_typer.specs.declared.fault.TypeFault.TheVariants as type_fault
@@ -28,8 +28,8 @@ use Rattle.qw_typer.specs.Meanings.{AreMeant}
 use Rattle.qw_typer.specs.declared.scope.Entry.{Entry as CodeEntry}
 use Rattle.qw_typer.specs.Meant.{Scope}
 use Rattle.qw_typer.specs.Inner.Queries.{IsFaultOf, IsOneOf}
-use Rattle.qw_typer.specs.Typed.{HasFirstFault, Means, columns_from, item_name, item_names, items_meant, query_faults, result_names}
-use Rattle.qw_typer.specs.Inner.Typing.{◌>>=◌, Refuses, in_reach, spelled, typed_item, typed_items}
+use Rattle.qw_typer.specs.Typed.{HasFirstFault, Means, column_names, columns_from, columns_meant, item_name, item_names, query_faults}
+use Rattle.qw_typer.specs.Inner.Typing.{◌>>=◌, Refuses, as_entries, spelled, typed_item, typed_items}
 use Rattle.qw_typer.proofs.OutcomeLemmas.{refuses_then}
 
 pub push_map : {A B : Type 0} (f : A → B) (xs : List A) (x : A) (ys : List B) → map f (xs ++ x ∷ []) ++ ys ≡ map f xs ++ f x ∷ ys
@@ -80,13 +80,13 @@ columns_end columns i number made all le h =
 
 -- the columns of one entry more
 pub entry_columns : (made made' : List Expr) (rest rest' : List CodeEntry) (e : CodeEntry) (all : List meaning.Expression) → rest ≡ e ∷ rest' → map expression_of made' ≡ map expression_of made ++ columns_from (64 * e.number) e.columns.now
-    → map expression_of made ++ items_meant (in_reach rest) all_columns ≡ all → map expression_of made' ++ items_meant (in_reach rest') all_columns ≡ all
+    → map expression_of made ++ columns_meant (as_entries rest) ≡ all → map expression_of made' ++ columns_meant (as_entries rest') ≡ all
 entry_columns made made' rest rest' e all first more before =
-    let others = items_meant (in_reach rest') all_columns in
+    let others = columns_meant (as_entries rest') in
     ap (λ es. es ++ others) more ∙ append_assoc (map expression_of made) (columns_from (64 * e.number) e.columns.now) others
-    ∙ sym (ap (λ (es : List CodeEntry). map expression_of made ++ items_meant (in_reach es) all_columns) first) ∙ before
+    ∙ sym (ap (λ (es : List CodeEntry). map expression_of made ++ columns_meant (as_entries es)) first) ∙ before
 
-pub entries_columns : (made : List Expr) (rest : List CodeEntry) (all : List meaning.Expression) → length rest < 1 → map expression_of made ++ items_meant (in_reach rest) all_columns ≡ all → map expression_of made ≡ all
+pub entries_columns : (made : List Expr) (rest : List CodeEntry) (all : List meaning.Expression) → length rest < 1 → map expression_of made ++ columns_meant (as_entries rest) ≡ all → map expression_of made ≡ all
 entries_columns made [] all none h = sym (append-nil (map expression_of made)) ∙ h
 entries_columns made (e ∷ rest) all none h = absurd (omega (arith, none))
 
@@ -104,13 +104,13 @@ names_end columns i names all le h =
 
 -- the names of one entry more
 pub entry_names : (names names' : List (List ℕ)) (rest rest' : List CodeEntry) (e : CodeEntry) (all : List (List ℕ)) → rest ≡ e ∷ rest' → names' ≡ names ++ map (λ (c : Column). c.name) e.columns.now
-    → names ++ result_names (in_reach rest) all_columns ≡ all → names' ++ result_names (in_reach rest') all_columns ≡ all
+    → names ++ column_names (as_entries rest) ≡ all → names' ++ column_names (as_entries rest') ≡ all
 entry_names names names' rest rest' e all first more before =
-    let others = result_names (in_reach rest') all_columns in
+    let others = column_names (as_entries rest') in
     ap (λ ns. ns ++ others) more ∙ append_assoc names (map (λ (c : Column). c.name) e.columns.now) others
-    ∙ sym (ap (λ (es : List CodeEntry). names ++ result_names (in_reach es) all_columns) first) ∙ before
+    ∙ sym (ap (λ (es : List CodeEntry). names ++ column_names (as_entries es)) first) ∙ before
 
-pub entries_names : (names : List (List ℕ)) (rest : List CodeEntry) (all : List (List ℕ)) → length rest < 1 → names ++ result_names (in_reach rest) all_columns ≡ all → names ≡ all
+pub entries_names : (names : List (List ℕ)) (rest : List CodeEntry) (all : List (List ℕ)) → length rest < 1 → names ++ column_names (as_entries rest) ≡ all → names ≡ all
 entries_names names [] all none h = sym (append-nil names) ∙ h
 entries_names names (e ∷ rest) all none h = absurd (omega (arith, none))
 
@@ -148,7 +148,7 @@ items_end scope made all h = h ∙ ap Ok (none_more (map expression_of made))
 
 -- ---- queries
 
-pub meant_step : (schema : List Table) (all : List Select) (s : Select) (others : List Select) (made : List TypedQuery) (t : TypedQuery) → Means schema s (query_of t.query) t.names.items t.keys.items
+pub meant_step : (schema : List Table) (all : List Select) (s : Select) (others : List Select) (made : List TypedQuery) (t : TypedQuery) → Means schema s (whole_of t.query) t.names.items t.keys.items
     → ((ts : List TypedQuery) → AreMeant schema (s ∷ others) ts → AreMeant schema all (made ++ ts)) → (ts : List TypedQuery) → AreMeant schema others ts → AreMeant schema all ((made ++ t ∷ []) ++ ts)
 meant_step schema all s others made t m h ts k = rw (push_more made t ts) (h (t ∷ ts) (m, k))
 
@@ -166,7 +166,7 @@ pub queries_kept : (rest others : List Statement) (s : Statement) → rest ≡ s
 queries_kept rest others s first h = rw first at h
 
 pub meant_kept : (schema : List Table) (all : List Select) (rest others : List Statement) (s : Statement) (made made' : List TypedQuery) (t : TypedQuery) → rest ≡ s ∷ others → made' ≡ made ++ t ∷ []
-    → Means schema (select_of s) (query_of t.query) t.names.items t.keys.items → ((ts : List TypedQuery) → AreMeant schema (map select_of rest) ts → AreMeant schema all (made ++ ts))
+    → Means schema (select_of s) (whole_of t.query) t.names.items t.keys.items → ((ts : List TypedQuery) → AreMeant schema (map select_of rest) ts → AreMeant schema all (made ++ ts))
     → (ts : List TypedQuery) → AreMeant schema (map select_of others) ts → AreMeant schema all (made' ++ ts)
 meant_kept schema all rest others s made made' t first more m h ts k = rw more (meant_step schema all (select_of s) (map select_of others) made t m (rw first at h) ts k)
 

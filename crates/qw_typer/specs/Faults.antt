@@ -1,6 +1,6 @@
--- The faults of a query's expressions and conditions (ISO/IEC 9075:1992, 4.1, 5.3, 6.4, 6.6, 6.9, 6.11, 6.12, 8.2, 9.3). Each fault is one of
+-- The faults of a query's expressions and conditions (ISO/IEC 9075:1992, 4.1, 5.3, 6.4 to 6.6, 6.9, 6.11, 6.12, 7.9, 8.2, 9.3). Each fault is one of
 -- one construct, and names a token of it. A construct whose operands have faults has none of its own.
-use Rattle.std.specs.Prelude.{ℕ, ◌+◌, nat_le, Bool, true, false, not, ◌&&◌, List, [], ◌∷◌, ◌++◌, Option, Some, None, is_none}
+use Rattle.std.specs.Prelude.{ℕ, ◌+◌, nat_le, Bool, true, false, not, ◌&&◌, List, [], ◌∷◌, ◌++◌, Option, Some, None, is_none, codes}
 use Rattle.std.specs.List.{list_any}
 use Rattle.std.specs.Option.{option_map}
 use Rattle.std.specs.Str.{bytes_eq}
@@ -9,12 +9,14 @@ use Rattle.qw_scalar.specs.declared.expression.Operator.{Operator}
 use Rattle.qw_scalar.specs.declared.expression.Operator.TheVariants.{Add, Subtract, Multiply, Divide}
 use Rattle.qw_scalar.specs.Expression as meaning
 use Rattle.qw_scalar.specs.Typing.{agree, are_comparable, has_kind, is_date, is_number, joined, kind_of}
+use Rattle.qw_ast.specs.declared.script.SetFunction.{SetFunction}
+use Rattle.qw_ast.specs.declared.script.SetFunction.TheVariants.{Count, Sum, Avg, Min, Max}
 use Rattle.qw_ast.specs.Grammar.{name_of}
-use Rattle.qw_ast.specs.Syntax.{Expression, null, number, text, date, column, signed, arithmetic, extract, searched_case, simple_case, coalesce, null_if, Condition, comparison, between, among, is_null, both, either, negation_of, is, bracketed, condition, expression, Expressions, last, further, Branching, otherwise, when}
+use Rattle.qw_ast.specs.Syntax.{Expression, null, number, text, date, column, signed, arithmetic, extract, searched_case, simple_case, coalesce, null_if, count_rows, set_function, Condition, comparison, between, among, is_null, both, either, negation_of, is, bracketed, condition, expression, Expressions, last, further, Branching, otherwise, when}
 use Rattle.qw_typer.specs.declared.fault.FaultKind.{FaultKind}
-use Rattle.qw_typer.specs.declared.fault.FaultKind.TheVariants.{Ambiguous, UnknownTable, UnknownColumn, Clash, ScaleTooLarge, LiteralTooLong, BadDate}
+use Rattle.qw_typer.specs.declared.fault.FaultKind.TheVariants.{Ambiguous, UnknownTable, UnknownColumn, Clash, ScaleTooLarge, LiteralTooLong, BadDate, NotGrouped, NestedAggregate}
 use Rattle.qw_typer.specs.Literal.{date_of, number_of}
-use Rattle.qw_typer.specs.Meant.{Entry, Scope, all_meant, choices, matches, meant, referred}
+use Rattle.qw_typer.specs.Meant.{Entry, Grouping, Scope, all_meant, choices, first_of, in_group, matches, meant, referred, ungrouped}
 
 -- a fault, and the token that it names: of a name as it is kept, of a literal as it is written
 pub record Fault : Type 0 where
@@ -31,7 +33,16 @@ abbrev pub or_own : List Fault → List Fault → List Fault
 or_own [] own = own
 or_own (f ∷ fs) own = f ∷ fs
 
--- the first literal of an expression, or the name of its first column where that comes before; NULL alone has none
+-- the word of a set function (6.5)
+abbrev pub function_word : SetFunction → List ℕ
+function_word Count = codes "COUNT"
+function_word Sum = codes "SUM"
+function_word Avg = codes "AVG"
+function_word Min = codes "MIN"
+function_word Max = codes "MAX"
+
+-- the first literal of an expression, or the name of its first column or the word of its first set function where that comes before; NULL
+-- alone has none
 abbrev mutual
   pub first_token : Expression → List ℕ
   first_token null = []
@@ -46,6 +57,8 @@ abbrev mutual
   first_token (simple_case x branches) = first_token x
   first_token (coalesce es) = first_of_all es
   first_token (null_if a b) = first_token a
+  first_token (count_rows place) = codes "COUNT"
+  first_token (set_function place f a) = function_word f
 
   pub first_of_condition : Condition → List ℕ
   first_of_condition (comparison op a b) = first_token a
@@ -70,9 +83,9 @@ abbrev mutual
 -- ---- the faults of one construct, its operands having none
 
 -- whether a qualifier, where there is one, is the name of an entry in reach (6.4)
-abbrev pub is_known : Scope → Option (List ℕ) → Bool
-is_known scope None = true
-is_known scope (Some qualifier) = list_any (λ (e : Entry). bytes_eq qualifier e.name) scope
+abbrev pub is_known : List Entry → Option (List ℕ) → Bool
+is_known entries None = true
+is_known entries (Some qualifier) = list_any (λ (e : Entry). bytes_eq qualifier e.name) entries
 
 abbrev pub qualifier_of : Option (List ℕ) → List ℕ
 qualifier_of None = []
@@ -85,9 +98,17 @@ counted_faults name (e ∷ []) = []
 counted_faults name (e ∷ f ∷ es) = record { kind = Ambiguous; name = name } ∷ []
 
 -- a qualifier that names no entry in reach; a name that no entry, or more than one, has (6.4)
+abbrev pub reference_faults : List Entry → Option (List ℕ) → List ℕ → List Fault
+reference_faults entries qualifier name =
+    or_own (fault_where (not (is_known entries (option_map name_of qualifier))) UnknownTable (qualifier_of qualifier)) (counted_faults (name_of name) (referred entries (option_map name_of qualifier) (name_of name)))
+
+-- a column of FROM that isn't grouped, over a grouped table (7.9)
+abbrev pub group_faults : Option Grouping → List ℕ → meaning.Expression → List Fault
+group_faults grouping name e = fault_where (is_none (in_group grouping e)) NotGrouped name
+
 abbrev pub column_faults : Scope → Option (List ℕ) → List ℕ → List Fault
 column_faults scope qualifier name =
-    or_own (fault_where (not (is_known scope (option_map name_of qualifier))) UnknownTable (qualifier_of qualifier)) (counted_faults (name_of name) (referred scope (option_map name_of qualifier) (name_of name)))
+    or_own (reference_faults scope.entries qualifier name) (group_faults scope.grouping (name_of name) (first_of (referred scope.entries (option_map name_of qualifier) (name_of name))))
 
 -- an operand of an arithmetic operator that is no number (6.12)
 abbrev pub sign_faults : List ℕ → meaning.Expression → List Fault
@@ -107,6 +128,29 @@ arithmetic_faults token operator x y =
 -- a field of what is no date (6.6)
 abbrev pub field_faults : List ℕ → meaning.Expression → List Fault
 field_faults token x = fault_where (not (is_date (kind_of x))) Clash token
+
+-- a set function where there is no grouped table: in ON, in WHERE, or in the argument of another (6.5, 7.6)
+abbrev pub nested_faults : Option Grouping → List ℕ → List Fault
+nested_faults grouping word = fault_where (is_none grouping) NestedAggregate word
+
+-- SUM and AVG take numbers, and no set function takes what has no kind (6.5)
+abbrev pub takes : SetFunction → Option Kind → Bool
+takes Count k = has_kind k
+takes Sum k = is_number k
+takes Avg k = is_number k
+takes Min k = has_kind k
+takes Max k = has_kind k
+
+-- an average has four digits more behind the point than its argument, and so at most 18 (6.5, which leaves that to the implementation)
+abbrev pub has_scale : SetFunction → ℕ → Bool
+has_scale Count s = true
+has_scale Sum s = true
+has_scale Avg s = nat_le s 14
+has_scale Min s = true
+has_scale Max s = true
+
+abbrev pub argument_faults : List ℕ → SetFunction → meaning.Expression → List Fault
+argument_faults token f x = or_own (fault_where (not (takes f (kind_of x))) Clash token) (fault_where (not (has_scale f (meaning.scale_of x))) ScaleTooLarge token)
 
 -- operands of kinds that don't compare (8.2)
 abbrev pub comparison_faults : List ℕ → meaning.Expression → meaning.Expression → List Fault
@@ -158,6 +202,9 @@ abbrev mutual
       or_own (faults scope x) (or_own (branch_faults (first_token x) branches ++ matches_faults scope (first_token x) (meant scope x) branches) (case_faults (first_token x) (matches scope (meant scope x) branches)))
   faults scope (coalesce es) = or_own (all_faults scope es) (case_faults (first_of_all es) (meaning.coalesced (all_meant scope es)))
   faults scope (null_if a b) = or_own (faults scope a ++ faults scope b) (comparison_faults (first_token a) (meant scope a) (meant scope b))
+  faults scope (count_rows place) = nested_faults scope.grouping (codes "COUNT")
+  faults scope (set_function place f a) =
+      or_own (nested_faults scope.grouping (function_word f)) (or_own (faults (ungrouped scope.entries) a) (argument_faults (first_token a) f (meant (ungrouped scope.entries) a)))
 
   pub condition_faults : Scope → Condition → List Fault
   condition_faults scope (comparison op a b) = or_own (faults scope a ++ faults scope b) (comparison_faults (first_token a) (meant scope a) (meant scope b))

@@ -1,5 +1,7 @@
 pub mod Days
 pub mod Faults
+pub mod Functions
+pub mod Grouping
 pub mod Inner
 pub mod Keys
 pub mod Literal
@@ -8,3 +10,5 @@ pub mod Meant
 pub mod Sizes
 pub mod Typed
 pub mod Worked
+pub mod WorkedGroups
+pub mod WorkedScopes

@@ -1,15 +1,18 @@
--- What the expressions and conditions of a query mean over the columns of the entries of FROM that they reach (ISO/IEC 9075:1992, 6.3,
--- 6.4, 6.9 to 6.12, 6.14, 8.2 to 8.6, 8.12). What is said here of an expression that has a fault (Faults) means nothing, and only makes the meaning total.
-use Rattle.std.specs.Prelude.{ℕ, ◌+◌, ◌*◌, Bool, true, false, if◌then◌else◌, List, [], ◌∷◌, ◌++◌, Option, Some, None, position, slice_get, unwrap_or}
+-- What the expressions and conditions of a query mean over the columns of the entries of FROM that they reach, or over those of the grouped
+-- table (ISO/IEC 9075:1992, 6.3 to 6.5, 6.9 to 6.12, 6.14, 7.7 to 7.9, 8.2 to 8.6, 8.12). What is said here of an expression that has a
+-- fault (Faults) means nothing, and only makes the meaning total.
+use Rattle.std.specs.Prelude.{ℕ, ◌+◌, ◌*◌, ◌==◌, Bool, true, false, if◌then◌else◌, List, [], ◌∷◌, ◌++◌, length, Option, Some, None, position, slice_get, unwrap_or}
 use Rattle.std.specs.Option.{option_and_then, option_map}
 use Rattle.std.specs.Str.{bytes_eq}
 use Rattle.qw_types.specs.declared.schema.Column.{Column}
+use Rattle.qw_types.specs.declared.value.Ty.{Ty}
 use Rattle.qw_scalar.specs.declared.comparison.Comparison.TheVariants.{Equal}
 use Rattle.qw_scalar.specs.Expression as meaning
+use Rattle.qw_grouped.specs.declared.query.GroupedColumn.{GroupedColumn}
 use Rattle.qw_ast.specs.declared.script.Sign.{Sign}
 use Rattle.qw_ast.specs.declared.script.Sign.TheVariants.{Plus, Minus}
 use Rattle.qw_ast.specs.Grammar.{name_of}
-use Rattle.qw_ast.specs.Syntax.{Expression, null, number, text, date, column, signed, arithmetic, extract, searched_case, simple_case, coalesce, null_if, Condition, comparison, between, among, is_null, both, either, negation_of, is, bracketed, condition, expression, Expressions, last, further, Branching, otherwise, when}
+use Rattle.qw_ast.specs.Syntax.{Expression, null, number, text, date, column, signed, arithmetic, extract, searched_case, simple_case, coalesce, null_if, count_rows, set_function, Condition, comparison, between, among, is_null, both, either, negation_of, is, bracketed, condition, expression, Expressions, last, further, Branching, otherwise, when}
 use Rattle.qw_typer.specs.Literal.{date_of, number_of, string_value}
 
 -- an entry of FROM: its alias, or without one its table's name; its number among the entries of FROM and its table's place in the
@@ -20,9 +23,27 @@ pub record Entry : Type 0 where
   pub table : ℕ
   pub columns : List Column
 
--- the entries that a column reference reaches, from left to right (6.4)
-abbrev pub Scope : Type 0
-Scope = List Entry
+-- A set function of a grouped query as a column of its grouped table: its place, which tells it from every other of the text, and the
+-- type of its values (6.5).
+pub record FunctionColumn : Type 0 where
+  pub place : ℕ
+  pub ty : Ty
+
+-- The grouped table, whose columns are those of GROUP BY, each with its number in FROM, and behind them the set functions in the order of
+-- the text (7.7 to 7.9).
+pub record Grouping : Type 0 where
+  pub columns : List GroupedColumn
+  pub functions : List FunctionColumn
+
+-- What names are resolved against: the entries that a column reference reaches, from left to right (6.4), and in the select list and HAVING
+-- of a grouped query its grouped table.
+pub record Scope : Type 0 where
+  pub entries : List Entry
+  pub grouping : Option Grouping
+
+-- ON, WHERE, GROUP BY and the arguments of set functions are over FROM, and so is the select list of a query that isn't grouped.
+abbrev pub ungrouped : List Entry → Scope
+ungrouped entries = record { entries = entries; grouping = None }
 
 -- the column of a name in an entry: column c of entry e is number 64 * e + c. No two columns of a table have one name (11.3).
 abbrev pub column_named : Entry → List ℕ → Option meaning.Expression
@@ -39,13 +60,32 @@ listed None = []
 listed (Some e) = e ∷ []
 
 -- the columns that a column reference may mean: those of its name, in the entries that its qualifier names (6.4)
-abbrev pub referred : Scope → Option (List ℕ) → List ℕ → List meaning.Expression
+abbrev pub referred : List Entry → Option (List ℕ) → List ℕ → List meaning.Expression
 referred [] qualifier name = []
 referred (entry ∷ others) qualifier name = (if is_qualified qualifier entry then listed (column_named entry name) else []) ++ referred others qualifier name
 
 abbrev pub first_of : List meaning.Expression → meaning.Expression
 first_of [] = meaning.null
 first_of (e ∷ es) = e
+
+-- a column of FROM in the grouped table: its place among the columns of GROUP BY, counted from 0 (7.9)
+abbrev pub column_grouped : Grouping → meaning.Expression → Option meaning.Expression
+column_grouped grouping (meaning.column i ty) =
+    option_and_then (λ (k : ℕ). option_map (λ (c : GroupedColumn). meaning.column k c.ty) (slice_get grouping.columns k)) (position (λ (c : GroupedColumn). c.number == i) grouping.columns)
+column_grouped grouping _ = None
+
+-- and without a grouping that very column
+abbrev pub in_group : Option Grouping → meaning.Expression → Option meaning.Expression
+in_group None e = Some e
+in_group (Some grouping) e = column_grouped grouping e
+
+-- the set function at a place of the text, which in the grouped table stands behind the columns of GROUP BY (6.5, 7.9)
+abbrev pub function_at : Grouping → (place : ℕ) → Option meaning.Expression
+function_at grouping place =
+    option_and_then (λ (k : ℕ). option_map (λ (f : FunctionColumn). meaning.column (length grouping.columns + k) f.ty) (slice_get grouping.functions k)) (position (λ (f : FunctionColumn). f.place == place) grouping.functions)
+
+abbrev pub function_meant : Option Grouping → (place : ℕ) → meaning.Expression
+function_meant grouping place = unwrap_or (option_and_then (λ (g : Grouping). function_at g place) grouping) meaning.null
 
 -- an expression with a sign (6.11)
 abbrev pub with_sign : Sign → meaning.Expression → meaning.Expression
@@ -63,7 +103,7 @@ abbrev mutual
   meant scope (number octets) = unwrap_or (number_of octets) meaning.null
   meant scope (text octets) = meaning.text (string_value octets)
   meant scope (date string intervals) = unwrap_or (date_of string intervals) meaning.null
-  meant scope (column qualifier name) = first_of (referred scope (option_map name_of qualifier) (name_of name))
+  meant scope (column qualifier name) = unwrap_or (in_group scope.grouping (first_of (referred scope.entries (option_map name_of qualifier) (name_of name)))) meaning.null
   meant scope (signed sign a) = with_sign sign (meant scope a)
   meant scope (arithmetic operator a b) = meaning.arithmetic operator (meant scope a) (meant scope b)
   meant scope (extract field a) = meaning.extract field (meant scope a)
@@ -71,6 +111,8 @@ abbrev mutual
   meant scope (simple_case x branches) = meaning.case (matches scope (meant scope x) branches)
   meant scope (coalesce es) = meaning.case (meaning.coalesced (all_meant scope es))
   meant scope (null_if a b) = meaning.null_if (meant scope a) (meant scope b)
+  meant scope (count_rows place) = function_meant scope.grouping place
+  meant scope (set_function place f a) = function_meant scope.grouping place
 
   pub condition_meant : Scope → Condition → meaning.Condition
   condition_meant scope (comparison op a b) = meaning.comparison op (meant scope a) (meant scope b)

@@ -1,5 +1,5 @@
 -- How large the typed trees of a query are: their nodes (Nodes), and the octets of their text literals (ISO/IEC 9075:1992, 5.3).
-use Rattle.std.specs.Prelude.{ℕ, ◌+◌, ◌≤◌, List, length, sum_by}
+use Rattle.std.specs.Prelude.{ℕ, ◌+◌, ◌*◌, ◌≤◌, List, length, sum_by}
 use Rattle.std.specs.List.{AllByRecursion, flat_map}
 use Rattle.qw_scalar.specs.declared.expression.Expr.{Expr}
 use Rattle.qw_scalar.specs.declared.expression.Cond.{Cond}
@@ -15,6 +15,10 @@ use Rattle.qw_scalar.specs.Nodes.{nodes, nodes_of}
 use Rattle.qw_meaning.specs.Query.{QueryParts}
 use Rattle.qw_meaning.specs.declared.query.Joined.{Joined}
 use Rattle.qw_meaning.specs.declared.query.Source.{Source}
+use Rattle.qw_grouped.specs.Query.{GroupedParts}
+use Rattle.qw_grouped.specs.declared.set_function.SetFunction.{SetFunction}
+use Rattle.qw_grouped.specs.declared.whole.Body.{Body}
+use Rattle.qw_grouped.specs.declared.whole.Body.TheVariants.{Plain, Grouped}
 use Rattle.qw_typer.specs.declared.query.TypedQuery.{TypedQuery}
 
 -- the octets of the text literals of a typed tree
@@ -76,6 +80,26 @@ pub record IsSmall (parts : QueryParts) : Type 0 where
   pub few_nodes : all_nodes parts ≤ 4012
   pub few_octets : all_octets parts ≤ 16384
 
+-- The same of a grouped query: of ON, WHERE, the arguments of the set functions, HAVING and the select list. A column of GROUP BY counts as three nodes, and a
+-- set function as two beside its argument.
+abbrev pub grouped_nodes : GroupedParts → ℕ
+grouped_nodes parts =
+    sum_by nodes_of (tests_on parts.sources) + (sum_by nodes_of parts.conjuncts + sum_by (λ (f : SetFunction). nodes f.argument) parts.functions)
+    + (sum_by nodes_of parts.having + sum_by nodes parts.items) + 3 * length parts.columns + 2 * length parts.functions
+
+abbrev pub grouped_octets : GroupedParts → ℕ
+grouped_octets parts =
+    sum_by text_octets_of (tests_on parts.sources) + (sum_by text_octets_of parts.conjuncts + sum_by (λ (f : SetFunction). text_octets f.argument) parts.functions)
+    + (sum_by text_octets_of parts.having + sum_by text_octets parts.items)
+
+pub record IsSmallGrouped (parts : GroupedParts) : Type 0 where
+  pub few_nodes : grouped_nodes parts ≤ 4012
+  pub few_octets : grouped_octets parts ≤ 16384
+
+abbrev pub IsSmallBody : Body → Type 0
+IsSmallBody (Plain parts) = IsSmall parts
+IsSmallBody (Grouped parts) = IsSmallGrouped parts
+
 -- each of these queries is
 abbrev pub AreSmall : List TypedQuery → Type 0
-AreSmall typed = AllByRecursion (λ (t : TypedQuery). IsSmall t.query) typed
+AreSmall typed = AllByRecursion (λ (t : TypedQuery). IsSmallBody t.query.body) typed

@@ -1,6 +1,6 @@
--- The query specification that a query means over a schema's tables, with the names of its result columns and the keys of their order; or
+-- What a query means over a schema's tables, with the names of its result columns and the keys of their order; or
 -- its faults (ISO/IEC 9075:1992, 6.3, 6.4, 7.4, 7.6, 7.9, 13.1).
-use Rattle.std.specs.Prelude.{◌≡◌, ◌≤◌, ◌+◌, ◌*◌, ℕ, suc, List, [], ◌∷◌, ◌++◌, length, map, Option, position, slice_get, unwrap_or, is_none, Contains, codes}
+use Rattle.std.specs.Prelude.{◌≡◌, ◌≤◌, ◌+◌, ◌*◌, ℕ, suc, false, List, [], ◌∷◌, ◌++◌, length, map, Option, position, slice_get, unwrap_or, is_none, if◌then◌else◌, Contains, codes}
 use Rattle.std.specs.Fmt.{decimal}
 use Rattle.std.specs.List.{flat_map, list_any}
 use Rattle.std.specs.Option.{option_and_then, option_map_or}
@@ -11,16 +11,20 @@ use Rattle.qw_types.specs.declared.schema.Table.{Table}
 use Rattle.qw_scalar.specs.Expression as meaning
 use Rattle.qw_meaning.specs.Select as specified
 use Rattle.qw_meaning.specs.Select.{Specification}
+use Rattle.qw_grouped.specs.Grouped.{Grouped}
+use Rattle.qw_grouped.specs.Whole.{Whole, grouped, plain}
 use Rattle.qw_order.specs.declared.sort_key.SortKey.{SortKey}
 use Rattle.qw_ast.specs.Grammar.{name_of}
 use Rattle.qw_ast.specs.Limits.{entries_in, entries_of}
-use Rattle.qw_ast.specs.Syntax.{Expression, null, number, text, date, column, signed, arithmetic, extract, searched_case, simple_case, coalesce, null_if, Condition, comparison, between, among, is_null, both, either, negation_of, is, bracketed, SelectItem, Selected, all_columns, items, Entry, Joined, Source, Select}
+use Rattle.qw_ast.specs.Syntax.{Expression, null, number, text, date, column, signed, arithmetic, extract, searched_case, simple_case, coalesce, null_if, count_rows, set_function, Condition, comparison, between, among, is_null, both, either, negation_of, is, bracketed, SelectItem, Selected, all_columns, items, Entry, Joined, Source, Select}
 use Rattle.qw_typer.specs.declared.fault.FaultKind.TheVariants.{DuplicateAlias, UnknownTable}
 use Rattle.qw_typer.specs.declared.fault.TypeFault.{TypeFault}
 use Rattle.qw_typer.specs.declared.fault.TypeFault.TheVariants as type_fault
 use Rattle.qw_typer.specs.Meant as scoped
-use Rattle.qw_typer.specs.Meant.{Scope, condition_meant, meant}
+use Rattle.qw_typer.specs.Meant.{Scope, condition_meant, meant, ungrouped}
 use Rattle.qw_typer.specs.Faults.{Fault, condition_faults, fault_where, faults, first_token, item_faults, or_own}
+use Rattle.qw_typer.specs.Functions.{functions_in}
+use Rattle.qw_typer.specs.Grouping.{columns_grouped, function_of, grouping_faults, is_grouped, or_rows, scope_behind, starred, starred_faults}
 use Rattle.qw_typer.specs.Keys.{keys_faults, keys_meant}
 
 -- ---- FROM (6.3, 7.4, 7.5). What is said here of a name that is no table means nothing, and only makes the meaning total.
@@ -42,13 +46,20 @@ abbrev pub in_scope : List Table → (index : ℕ) → Entry → scoped.Entry
 in_scope schema index e = record { name = entry_name e; number = index; table = unwrap_or (place_of schema (name_of e.table)) 0; columns = columns_of schema (name_of e.table) }
 
 -- entries, of which the first is number `index`
-abbrev pub scope_from : List Table → (index : ℕ) → List Entry → Scope
-scope_from schema index [] = []
-scope_from schema index (e ∷ es) = in_scope schema index e ∷ scope_from schema (index + 1) es
+abbrev pub entries_from : List Table → (index : ℕ) → List Entry → List scoped.Entry
+entries_from schema index [] = []
+entries_from schema index (e ∷ es) = in_scope schema index e ∷ entries_from schema (index + 1) es
 
--- WHERE and the select list reach all entries
+abbrev pub entries_named : List Table → Select → List scoped.Entry
+entries_named schema s = entries_from schema 0 (entries_of s.sources)
+
+-- WHERE reaches all entries, and so do GROUP BY and the arguments of set functions
 abbrev pub scope_of : List Table → Select → Scope
-scope_of schema s = scope_from schema 0 (entries_of s.sources)
+scope_of schema s = ungrouped (entries_named schema s)
+
+-- and so do the select list and HAVING, in a grouped query over its grouped table (7.8, 7.9)
+abbrev pub scope_over : List Table → Select → Scope
+scope_over schema s = scope_behind (entries_named schema s) s
 
 -- an entry has the columns of its table, each with its type and NOT NULL (11.4)
 abbrev pub entry_meant : scoped.Entry → specified.Entry
@@ -71,15 +82,19 @@ conjuncts_of (bracketed c) = bracketed c ∷ []
 abbrev pub conjuncts : Select → List Condition
 conjuncts s = option_map_or conjuncts_of s.filter []
 
+-- those of HAVING (7.8)
+abbrev pub conjuncts_having : Select → List Condition
+conjuncts_having s = option_map_or conjuncts_of s.having []
+
 -- those of each ON (7.5)
 abbrev pub conjuncts_on : Select → List Condition
 conjuncts_on s = flat_map (λ (source : Source). flat_map (λ (j : Joined). conjuncts_of j.on) source.joins) s.sources
 
 -- An ON reaches the entries of its source up to its own, number `index`: those before it, `reached`, and its own (7.5).
-abbrev pub joins_meant : List Table → (reached : Scope) → (index : ℕ) → List Joined → List specified.Joined
+abbrev pub joins_meant : List Table → (reached : List scoped.Entry) → (index : ℕ) → List Joined → List specified.Joined
 joins_meant schema reached index [] = []
 joins_meant schema reached index (j ∷ joins) =
-    record { entry = entry_meant (in_scope schema index j.entry); on = map (condition_meant (reached ++ in_scope schema index j.entry ∷ [])) (conjuncts_of j.on) }
+    record { entry = entry_meant (in_scope schema index j.entry); on = map (condition_meant (ungrouped (reached ++ in_scope schema index j.entry ∷ []))) (conjuncts_of j.on) }
     ∷ joins_meant schema (reached ++ in_scope schema index j.entry ∷ []) (index + 1) joins
 
 -- sources, of which the first begins with entry number `index`
@@ -96,9 +111,16 @@ abbrev pub columns_from : ℕ → List Column → List meaning.Expression
 columns_from place [] = []
 columns_from place (c ∷ cs) = meaning.column place c.ty ∷ columns_from (suc place) cs
 
--- `*` is all columns of all entries
+-- all columns of all entries, and their names
+abbrev pub columns_meant : List scoped.Entry → List meaning.Expression
+columns_meant entries = flat_map (λ (e : scoped.Entry). columns_from (64 * e.number) e.columns) entries
+
+abbrev pub column_names : List scoped.Entry → List (List ℕ)
+column_names entries = flat_map (λ (e : scoped.Entry). map (λ (c : Column). c.name) e.columns) entries
+
+-- `*` is all of them, in a grouped query over its grouped table
 abbrev pub items_meant : Scope → Selected → List meaning.Expression
-items_meant scope all_columns = flat_map (λ (e : scoped.Entry). columns_from (64 * e.number) e.columns) scope
+items_meant scope all_columns = starred scope.grouping (columns_meant scope.entries)
 items_meant scope (items list) = map (λ (i : SelectItem). meant scope i.value) list
 
 -- an expression that is a column is named by it, any other by C and its position from 1
@@ -115,6 +137,8 @@ own_name position' (searched_case branches) = codes "C" ++ decimal position'
 own_name position' (simple_case x branches) = codes "C" ++ decimal position'
 own_name position' (coalesce es) = codes "C" ++ decimal position'
 own_name position' (null_if a b) = codes "C" ++ decimal position'
+own_name position' (count_rows place) = codes "C" ++ decimal position'
+own_name position' (set_function place f a) = codes "C" ++ decimal position'
 
 -- a name behind the expression comes first
 abbrev pub item_name : ℕ → SelectItem → List ℕ
@@ -126,7 +150,7 @@ item_names position' (i ∷ others) = item_name position' i ∷ item_names (suc 
 
 -- the names of the result columns
 abbrev pub result_names : Scope → Selected → List (List ℕ)
-result_names scope all_columns = flat_map (λ (e : scoped.Entry). map (λ (c : Column). c.name) e.columns) scope
+result_names scope all_columns = column_names scope.entries
 result_names scope (items list) = item_names 1 list
 
 -- ---- the faults of a query
@@ -136,17 +160,17 @@ list_faults scope [] = []
 list_faults scope (i ∷ others) = or_own (faults scope i.value) (item_faults (first_token i.value) (meant scope i.value)) ++ list_faults scope others
 
 abbrev pub selected_faults : Scope → Selected → List Fault
-selected_faults scope all_columns = []
+selected_faults scope all_columns = starred_faults scope.grouping scope.entries
 selected_faults scope (items list) = list_faults scope list
 
 abbrev pub filter_faults : Scope → Select → List Fault
 filter_faults scope s = option_map_or (condition_faults scope) s.filter []
 
 -- of each ON over what it reaches
-abbrev pub joins_faults : List Table → (reached : Scope) → (index : ℕ) → List Joined → List Fault
+abbrev pub joins_faults : List Table → (reached : List scoped.Entry) → (index : ℕ) → List Joined → List Fault
 joins_faults schema reached index [] = []
 joins_faults schema reached index (j ∷ joins) =
-    condition_faults (reached ++ in_scope schema index j.entry ∷ []) j.on ++ joins_faults schema (reached ++ in_scope schema index j.entry ∷ []) (index + 1) joins
+    condition_faults (ungrouped (reached ++ in_scope schema index j.entry ∷ [])) j.on ++ joins_faults schema (reached ++ in_scope schema index j.entry ∷ []) (index + 1) joins
 
 abbrev pub sources_faults : List Table → (index : ℕ) → List Source → List Fault
 sources_faults schema index [] = []
@@ -160,13 +184,18 @@ entries_faults schema before (e ∷ es) =
     (fault_where (is_none (place_of schema (name_of e.table))) UnknownTable (name_of e.table) ++ fault_where (list_any (bytes_eq (entry_name e)) before) DuplicateAlias (entry_name e))
     ++ entries_faults schema (before ++ entry_name e ∷ []) es
 
--- over the entries of FROM
+-- of HAVING
+abbrev pub having_faults : Scope → Select → List Fault
+having_faults scope s = option_map_or (condition_faults scope) s.having []
+
+-- over the entries of FROM: of GROUP BY and the set functions, and without one of these of the other clauses
 abbrev pub over_faults : List Table → Select → List Fault
-over_faults schema s = selected_faults (scope_of schema s) s.selected ++ (sources_faults schema 0 s.sources ++ filter_faults (scope_of schema s) s)
+over_faults schema s =
+    or_own (grouping_faults (entries_named schema s) s) (selected_faults (scope_over schema s) s.selected ++ (sources_faults schema 0 s.sources ++ (having_faults (scope_over schema s) s ++ filter_faults (scope_of schema s) s)))
 
 -- of the keys of ORDER BY over the result columns
 abbrev pub order_faults : List Table → Select → List Fault
-order_faults schema s = keys_faults (scope_of schema s) (result_names (scope_of schema s) s.selected) (items_meant (scope_of schema s) s.selected) s.order
+order_faults schema s = keys_faults (scope_over schema s) (result_names (scope_over schema s) s.selected) (items_meant (scope_over schema s) s.selected) s.order
 
 -- the faults of the entries of FROM; without one those of the expressions over their columns; and without one of these those of the keys
 abbrev pub query_faults : List Table → Select → List Fault
@@ -174,14 +203,35 @@ query_faults schema s = or_own (entries_faults schema [] (entries_of s.sources))
 
 -- ---- what a query means
 
--- The query has no fault, and means this specification, whose result columns have these names, and these keys for the order of its rows.
-pub record Means (schema : List Table) (s : Select) (specification : Specification) (names : List (List ℕ)) (keys : List SortKey) : Type 0 where
+-- the specification of one that isn't grouped
+abbrev pub specification_meant : List Table → Select → Specification
+specification_meant schema s = record {
+  sources = sources_meant schema 0 s.sources;
+  conjuncts = map (condition_meant (scope_of schema s)) (conjuncts s);
+  items = items_meant (scope_of schema s) s.selected;
+}
+
+-- one with GROUP BY, HAVING or a set function (7.7 to 7.9)
+abbrev pub grouped_meant : List Table → Select → Grouped
+grouped_meant schema s = record {
+  sources = sources_meant schema 0 s.sources;
+  conjuncts = map (condition_meant (scope_of schema s)) (conjuncts s);
+  columns = columns_grouped (entries_named schema s) s.grouping;
+  functions = or_rows (columns_grouped (entries_named schema s) s.grouping) (map (function_of (entries_named schema s)) (functions_in s));
+  having = map (condition_meant (scope_over schema s)) (conjuncts_having s);
+  items = items_meant (scope_over schema s) s.selected;
+}
+
+-- there is no DISTINCT
+abbrev pub whole_meant : List Table → Select → Whole
+whole_meant schema s = record { body = if is_grouped s then grouped (grouped_meant schema s) else plain (specification_meant schema s); distinct = false }
+
+-- The query has no fault, and means this one, whose result columns have these names, and these keys for the order of its rows.
+pub record Means (schema : List Table) (s : Select) (whole : Whole) (names : List (List ℕ)) (keys : List SortKey) : Type 0 where
   pub faultless : query_faults schema s ≡ []
-  pub sources_are : specification.sources ≡ sources_meant schema 0 s.sources
-  pub conjuncts_are : specification.conjuncts ≡ map (condition_meant (scope_of schema s)) (conjuncts s)
-  pub items_are : specification.items ≡ items_meant (scope_of schema s) s.selected
-  pub names_are : names ≡ result_names (scope_of schema s) s.selected
-  pub keys_are : keys ≡ keys_meant (scope_of schema s) (result_names (scope_of schema s) s.selected) (items_meant (scope_of schema s) s.selected) s.order
+  pub whole_is : whole ≡ whole_meant schema s
+  pub names_are : names ≡ result_names (scope_over schema s) s.selected
+  pub keys_are : keys ≡ keys_meant (scope_over schema s) (result_names (scope_over schema s) s.selected) (items_meant (scope_over schema s) s.selected) s.order
 
 -- ---- a script
 
@@ -200,4 +250,5 @@ pub record IsWithin (s : Select) : Type 0 where
   pub some_source : 1 ≤ length s.sources
   pub few_entries : length (entries_of s.sources) ≤ 8
   pub items : HasFewItems s.selected
-  pub conjuncts : length (conjuncts_on s) + length (conjuncts s) ≤ 1000
+  pub few_columns : length s.grouping ≤ 64
+  pub conjuncts : length (conjuncts_on s) + length (conjuncts s) + length (conjuncts_having s) ≤ 1000

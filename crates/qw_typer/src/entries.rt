@@ -10,8 +10,8 @@ ghost use Rattle.qw_meaning.specs.Query as query;
 ghost use Rattle.qw_typer.specs.Faults.{fault_where};
 ghost use Rattle.qw_types.specs.Schema.{AreColumns};
 ghost use Rattle.qw_typer.specs.Inner.Queries.{HaveTables, IsOneOf};
-ghost use Rattle.qw_typer.specs.Inner.Typing.{as_entry, in_reach};
-ghost use Rattle.qw_typer.specs.Typed.{entries_faults, entry_meant, entry_name, in_scope, place_of, scope_from};
+ghost use Rattle.qw_typer.specs.Inner.Typing.{as_entries, as_entry};
+ghost use Rattle.qw_typer.specs.Typed.{entries_faults, entry_meant, entry_name, in_scope, place_of, entries_from};
 ghost use Rattle.qw_typer.specs.declared.fault.FaultKind.TheVariants.{UnknownTable};
 
 use crate::fault::FaultKind;
@@ -31,9 +31,9 @@ pub(crate) fn entries<'a, 's>(
     named: &[script::Entry<'a>],
 ) -> Result<Vec<Entry<'s>>, Refusal<'a>>
     requires { length named.now ≤ 8 }
-    ensures known { MatchResult result (λ made. (entries_faults tables.now [] (map syntax.entry_of named.now) ≡ []) × (in_reach made.items ≡ scope_from tables.now 0 (map syntax.entry_of named.now)))
+    ensures known { MatchResult result (λ made. (entries_faults tables.now [] (map syntax.entry_of named.now) ≡ []) × (as_entries made.items ≡ entries_from tables.now 0 (map syntax.entry_of named.now)))
         (λ refusal. IsOneOf refusal (entries_faults tables.now [] (map syntax.entry_of named.now))) }
-    ensures tables { IfOk result (λ made. HaveTables (in_reach made.items)) }
+    ensures tables { IfOk result (λ made. HaveTables (as_entries made.items)) }
 {
     let mut made = Vec::new(alloc);
     let mut rest = named;

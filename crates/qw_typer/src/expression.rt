@@ -5,8 +5,7 @@ ghost use Rattle.std.specs.Prelude.{◌≡◌, IfOk, MatchResult, Ok};
 ghost use Rattle.qw_ast.specs.SyntaxTree as syntax;
 ghost use Rattle.qw_scalar.specs.Expression.{coalesced};
 ghost use Rattle.qw_scalar.specs.Tree.{condition_of, expression_of};
-ghost use Rattle.qw_ast.specs.Limits.{octets, octets_all, octets_branches, octets_condition};
-ghost use Rattle.qw_typer.specs.Inner.Sizes.{Fits, FitsAll, FitsBranches, FitsCondition, FitsMatches, nodes, nodes_all, nodes_branches, nodes_condition};
+ghost use Rattle.qw_typer.specs.Inner.Sizes.{Fits, FitsAll, FitsBranches, FitsCondition, FitsMatches, nodes, nodes_all, nodes_branches, nodes_condition, octets, octets_all, octets_branches, octets_condition};
 ghost use Rattle.qw_typer.specs.Inner.Typing.{Gives, GivesArguments, GivesChoices, GivesCondition, GivesMatches, GivesValues, IsTold, in_reach, spelled, typed, typed_all, typed_choices, typed_branches, typed_condition};
 
 use crate::branch::{
@@ -20,7 +19,8 @@ use crate::fault::FaultKind;
 use crate::kinds::are_comparable;
 use crate::leaf::{column, date, number, text};
 use crate::refusal::{Refusal, Token, first_token};
-use crate::scope::Entry;
+use crate::scope::Scope;
+use crate::set_function::{applied, expect_grouping, rows_counted};
 use crate::tree::{Results, Typed, Values, boxed};
 use qw_ast::script::{Branches, Cond, Expr, Exprs, Phrase};
 use qw_scalar::expression as meaning;
@@ -31,7 +31,7 @@ use std::alloc::Global;
 #[tactic(auto, using(crate::proofs::OutcomeLemmas::gives_after, crate::proofs::OutcomeLemmas::refuses_after, crate::proofs::OutcomeLemmas::refuses_then, crate::proofs::OutcomeLemmas::refuses_memory, crate::proofs::OutcomeLemmas::refuses_fault))]
 pub(crate) fn expression<'a>(
     alloc: Global,
-    scope: &[Entry<'_>],
+    scope: &Scope<'_, '_>,
     expr: &Expr<'a>,
 ) -> Result<Typed, Refusal<'a>>
     ensures gives { Gives result (typed (in_reach scope.now) (syntax.expression_of expr.now)) }
@@ -77,6 +77,13 @@ pub(crate) fn expression<'a>(
             let y = expression(alloc, scope, right)?;
             null_if(alloc, x, y, left)
         }
+        Expr::CountRows(place) => rows_counted(scope, *place),
+        Expr::SetFunction(place, function, argument) => {
+            expect_grouping(scope, *function)?;
+            let inner = Scope::ungrouped(scope.entries);
+            let x = expression(alloc, &inner, argument)?;
+            applied(scope, *place, *function, &x, argument)
+        }
     }
 }
 
@@ -85,7 +92,7 @@ pub(crate) fn expression<'a>(
 #[tactic(auto, using(crate::proofs::OutcomeLemmas::gives_condition_after, crate::proofs::OutcomeLemmas::refuses_after, crate::proofs::OutcomeLemmas::refuses_then, crate::proofs::OutcomeLemmas::refuses_memory, crate::proofs::OutcomeLemmas::refuses_fault))]
 pub(crate) fn condition<'a>(
     alloc: Global,
-    scope: &[Entry<'_>],
+    scope: &Scope<'_, '_>,
     cond: &Cond<'a>,
 ) -> Result<meaning::Cond, Refusal<'a>>
     ensures gives { GivesCondition result (typed_condition (in_reach scope.now) (syntax.condition_of cond.now)) }
@@ -141,7 +148,7 @@ pub(crate) fn condition<'a>(
 #[tactic(auto, using(crate::proofs::OutcomeLemmas::refuses_after, crate::proofs::OutcomeLemmas::refuses_then, crate::proofs::OutcomeLemmas::refuses_memory, crate::proofs::OutcomeLemmas::refuses_fault))]
 fn arguments<'a>(
     alloc: Global,
-    scope: &[Entry<'_>],
+    scope: &Scope<'_, '_>,
     exprs: &Exprs<'a>,
 ) -> Result<Results<meaning::Exprs>, Refusal<'a>>
     ensures gives { GivesArguments result (typed_all (in_reach scope.now) (syntax.expressions_of exprs.now)) }
@@ -165,7 +172,7 @@ fn arguments<'a>(
 #[tactic(auto, using(crate::proofs::OutcomeLemmas::refuses_after, crate::proofs::OutcomeLemmas::refuses_then, crate::proofs::OutcomeLemmas::refuses_memory, crate::proofs::OutcomeLemmas::refuses_fault))]
 fn values<'a>(
     alloc: Global,
-    scope: &[Entry<'_>],
+    scope: &Scope<'_, '_>,
     operand: &Typed,
     exprs: &Exprs<'a>,
 ) -> Result<Values, Refusal<'a>>
@@ -191,7 +198,7 @@ fn values<'a>(
 #[tactic(auto, using(crate::proofs::OutcomeLemmas::refuses_after, crate::proofs::OutcomeLemmas::refuses_then, crate::proofs::OutcomeLemmas::refuses_memory, crate::proofs::OutcomeLemmas::refuses_fault))]
 fn choices<'a>(
     alloc: Global,
-    scope: &[Entry<'_>],
+    scope: &Scope<'_, '_>,
     branches: &Branches<'a>,
 ) -> Result<Results<meaning::Branches>, Refusal<'a>>
     ensures gives { GivesChoices result (typed_choices (in_reach scope.now) (syntax.branching_of branches.now)) }
@@ -221,7 +228,7 @@ fn choices<'a>(
 #[tactic(auto, using(crate::proofs::OutcomeLemmas::refuses_after, crate::proofs::OutcomeLemmas::refuses_then, crate::proofs::OutcomeLemmas::refuses_memory, crate::proofs::OutcomeLemmas::refuses_fault))]
 fn matches<'a>(
     alloc: Global,
-    scope: &[Entry<'_>],
+    scope: &Scope<'_, '_>,
     operand: &Typed,
     token: Token<'a>,
     branches: &Branches<'a>,

@@ -15,9 +15,10 @@ pub enum FaultKind {
     Ambiguous,
     /// A name that two entries of FROM have (6.3).
     DuplicateAlias,
-    /// Operands or results of kinds that don't go together (6.6, 6.9, 6.12, 8.2).
+    /// Operands or results of kinds that don't go together (6.6, 6.9, 6.12, 8.2), or an argument that a set function doesn't take (6.5).
     Clash,
-    /// A product or a quotient whose operands have more than 18 digits behind their points, together (6.12).
+    /// A product or a quotient whose operands have more than 18 digits behind their points, together (6.12), or an average of more than 14
+    /// (6.5).
     ScaleTooLarge,
     /// A number of more than 18 digits (5.3).
     LiteralTooLong,
@@ -25,6 +26,12 @@ pub enum FaultKind {
     BadDate,
     /// A sort key that is no position of a result column: 0, or more than there are (13.1).
     BadOrdinal,
+    /// A column of FROM in the select list or HAVING of a grouped query, outside set functions, that isn't a column of GROUP BY (7.9).
+    NotGrouped,
+    /// A set function in ON, in WHERE or in the argument of another (6.5, 7.6).
+    NestedAggregate,
+    /// More than 128 set functions in one query.
+    TooManyFunctions,
 }
 
 /// Why a script has no meaning over a schema.

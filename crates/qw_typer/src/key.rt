@@ -18,7 +18,7 @@ use crate::fault::FaultKind;
 use crate::leaf::column;
 use crate::name::name_text;
 use crate::refusal::{Refusal, Token};
-use crate::scope::{Entry, is_name};
+use crate::scope::{Scope, is_name};
 use qw_ast::script::{Key, SortSpecification};
 use qw_order::SortKey;
 use qw_scalar::expression::Expr;
@@ -52,7 +52,7 @@ impl Named {
 #[tactic(auto, using(crate::proofs::QueryLemmas::memory_refused))]
 pub(crate) fn keys<'a>(
     alloc: Global,
-    scope: &[Entry<'_>],
+    scope: &Scope<'_, '_>,
     names: &[Text],
     columns: &[Expr],
     order: &[SortSpecification<'a>],
@@ -74,7 +74,7 @@ pub(crate) fn keys<'a>(
 /// The key that a sort specification means.
 fn sort_key<'a>(
     alloc: Global,
-    scope: &[Entry<'_>],
+    scope: &Scope<'_, '_>,
     names: &[Text],
     columns: &[Expr],
     sort: &SortSpecification<'a>,
@@ -92,7 +92,7 @@ fn sort_key<'a>(
 /// The position of the result column that a key names, from 0.
 fn position<'a>(
     alloc: Global,
-    scope: &[Entry<'_>],
+    scope: &Scope<'_, '_>,
     names: &[Text],
     columns: &[Expr],
     key: &Key<'a>,
@@ -110,7 +110,7 @@ fn position<'a>(
 /// The result column that a column reference names.
 fn by_reference<'a>(
     alloc: Global,
-    scope: &[Entry<'_>],
+    scope: &Scope<'_, '_>,
     names: &[Text],
     columns: &[Expr],
     qualifier: Option<&'a [u8]>,
@@ -174,7 +174,7 @@ fn by_name<'a>(alloc: Global, names: &[Text], name: &'a [u8]) -> Result<usize, R
 /// The result column that is a column of FROM.
 fn by_column<'a>(
     alloc: Global,
-    scope: &[Entry<'_>],
+    scope: &Scope<'_, '_>,
     columns: &[Expr],
     qualifier: &'a [u8],
     name: &'a [u8],

@@ -6,7 +6,7 @@ ghost use Rattle.qw_types.specs.Schema.{AreColumns};
 ghost use Rattle.qw_types.specs.declared.schema.Table.{Table};
 ghost use Rattle.qw_types.specs.declared.value.Ty.TheVariants.{Integer};
 ghost use Rattle.qw_scalar.specs.declared.comparison.Comparison.TheVariants.{Equal};
-ghost use Rattle.qw_meaning.specs.Select.{IsSpecification, Specification};
+ghost use Rattle.qw_grouped.specs.Whole.{IsBody, Whole};
 ghost use Rattle.qw_order.specs.declared.sort_key.SortKey.{SortKey};
 ghost use Rattle.qw_ast.specs.declared.script.Sign.TheVariants.{Plus, Minus};
 ghost use Rattle.qw_scalar.specs.Expression as meaning;
@@ -17,19 +17,19 @@ ghost use Rattle.qw_typer.specs.Meant.{meant};
 ghost use Rattle.qw_typer.specs.Typed.{IsWithin, Means, item_names, items_meant, own_name, query_faults, result_names, scope_of, sources_meant};
 ghost use Rattle.qw_typer.specs.Worked.{all_from, all_in_order, alone, ascending, in_order, item_from, join, key_of, keys_of, of, table, table_as, two_tables};
 
-/// A query means a specification exactly where it has no fault, and then one alone, with one name for each result column and one key for
+/// A query means something exactly where it has no fault, and then one query alone, with one name for each result column and one key for
 /// each sort specification.
 pub fn meaning_or_fault()
-    ensures meaning { (schema : List Table) (s : Select) → query_faults schema s ≡ [] → (specification : Specification) × (names : List (List ℕ)) × (keys : List SortKey) × Means schema s specification names keys }
-    ensures no_fault { (schema : List Table) (s : Select) (specification : Specification) (names : List (List ℕ)) (keys : List SortKey) → Means schema s specification names keys → query_faults schema s ≡ [] }
-    ensures one { (schema : List Table) (s : Select) (specification other : Specification) (names others : List (List ℕ)) (keys further : List SortKey) → Means schema s specification names keys
-        → Means schema s other others further → (specification ≡ other) × (names ≡ others) × (keys ≡ further) }
+    ensures meaning { (schema : List Table) (s : Select) → query_faults schema s ≡ [] → (whole : Whole) × (names : List (List ℕ)) × (keys : List SortKey) × Means schema s whole names keys }
+    ensures no_fault { (schema : List Table) (s : Select) (whole : Whole) (names : List (List ℕ)) (keys : List SortKey) → Means schema s whole names keys → query_faults schema s ≡ [] }
+    ensures one { (schema : List Table) (s : Select) (whole other : Whole) (names others : List (List ℕ)) (keys further : List SortKey) → Means schema s whole names keys
+        → Means schema s other others further → (whole ≡ other) × (names ≡ others) × (keys ≡ further) }
 {}
 
-/// What a query means is typed over the columns of its entries and keeps a specification's limits (ISO/IEC 9075:1992, 6.9 to 6.12, 8.2).
+/// What a query means is typed over the columns of its entries and keeps a query's limits (ISO/IEC 9075:1992, 6.9 to 6.12, 8.2).
 pub fn meanings_are_typed()
-    ensures { (schema : List Table) (s : Select) (specification : Specification) (names : List (List ℕ)) (keys : List SortKey) → AllByRecursion (λ (t : Table). AreColumns t.columns) schema → IsWithin s
-        → Means schema s specification names keys → IsSpecification specification }
+    ensures { (schema : List Table) (s : Select) (whole : Whole) (names : List (List ℕ)) (keys : List SortKey) → AllByRecursion (λ (t : Table). AreColumns t.columns) schema → IsWithin s
+        → Means schema s whole names keys → IsBody whole.body }
 {}
 
 /// `1.50` is 150 of scale 2, `.5` is 5 of scale 1, `5.` is 5; zeros at the start don't count; a number of 19 digits and one of 19 digits

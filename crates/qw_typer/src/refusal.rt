@@ -6,13 +6,14 @@ ghost use Rattle.qw_typer.specs.Faults.{first_of_all, first_of_branches, first_o
 ghost use Rattle.qw_typer.specs.Inner.Typing.{spelled};
 
 use crate::fault::FaultKind;
-use qw_ast::script::{Branches, Cond, Expr, Exprs, Phrase};
+use qw_ast::script::{Branches, Cond, Expr, Exprs, Phrase, SetFunction};
 
-/// A token of the text, by its octets.
+/// A token of the text: a name or a literal by its octets, or the word of a set function.
 #[derive(Clone, Copy)]
 pub(crate) enum Token<'a> {
     Name(&'a [u8]),
     Literal(&'a [u8]),
+    Function(SetFunction),
 }
 
 /// Why a construct is refused.
@@ -22,7 +23,7 @@ pub(crate) enum Refusal<'a> {
     Fault(FaultKind, Token<'a>),
 }
 
-/// The first literal or column of an expression; of NULL alone an empty literal.
+/// The first literal, column or set function of an expression; of NULL alone an empty literal.
 #[cycle(token)]
 pub(crate) fn first_token<'a>(expr: &Expr<'a>) -> Token<'a>
     ensures { spelled result ≡ first_token (expression_of expr.now) }
@@ -36,10 +37,12 @@ pub(crate) fn first_token<'a>(expr: &Expr<'a>) -> Token<'a>
         Expr::Match(operand, _) => first_token(operand),
         Expr::Case(branches) => first_of_branches(branches),
         Expr::Coalesce(arguments) => first_of_all(arguments),
+        Expr::CountRows(_) => Token::Function(SetFunction::Count),
+        Expr::SetFunction(_, function, _) => Token::Function(*function),
     }
 }
 
-/// The first literal or column of a condition.
+/// The first literal, column or set function of a condition.
 #[cycle(token)]
 pub(crate) fn first_of_condition<'a>(cond: &Cond<'a>) -> Token<'a>
     ensures { spelled result ≡ first_of_condition (condition_of cond.now) }
@@ -56,7 +59,7 @@ pub(crate) fn first_of_condition<'a>(cond: &Cond<'a>) -> Token<'a>
     }
 }
 
-/// The first literal or column of the first of some expressions.
+/// The first literal, column or set function of the first of some expressions.
 #[cycle(token)]
 pub(crate) fn first_of_all<'a>(exprs: &Exprs<'a>) -> Token<'a>
     ensures { spelled result ≡ first_of_all (expressions_of exprs.now) }
@@ -66,7 +69,7 @@ pub(crate) fn first_of_all<'a>(exprs: &Exprs<'a>) -> Token<'a>
     }
 }
 
-/// The first literal or column of the branches of a CASE.
+/// The first literal, column or set function of the branches of a CASE.
 #[cycle(token)]
 pub(crate) fn first_of_branches<'a>(branches: &Branches<'a>) -> Token<'a>
     ensures { spelled result ≡ first_of_branches (branching_of branches.now) }

@@ -1,17 +1,20 @@
-//! The entries of FROM that column references reach, and the columns that a name may mean there.
+//! What names are resolved against: the entries of FROM that column references reach, and the grouped table.
 
-ghost use Rattle.std.specs.Prelude.{◌≡◌, ◌*◌, ◌++◌, if◌then◌else◌, List, [], Some, position, option_map};
+ghost use Rattle.std.specs.Prelude.{◌≡◌, ◌*◌, ◌+◌, ◌==◌, ◌++◌, if◌then◌else◌, List, [], Some, None, length, position, option_map};
 ghost use Rattle.std.specs.List.{list_any};
 ghost use Rattle.std.specs.Str.{bytes_eq};
 ghost use Rattle.qw_typer.specs.declared.scope.Entry.{Entry as CodeEntry};
+ghost use Rattle.qw_typer.specs.declared.scope.FunctionColumn.{FunctionColumn as CodeFunction};
+ghost use Rattle.qw_grouped.specs.declared.query.GroupedColumn.{GroupedColumn};
 ghost use Rattle.qw_ast.specs.SyntaxTree.{octets_of};
 ghost use Rattle.qw_types.specs.declared.schema.Column.{Column};
 ghost use Rattle.qw_scalar.specs.Expression as meaning;
-ghost use Rattle.qw_typer.specs.Meant.{column_named, is_qualified, listed};
+ghost use Rattle.qw_typer.specs.Meant.{column_grouped, column_named, function_at, is_qualified, listed, ungrouped};
 ghost use Rattle.qw_typer.specs.Meant as meant;
 ghost use Rattle.qw_typer.specs.Faults as faults;
-ghost use Rattle.qw_typer.specs.Inner.Typing.{IsFound, as_entry, in_reach};
+ghost use Rattle.qw_typer.specs.Inner.Typing.{IsFound, as_entries, as_entry, as_grouping, in_reach};
 
+use qw_grouped::query::GroupedColumn;
 use qw_types::{Column, Text, Ty};
 
 /// An entry of FROM (ISO/IEC 9075:1992, 6.3, 7.4): its alias, or without one its table's name; its number among the entries of FROM
@@ -22,6 +25,84 @@ pub(crate) struct Entry<'s> {
     pub(crate) number: u8,
     pub(crate) table: usize,
     pub(crate) columns: &'s [Column],
+}
+
+/// A set function of a grouped query as a column of its grouped table (6.5): its place in the text, and the type of its values.
+#[derive(Clone, Copy)]
+pub(crate) struct FunctionColumn {
+    pub(crate) place: usize,
+    pub(crate) ty: Ty,
+}
+
+/// The columns of the grouped table (7.7 to 7.9): those of GROUP BY, and behind them the set functions in the order of the text.
+#[derive(Clone, Copy)]
+pub(crate) struct Grouping<'e> {
+    pub(crate) columns: &'e [GroupedColumn],
+    pub(crate) functions: &'e [FunctionColumn],
+}
+
+/// What names are resolved against: the entries that column references reach, and in the select list and HAVING of a grouped query the
+/// grouped table.
+#[derive(Clone, Copy)]
+pub(crate) struct Scope<'e, 's> {
+    pub(crate) entries: &'e [Entry<'s>],
+    pub(crate) grouping: Option<Grouping<'e>>,
+}
+
+impl<'e, 's> Scope<'e, 's> {
+    /// That of ON, WHERE, GROUP BY and the arguments of set functions, and of the select list of a query that isn't grouped.
+    pub(crate) fn ungrouped(entries: &'e [Entry<'s>]) -> Self
+        ensures { in_reach result ≡ ungrouped (as_entries entries.now) }
+    {
+        Scope {
+            entries,
+            grouping: None,
+        }
+    }
+}
+
+impl Grouping<'_> {
+    /// A column of FROM in the grouped table, if it is a column of GROUP BY.
+    pub(crate) fn column(&self, column: Place) -> Option<Place>
+        ensures { option_map (λ p. meaning.column p.place p.ty) result ≡ column_grouped (as_grouping self.now) (meaning.column column.place column.ty) }
+    {
+        match column_index(self.columns, column.place) {
+            Some(index) => Some(Place {
+                place: index,
+                ty: self.columns[index].ty,
+            }),
+            None => None,
+        }
+    }
+
+    /// The set function at a place of the text in the grouped table.
+    pub(crate) fn function(&self, place: usize) -> Option<Place>
+        ensures { option_map (λ p. meaning.column p.place p.ty) result ≡ function_at (as_grouping self.now) place }
+    {
+        match function_index(self.functions, place) {
+            Some(index) => Some(Place {
+                place: self.columns.len() + index,
+                ty: self.functions[index].ty,
+            }),
+            None => None,
+        }
+    }
+}
+
+/// The place of the column of FROM of this number among the columns of GROUP BY.
+fn column_index(columns: &[GroupedColumn], number: usize) -> Option<usize>
+    ensures { result ≡ position (λ (c : GroupedColumn). c.number == number) columns.now }
+{
+    columns.iter().position(|column| column.number == number)
+}
+
+/// The place of the set function at a place of the text among the set functions.
+fn function_index(functions: &[FunctionColumn], place: usize) -> Option<usize>
+    ensures { result ≡ position (λ (f : CodeFunction). f.place == place) functions.now }
+{
+    functions
+        .iter()
+        .position(|function| function.place == place)
 }
 
 /// A column's number in every clause, and its type.
@@ -56,25 +137,25 @@ impl Found {
 }
 
 /// Whether the name, as a qualifier, is that of an entry in reach.
-pub(crate) fn is_known(scope: &[Entry<'_>], name: &Text) -> bool
-    ensures { result ≡ faults.is_known (in_reach scope.now) (Some name.now) }
+pub(crate) fn is_known(entries: &[Entry<'_>], name: &Text) -> bool
+    ensures { result ≡ faults.is_known (as_entries entries.now) (Some name.now) }
 {
-    has_name(scope, name)
+    has_name(entries, name)
 }
 
 /// Whether an entry has the name.
-fn has_name(scope: &[Entry<'_>], name: &Text) -> bool
-    ensures { result ≡ list_any (λ (e : CodeEntry). bytes_eq name.now e.name) scope.now }
+fn has_name(entries: &[Entry<'_>], name: &Text) -> bool
+    ensures { result ≡ list_any (λ (e : CodeEntry). bytes_eq name.now e.name) entries.now }
 {
-    scope.iter().any(|entry| is_name(name, &entry.name))
+    entries.iter().any(|entry| is_name(name, &entry.name))
 }
 
 /// The columns of the name in the entries that the qualifier names.
-pub(crate) fn referred(scope: &[Entry<'_>], qualifier: Option<&Text>, name: &Text) -> Found
-    ensures { IsFound result (meant.referred (in_reach scope.now) (octets_of qualifier.entry) name.now) }
+pub(crate) fn referred(entries: &[Entry<'_>], qualifier: Option<&Text>, name: &Text) -> Found
+    ensures { IsFound result (meant.referred (as_entries entries.now) (octets_of qualifier.entry) name.now) }
 {
     let mut found = Found::Nothing;
-    let mut rest = scope;
+    let mut rest = entries;
     while let [entry, behind @ ..] = rest {
         found = found.with(in_entry(entry, qualifier, name));
         rest = behind;

@@ -1,4 +1,4 @@
-//! The query specifications of a script (ISO/IEC 9075:1992, 7.9), or its first fault.
+//! What the queries of a script mean (ISO/IEC 9075:1992, 7.9), or its first fault.
 
 ghost use Rattle.std.specs.Prelude.{◌≡◌, ◌⊎◌, ◌+◌, IfOk, IfErr, List, length};
 ghost use Rattle.qw_ast.specs.SyntaxTree.{select_of, selects_of};
@@ -13,21 +13,22 @@ use crate::fault::TypeFault;
 use crate::name::{name_text, written_text};
 use crate::query::{TypedQuery, query};
 use crate::refusal::{Refusal, Token};
+use crate::set_function::word;
 use qw_ast::script::Script;
 use qw_types::{NoMemory, Schema, Text};
 use std::alloc::Global;
 
-/// The specifications of a script's queries over a schema's tables, in order, each with the names of its result columns and the keys of
+/// What a script's queries mean over a schema's tables, in order, each with the names of its result columns and the keys of
 /// its order.
 ///
 /// # Errors
 ///
 /// `Fault` where a query has a fault: the first such query, counted from 1, one of its faults, and a token of the construct at
 /// fault. `NoMemory` where memory is wanting.
-pub fn type_script(
+pub fn type_script<'a>(
     alloc: Global,
-    schema: &Schema,
-    script: &Script<'_>,
+    schema: &'a Schema,
+    script: &Script<'a>,
 ) -> Result<Vec<TypedQuery>, TypeFault>
     ensures meanings { IfOk result (λ made. AreMeant schema.now (selects_of script.now) made.items) }
     ensures small { IfOk result (λ made. AreSmall made.items) }
@@ -69,5 +70,6 @@ fn token_text(alloc: Global, token: Token<'_>) -> Result<Text, NoMemory>
     match token {
         Token::Name(octets) => name_text(alloc, octets),
         Token::Literal(octets) => written_text(alloc, octets),
+        Token::Function(function) => written_text(alloc, word(function)),
     }
 }

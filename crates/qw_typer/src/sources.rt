@@ -1,16 +1,16 @@
 //! The sources of FROM over its entries (ISO/IEC 9075:1992, 7.4, 7.5): the conjuncts of each ON, over what it reaches.
 
 ghost use Rattle.std.specs.Prelude.{◌≡◌, ◌+◌, MatchResult, IfOk, Ok, drop, length, map, take};
-ghost use Rattle.qw_ast.specs.Limits.{entries_of, octets_condition, over_joins, over_sources};
+ghost use Rattle.qw_ast.specs.Limits.{entries_of, over_joins, over_sources};
 ghost use Rattle.qw_ast.specs.SyntaxTree as syntax;
 ghost use Rattle.qw_meaning.specs.Query.{joined_of, source_of};
 ghost use Rattle.qw_typer.specs.Sizes.{tests_in, tests_on};
-ghost use Rattle.qw_typer.specs.Inner.Sizes.{FitsTests, nodes_condition};
-ghost use Rattle.qw_typer.specs.Inner.Typing.{Refuses, as_entry, in_reach, typed_joined, typed_joins, typed_source, typed_sources};
+ghost use Rattle.qw_typer.specs.Inner.Sizes.{FitsTests, nodes_condition, octets_condition};
+ghost use Rattle.qw_typer.specs.Inner.Typing.{Refuses, as_entries, as_entry, typed_joined, typed_joins, typed_source, typed_sources};
 
 use crate::entries::meant;
 use crate::refusal::Refusal;
-use crate::scope::Entry;
+use crate::scope::{Entry, Scope};
 use crate::statement::conjuncts;
 use qw_ast::script;
 use qw_meaning::query::{Joined, Source};
@@ -24,8 +24,8 @@ pub(crate) fn sources<'a>(
     sources: &[script::Source<'a>],
 ) -> Result<Vec<Source>, Refusal<'a>>
     requires { length entries.now ≡ length (entries_of (map syntax.source_of sources.now)) }
-    ensures gives { MatchResult result (λ made. typed_sources (in_reach entries.now) (map syntax.source_of sources.now) ≡ Ok (map source_of made.items))
-        (λ refusal. Refuses refusal (typed_sources (in_reach entries.now) (map syntax.source_of sources.now))) }
+    ensures gives { MatchResult result (λ made. typed_sources (as_entries entries.now) (map syntax.source_of sources.now) ≡ Ok (map source_of made.items))
+        (λ refusal. Refuses refusal (typed_sources (as_entries entries.now) (map syntax.source_of sources.now))) }
     ensures fits { IfOk result (λ made. FitsTests (tests_on made.items) (over_sources nodes_condition (map syntax.source_of sources.now)) (over_sources octets_condition (map syntax.source_of sources.now))) }
 {
     let mut made = Vec::new(alloc);
@@ -49,8 +49,8 @@ fn source_of<'a>(
     source: &script::Source<'a>,
 ) -> Result<Source, Refusal<'a>>
     requires { length own.now ≡ length source.now.joins.items + 1 }
-    ensures gives { MatchResult result (λ made. typed_source (in_reach own.now) (syntax.source_of source.now) ≡ Ok (source_of made))
-        (λ refusal. Refuses refusal (typed_source (in_reach own.now) (syntax.source_of source.now))) }
+    ensures gives { MatchResult result (λ made. typed_source (as_entries own.now) (syntax.source_of source.now) ≡ Ok (source_of made))
+        (λ refusal. Refuses refusal (typed_source (as_entries own.now) (syntax.source_of source.now))) }
     ensures fits { IfOk result (λ made. FitsTests (tests_in made.joins.items) (over_joins nodes_condition (map syntax.joined_of source.now.joins.items)) (over_joins octets_condition (map syntax.joined_of source.now.joins.items))) }
 {
     let joins = joins(alloc, own, source.joins.as_slice())?;
@@ -66,8 +66,8 @@ fn joins<'a>(
     joins: &[script::Joined<'a>],
 ) -> Result<Vec<Joined>, Refusal<'a>>
     requires { length own.now ≡ length joins.now + 1 }
-    ensures gives { MatchResult result (λ made. typed_joins (in_reach (take 1 own.now)) (in_reach (drop 1 own.now)) (map syntax.joined_of joins.now) ≡ Ok (map joined_of made.items))
-        (λ refusal. Refuses refusal (typed_joins (in_reach (take 1 own.now)) (in_reach (drop 1 own.now)) (map syntax.joined_of joins.now))) }
+    ensures gives { MatchResult result (λ made. typed_joins (as_entries (take 1 own.now)) (as_entries (drop 1 own.now)) (map syntax.joined_of joins.now) ≡ Ok (map joined_of made.items))
+        (λ refusal. Refuses refusal (typed_joins (as_entries (take 1 own.now)) (as_entries (drop 1 own.now)) (map syntax.joined_of joins.now))) }
     ensures fits { IfOk result (λ made. FitsTests (tests_in made.items) (over_joins nodes_condition (map syntax.joined_of joins.now)) (over_joins octets_condition (map syntax.joined_of joins.now))) }
 {
     let mut made = Vec::new(alloc);
@@ -89,11 +89,11 @@ fn joined<'a>(
     own: &Entry<'_>,
     join: &script::Joined<'a>,
 ) -> Result<Joined, Refusal<'a>>
-    ensures gives { MatchResult result (λ made. typed_joined (in_reach reach.now) (as_entry own.now) (syntax.joined_of join.now) ≡ Ok (joined_of made))
-        (λ refusal. Refuses refusal (typed_joined (in_reach reach.now) (as_entry own.now) (syntax.joined_of join.now))) }
+    ensures gives { MatchResult result (λ made. typed_joined (as_entries reach.now) (as_entry own.now) (syntax.joined_of join.now) ≡ Ok (joined_of made))
+        (λ refusal. Refuses refusal (typed_joined (as_entries reach.now) (as_entry own.now) (syntax.joined_of join.now))) }
     ensures fits { IfOk result (λ made. FitsTests made.on.items (nodes_condition (syntax.condition_of join.now.on)) (octets_condition (syntax.condition_of join.now.on))) }
 {
-    let on = conjuncts(alloc, reach, &join.on)?;
+    let on = conjuncts(alloc, &Scope::ungrouped(reach), &join.on)?;
     let entry = meant(alloc, own).map_err(|_| Refusal::NoMemory)?;
     Ok(Joined { entry, on })
 }

@@ -4,46 +4,46 @@ ghost use Rattle.std.specs.Prelude.{◌≡◌, ◌≤◌, ◌+◌, ◌*◌, ◌+
 ghost use Rattle.qw_ast.specs.SyntaxTree as syntax;
 ghost use Rattle.qw_types.specs.declared.schema.Column.{Column};
 ghost use Rattle.qw_scalar.specs.Tree.{condition_of, expression_of};
-ghost use Rattle.qw_ast.specs.Limits.{items_of, octets, octets_condition, over_filter, over_items};
-ghost use Rattle.qw_ast.specs.Syntax.{all_columns};
-ghost use Rattle.qw_typer.specs.Inner.Sizes.{ColumnsPushed, Fits, FitsItems, FitsTests, column_count, nodes, nodes_condition, selected_nodes};
-ghost use Rattle.qw_typer.specs.Inner.Typing.{Refuses, in_reach, typed_conjuncts, typed_filter, typed_item, typed_items, typed_list};
-ghost use Rattle.qw_typer.specs.Typed.{columns_from, item_name, item_names, items_meant, result_names};
+ghost use Rattle.qw_ast.specs.Limits.{items_of, over_filter, over_items};
+ghost use Rattle.qw_typer.specs.Inner.Sizes.{ColumnsPushed, Fits, FitsItems, FitsTests, column_count, nodes, nodes_condition, octets, octets_condition, selected_nodes};
+ghost use Rattle.qw_typer.specs.Inner.Typing.{Refuses, as_entries, in_reach, typed_conjuncts, typed_filter, typed_item, typed_items, typed_list};
+ghost use Rattle.qw_typer.specs.Meant.{ungrouped};
+ghost use Rattle.qw_typer.specs.Typed.{column_names, columns_from, columns_meant, item_name, item_names, result_names};
 
 use crate::expression::{condition, expression};
 use crate::fault::FaultKind;
 use crate::name::name_text;
 use crate::refusal::{Refusal, first_token};
-use crate::scope::{Entry, first_column};
+use crate::scope::{Entry, Scope, first_column};
 use qw_ast::script::{Cond, Expr, Item, SelectList};
 use qw_scalar::expression as meaning;
 use qw_types::{Column, NoMemory, Text};
 use std::alloc::Global;
 
-/// The expressions of a select list.
+/// The expressions of the select list of a query that isn't grouped.
 #[tactic(auto, unfolding(crate::specs::Inner::Typing::Refuses))]
 pub(crate) fn list<'a>(
     alloc: Global,
-    scope: &[Entry<'_>],
+    entries: &[Entry<'_>],
     list: &SelectList<'a>,
 ) -> Result<Vec<meaning::Expr>, Refusal<'a>>
-    ensures gives { MatchResult result (λ made. typed_list (in_reach scope.now) (syntax.selected_of list.now) ≡ Ok (map expression_of made.items))
-        (λ refusal. Refuses refusal (typed_list (in_reach scope.now) (syntax.selected_of list.now))) }
-    ensures fits { column_count (in_reach scope.now) ≤ 512 → IfOk result (λ made. FitsItems made.items (selected_nodes (syntax.selected_of list.now)) (over_items octets (items_of (syntax.selected_of list.now)))) }
+    ensures gives { MatchResult result (λ made. typed_list (ungrouped (as_entries entries.now)) (syntax.selected_of list.now) ≡ Ok (map expression_of made.items))
+        (λ refusal. Refuses refusal (typed_list (ungrouped (as_entries entries.now)) (syntax.selected_of list.now))) }
+    ensures fits { column_count (as_entries entries.now) ≤ 512 → IfOk result (λ made. FitsItems made.items (selected_nodes (syntax.selected_of list.now)) (over_items octets (items_of (syntax.selected_of list.now)))) }
 {
     match list {
-        SelectList::All => Ok(all_columns(alloc, scope).map_err(|_| Refusal::NoMemory)?),
-        SelectList::Items(items) => items_of(alloc, scope, items.as_slice()),
+        SelectList::All => Ok(all_columns(alloc, entries).map_err(|_| Refusal::NoMemory)?),
+        SelectList::Items(items) => items_of(alloc, &Scope::ungrouped(entries), items.as_slice()),
     }
 }
 
 /// All columns of all entries in order.
-fn all_columns(alloc: Global, scope: &[Entry<'_>]) -> Result<Vec<meaning::Expr>, NoMemory>
-    ensures gives { IfOk result (λ made. map expression_of made.items ≡ items_meant (in_reach scope.now) all_columns) }
-    ensures fits { IfOk result (λ made. FitsItems made.items (column_count (in_reach scope.now)) 0) }
+fn all_columns(alloc: Global, entries: &[Entry<'_>]) -> Result<Vec<meaning::Expr>, NoMemory>
+    ensures gives { IfOk result (λ made. map expression_of made.items ≡ columns_meant (as_entries entries.now)) }
+    ensures fits { IfOk result (λ made. FitsItems made.items (column_count (as_entries entries.now)) 0) }
 {
     let mut made = Vec::new(alloc);
-    let mut rest = scope;
+    let mut rest = entries;
     while let [entry, behind @ ..] = rest {
         push_columns(&mut made, entry.number, entry.columns)?;
         rest = behind;
@@ -69,9 +69,9 @@ fn push_columns(
 
 /// The items of a select list.
 #[tactic(auto, using(crate::proofs::StepLemmas::items_step, crate::proofs::StepLemmas::items_refused, crate::proofs::StepLemmas::items_end, crate::proofs::OutcomeLemmas::refuses_memory), unfolding(crate::specs::Inner::Typing::Refuses))]
-fn items_of<'a>(
+pub(crate) fn items_of<'a>(
     alloc: Global,
-    scope: &[Entry<'_>],
+    scope: &Scope<'_, '_>,
     items: &[Item<'a>],
 ) -> Result<Vec<meaning::Expr>, Refusal<'a>>
     ensures gives { MatchResult result (λ made. typed_items (in_reach scope.now) (map syntax.item_of items.now) ≡ Ok (map expression_of made.items))
@@ -92,7 +92,7 @@ fn items_of<'a>(
 #[tactic(auto, using(crate::proofs::OutcomeLemmas::refuses_after, crate::proofs::OutcomeLemmas::refuses_then), unfolding(crate::specs::Inner::Typing::Refuses))]
 fn item_of<'a>(
     alloc: Global,
-    scope: &[Entry<'_>],
+    scope: &Scope<'_, '_>,
     expr: &Expr<'a>,
 ) -> Result<meaning::Expr, Refusal<'a>>
     ensures gives { MatchResult result (λ made. typed_item (in_reach scope.now) (syntax.expression_of expr.now) ≡ Ok (expression_of made))
@@ -109,7 +109,7 @@ fn item_of<'a>(
 /// The conjuncts of WHERE, none without one.
 pub(crate) fn filter<'a>(
     alloc: Global,
-    scope: &[Entry<'_>],
+    scope: &Scope<'_, '_>,
     filter: &Option<Cond<'a>>,
 ) -> Result<Vec<meaning::Cond>, Refusal<'a>>
     ensures gives { MatchResult result (λ made. typed_filter (in_reach scope.now) (option_map syntax.condition_of filter.now) ≡ Ok (map condition_of made.items))
@@ -126,7 +126,7 @@ pub(crate) fn filter<'a>(
 #[tactic(auto, using(crate::proofs::OutcomeLemmas::refuses_after, crate::proofs::OutcomeLemmas::refuses_then, crate::proofs::OutcomeLemmas::refuses_memory))]
 pub(crate) fn conjuncts<'a>(
     alloc: Global,
-    scope: &[Entry<'_>],
+    scope: &Scope<'_, '_>,
     cond: &Cond<'a>,
 ) -> Result<Vec<meaning::Cond>, Refusal<'a>>
     ensures gives { MatchResult result (λ made. typed_conjuncts (in_reach scope.now) (syntax.condition_of cond.now) ≡ Ok (map condition_of made.items))
@@ -152,23 +152,23 @@ pub(crate) fn conjuncts<'a>(
 /// The names of the result columns.
 pub(crate) fn names(
     alloc: Global,
-    scope: &[Entry<'_>],
+    scope: &Scope<'_, '_>,
     list: &SelectList<'_>,
 ) -> Result<Vec<Text>, NoMemory>
     ensures { IfOk result (λ names. names.items ≡ result_names (in_reach scope.now) (syntax.selected_of list.now)) }
 {
     match list {
-        SelectList::All => all_names(alloc, scope),
+        SelectList::All => all_names(alloc, scope.entries),
         SelectList::Items(items) => names_of(alloc, items.as_slice()),
     }
 }
 
 /// The names of all columns of all entries.
-fn all_names(alloc: Global, scope: &[Entry<'_>]) -> Result<Vec<Text>, NoMemory>
-    ensures { IfOk result (λ names. names.items ≡ result_names (in_reach scope.now) all_columns) }
+fn all_names(alloc: Global, entries: &[Entry<'_>]) -> Result<Vec<Text>, NoMemory>
+    ensures { IfOk result (λ names. names.items ≡ column_names (as_entries entries.now)) }
 {
     let mut names = Vec::new(alloc);
-    let mut rest = scope;
+    let mut rest = entries;
     while let [entry, behind @ ..] = rest {
         push_names(&mut names, entry.columns)?;
         rest = behind;

@@ -2,8 +2,8 @@
 //! condition that stands in brackets in the text.
 
 use qw_ast::script::{
-    Branches, Cond, Entry, Expr, Exprs, Interval, Item, Key, Phrase, SelectList, Sign,
-    SortSpecification, Source, Statement,
+    Branches, Cond, Entry, Expr, Exprs, Interval, Item, Key, Phrase, Reference, SelectList,
+    SetFunction, Sign, SortSpecification, Source, Statement,
 };
 use qw_scalar::comparison::Comparison;
 use qw_scalar::expression::{Field, Operator};
@@ -31,6 +31,16 @@ fn field_octets(field: Field) -> &'static [u8] {
         Field::Year => b"YEAR ",
         Field::Month => b"MONTH ",
         Field::Day => b"DAY ",
+    }
+}
+
+fn function_octets(function: SetFunction) -> &'static [u8] {
+    match function {
+        SetFunction::Count => b"COUNT(",
+        SetFunction::Sum => b"SUM(",
+        SetFunction::Avg => b"AVG(",
+        SetFunction::Min => b"MIN(",
+        SetFunction::Max => b"MAX(",
     }
 }
 
@@ -137,6 +147,12 @@ fn put_expression(out: &mut Line, expression: &Expr<'_>) {
             put_expression(out, left);
             put(out, b", ");
             put_expression(out, right);
+            put(out, b")")
+        }
+        Expr::CountRows(_) => put(out, b"COUNT(*)"),
+        Expr::SetFunction(_, function, argument) => {
+            put(out, function_octets(*function));
+            put_expression(out, argument);
             put(out, b")")
         }
     }
@@ -297,16 +313,24 @@ fn put_sources(out: &mut Line, sources: &[Source<'_>]) {
 fn put_sort(out: &mut Line, sort: &SortSpecification<'_>) {
     match sort.key {
         Key::Ordinal(digits) => put(out, digits),
-        Key::Column(qualifier, name) => {
-            if let Some(qualifier) = qualifier {
-                put(out, qualifier);
-                put(out, b".");
-            }
-            put(out, name);
-        }
+        Key::Column(qualifier, name) => put_column(out, qualifier, name),
     }
     if sort.is_descending {
         put(out, b" DESC");
+    }
+}
+
+fn put_grouping(out: &mut Line, grouping: &[Reference<'_>]) {
+    for (index, reference) in grouping.iter().enumerate() {
+        put(
+            out,
+            if index == 0 {
+                b" GROUP BY ".as_slice()
+            } else {
+                b"; ".as_slice()
+            },
+        );
+        put_column(out, reference.qualifier, reference.name);
     }
 }
 
@@ -333,6 +357,11 @@ fn put_statement(out: &mut Line, statement: &Statement<'_>) {
     put_sources(out, &statement.sources);
     if let Some(condition) = &statement.condition {
         put(out, b" WHERE ");
+        put_condition(out, condition);
+    }
+    put_grouping(out, &statement.grouping);
+    if let Some(condition) = &statement.having {
+        put(out, b" HAVING ");
         put_condition(out, condition);
     }
     put_order(out, &statement.order);

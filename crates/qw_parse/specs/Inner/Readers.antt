@@ -6,8 +6,10 @@ use Rattle.qw_scalar.specs.declared.expression.Operator.{Operator}
 use Rattle.qw_scalar.specs.declared.comparison.Comparison.{Comparison}
 use Rattle.qw_token.specs.Token.{Lexeme}
 use Rattle.qw_ast.specs.declared.script.Sign.{Sign}
-use Rattle.qw_ast.specs.Syntax.{Expression, null, number, text, date, column, signed, arithmetic, extract, searched_case, simple_case, coalesce, null_if, Condition, comparison, between, among, is_null, both, either, negation_of, is, bracketed, Clause, condition, expression, Branching, SelectItem, Selected, all_columns, items, Entry, Joined, Source, Key, ordinal, result_column, SortSpecification, Select}
-use Rattle.qw_ast.specs.ScriptGrammar.{is_word, is_symbol, is_number, is_string, is_integer, is_regular, is_name, sign_of, addition_of, multiplication_of, comparison_of, field_of, truth_of, appended, is_comma, Dated, moved, arguments, Branch, is_condition, is_when, branching, is_and, is_or}
+use Rattle.qw_ast.specs.declared.script.SetFunction.{SetFunction}
+use Rattle.qw_ast.specs.declared.script.SetFunction.TheVariants.{Count, Sum, Avg, Min, Max}
+use Rattle.qw_ast.specs.Syntax.{Expression, null, number, text, date, column, signed, arithmetic, extract, searched_case, simple_case, coalesce, null_if, count_rows, set_function, Condition, comparison, between, among, is_null, both, either, negation_of, is, bracketed, Clause, condition, expression, Branching, SelectItem, Selected, all_columns, items, Entry, Joined, Source, Reference, Key, ordinal, result_column, SortSpecification, Select}
+use Rattle.qw_ast.specs.ScriptGrammar.{is_word, is_symbol, is_number, is_string, is_integer, is_regular, is_name, sign_of, addition_of, multiplication_of, comparison_of, field_of, set_function_of, truth_of, appended, is_comma, Dated, moved, arguments, Branch, is_condition, is_when, branching, is_and, is_or}
 
 abbrev pub Reader : Type 0 → Type 0
 Reader A = List Lexeme → Option (A × List Lexeme)
@@ -101,6 +103,10 @@ append o xs a = Some (appended o xs a)
 unfoldable pub further_at : {A : Type 0} → Reader A → Reader (List A)
 further_at item ts = series_at (given []) (token_at is_comma) item append ts
 
+-- the tokens behind ALL, or all of them
+unfoldable pub behind_all : List Lexeme → List Lexeme
+behind_all ts = option_map_or (λ rest. rest) (word_at (codes "ALL") ts) ts
+
 -- NOT or nothing
 unfoldable pub not_at : List Lexeme → Bool × List Lexeme
 not_at ts = option_map_or (λ rest. (true, rest)) (word_at (codes "NOT") ts) (false, ts)
@@ -182,6 +188,24 @@ unfoldable pub extract_at : Reader Clause → Reader Expression
 extract_at inner ts =
     symbol_at (codes "(") ts >>= (λ us. token_at field_of us >>= (λ field. word_at (codes "FROM") field.1 >>= (λ vs. expression_at inner vs >>= (λ e. symbol_at (codes ")") e.1 >>= (λ rest. Some (extract field.0 e.0, rest))))))
 
+-- the argument of a set function, and `)`
+unfoldable pub argument_at : Reader Clause → SetFunction → Reader Expression
+argument_at inner f ts =
+    expression_at inner (behind_all ts) >>= (λ e. symbol_at (codes ")") e.1 >>= (λ rest. Some (set_function (length rest) f e.0, rest)))
+
+-- what stands behind `*` of a set function, which is COUNT
+unfoldable pub rows_at : SetFunction → Reader Expression
+rows_at Count ts = symbol_at (codes ")") ts >>= (λ rest. Some (count_rows (length rest), rest))
+rows_at Sum ts = None
+rows_at Avg ts = None
+rows_at Min ts = None
+rows_at Max ts = None
+
+-- what stands behind the word of a set function
+unfoldable pub set_function_at : Reader Clause → SetFunction → Reader Expression
+set_function_at inner f ts =
+    symbol_at (codes "(") ts >>= (λ us. option_map_or (λ vs. rows_at f vs) (symbol_at (codes "*") us) (argument_at inner f us))
+
 -- what brackets round a clause say
 abbrev pub in_brackets : Clause → Clause
 in_brackets (condition c) = condition (bracketed c)
@@ -210,22 +234,29 @@ primary_of inner t ts =
     else (if is_word (codes "COALESCE") t then as_clause (coalesce_at inner ts)
     else (if is_word (codes "NULLIF") t then as_clause (null_if_at inner ts)
     else (if is_word (codes "EXTRACT") t then as_clause (extract_at inner ts)
-    else (if is_word (codes "DATE") t then as_clause (date_at (t ∷ ts) >>= (λ d. Some (date d.0.string d.0.intervals, d.1)))
+    else option_map_or (λ f. as_clause (set_function_at inner f ts)) (set_function_of t)
+    (if is_word (codes "DATE") t then as_clause (date_at (t ∷ ts) >>= (λ d. Some (date d.0.string d.0.intervals, d.1)))
     else as_clause (column_at (t ∷ ts)))))))))
 
 unfoldable pub primary_at : Reader Clause → Reader Clause
 primary_at inner [] = None
 primary_at inner (t ∷ ts) = primary_of inner t ts
 
--- the same, told by which token is next
+-- a set function, a date or a column reference, told by which token is next
+unfoldable pub other_at : Reader Clause → Reader Clause
+other_at inner ts =
+    option_map_or (λ f. as_clause (set_function_at inner f.0 f.1)) (token_at set_function_of ts)
+    (option_map_or (λ _. as_clause (date_at ts >>= (λ d. Some (date d.0.string d.0.intervals, d.1)))) (word_at (codes "DATE") ts)
+    (as_clause (column_at ts)))
+
+-- a primary, told by which token is next
 unfoldable pub keyed_at : Reader Clause → Reader Clause
 keyed_at inner ts =
     option_map_or (λ us. as_clause (case_at inner us)) (word_at (codes "CASE") ts)
     (option_map_or (λ us. as_clause (coalesce_at inner us)) (word_at (codes "COALESCE") ts)
     (option_map_or (λ us. as_clause (null_if_at inner us)) (word_at (codes "NULLIF") ts)
     (option_map_or (λ us. as_clause (extract_at inner us)) (word_at (codes "EXTRACT") ts)
-    (option_map_or (λ _. as_clause (date_at ts >>= (λ d. Some (date d.0.string d.0.intervals, d.1)))) (word_at (codes "DATE") ts)
-    (as_clause (column_at ts))))))
+    (other_at inner ts))))
 
 unfoldable pub primary_by : Reader Clause → Reader Clause
 primary_by inner ts =
@@ -335,10 +366,6 @@ select_list_at inner ts =
     option_map_or (λ rest. Some (all_columns, rest)) (symbol_at (codes "*") ts)
     (item_at inner ts >>= (λ i. further_at (item_at inner) i.1 >>= (λ others. Some (items (i.0 ∷ others.0), others.1))))
 
--- the tokens behind ALL, or all of them
-unfoldable pub behind_all : List Lexeme → List Lexeme
-behind_all ts = option_map_or (λ rest. rest) (word_at (codes "ALL") ts) ts
-
 unfoldable pub filter_at : Reader Clause → Reader (Option Condition)
 filter_at inner ts = option_map_or (λ us. condition_at inner us >>= (λ c. Some (Some c.0, c.1))) (word_at (codes "WHERE") ts) (Some (None, ts))
 
@@ -365,6 +392,19 @@ source_at inner ts = entry_at ts >>= (λ e. joins_at inner e.1 >>= (λ js. Some 
 unfoldable pub sources_at : Reader Clause → Reader (List Source)
 sources_at inner ts = source_at inner ts >>= (λ s. further_at (source_at inner) s.1 >>= (λ others. Some (s.0 ∷ others.0, others.1)))
 
+unfoldable pub reference_at : Reader Reference
+reference_at ts =
+    token_at (octets_if is_name) ts >>= (λ q. option_map_or (λ us. token_at (octets_if is_name) us >>= (λ t. Some (record { qualifier = Some q.0; name = t.0 }, t.1))) (symbol_at (codes ".") q.1) (Some (record { qualifier = None; name = q.0 }, q.1)))
+
+unfoldable pub grouping_at : Reader (List Reference)
+grouping_at ts =
+    option_map_or (λ us. word_at (codes "BY") us >>= (λ vs. reference_at vs >>= (λ r. further_at reference_at r.1 >>= (λ others. Some (r.0 ∷ others.0, others.1)))))
+    (word_at (codes "GROUP") ts)
+    (Some ([], ts))
+
+unfoldable pub having_at : Reader Clause → Reader (Option Condition)
+having_at inner ts = option_map_or (λ us. condition_at inner us >>= (λ c. Some (Some c.0, c.1))) (word_at (codes "HAVING") ts) (Some (None, ts))
+
 unfoldable pub key_at : Reader Key
 key_at ts =
     option_map_or (λ t. Some (ordinal t.0, t.1)) (token_at (octets_if is_integer) ts)
@@ -385,8 +425,8 @@ order_at ts =
 
 unfoldable pub select_at : Reader Clause → Reader Select
 select_at inner ts =
-    word_at (codes "SELECT") ts >>= (λ us. select_list_at inner (behind_all us) >>= (λ l. word_at (codes "FROM") l.1 >>= (λ vs. sources_at inner vs >>= (λ ss. filter_at inner ss.1 >>= (λ f. order_at f.1 >>= (λ o.
-    Some (record { selected = l.0; sources = ss.0; filter = f.0; order = o.0 }, o.1)))))))
+    word_at (codes "SELECT") ts >>= (λ us. select_list_at inner (behind_all us) >>= (λ l. word_at (codes "FROM") l.1 >>= (λ vs. sources_at inner vs >>= (λ ss. filter_at inner ss.1 >>= (λ f. grouping_at f.1 >>= (λ g. having_at inner g.1 >>= (λ h. order_at h.1 >>= (λ o.
+    Some (record { selected = l.0; sources = ss.0; filter = f.0; grouping = g.0; having = h.0; order = o.0 }, o.1)))))))))
 
 -- the query that all tokens are
 abbrev pub whole : Option (Select × List Lexeme) → Option Select

@@ -1,16 +1,16 @@
-//! COALESCE, NULLIF, EXTRACT and lists of expressions (ISO/IEC 9075:1992, 6.9, 6.6, 8.4).
+//! COALESCE, NULLIF, EXTRACT, set functions and lists of expressions (ISO/IEC 9075:1992, 6.9, 6.6, 6.5, 8.4).
 
 ghost use Rattle.std.specs.Prelude.{◌≡◌, map, IfOk};
 ghost use Rattle.qw_ast.specs.ScriptGrammar.{arguments};
 ghost use Rattle.qw_ast.specs.SyntaxTree.{expression_of, expressions_of};
-ghost use Rattle.qw_parse.specs.Inner.Readers.{coalesce_at, expression_at, extract_at, further_at, nested_at, null_if_at};
+ghost use Rattle.qw_parse.specs.Inner.Readers.{argument_at, coalesce_at, expression_at, extract_at, further_at, nested_at, null_if_at, rows_at, set_function_at};
 ghost use Rattle.qw_parse.specs.Inner.Parser.{Reads, left};
 ghost use Rattle.qw_parse.specs.Inner.Nests.{Nests};
 
 use super::parser::{Parser, Stop};
 use super::rules::Rules;
 use super::tree::{boxed, push};
-use qw_ast::script::{Expr, Exprs, Phrase};
+use qw_ast::script::{Expr, Exprs, Phrase, SetFunction};
 use std::alloc::{AllocError, Global};
 
 /// The first expression and the others, in order.
@@ -31,6 +31,18 @@ pub(crate) fn listed<'a>(
     }
     let rest = boxed(alloc, list)?;
     Ok(Exprs::More(boxed(alloc, first)?, rest))
+}
+
+/// Reads what stands behind `*` of a set function, which is COUNT. Its place is the number of tokens behind it.
+#[tactic(auto, unfolding(crate::specs::Inner::Readers::rows_at))]
+fn rows<'a>(parser: &mut Parser<'a>, function: SetFunction) -> Result<Expr<'a>, Stop>
+    ensures { Reads expression_of (rows_at function (left parser.old)) result (left parser.new) }
+{
+    if !matches!(function, SetFunction::Count) {
+        return Err(Stop::NotGrammar);
+    }
+    parser.expect_symbol(b")")?;
+    Ok(Expr::CountRows(parser.count()))
 }
 
 impl<'a, F: Fn(&mut Parser<'a>, usize) -> Result<Phrase<'a>, Stop>> Rules<F> {
@@ -92,5 +104,36 @@ impl<'a, F: Fn(&mut Parser<'a>, usize) -> Result<Phrase<'a>, Stop>> Rules<F> {
         let date = self.expression(parser)?;
         parser.expect_symbol(b")")?;
         Ok(Expr::Extract(field, boxed(parser.alloc, date)?))
+    }
+
+    /// Reads the argument of a set function and `)`. Its place is the number of tokens behind it.
+    #[tactic(auto, unfolding(crate::specs::Inner::Readers::argument_at, crate::specs::Inner::Readers::behind_all))]
+    fn argument(&self, parser: &mut Parser<'a>, function: SetFunction) -> Result<Expr<'a>, Stop>
+        requires { Nests self.now.levels (F.pre self.now.inner) (F.post self.now.inner) }
+        ensures { Reads expression_of (argument_at (nested_at self.now.levels) function (left parser.old)) result (left parser.new) }
+    {
+        parser.word(b"ALL");
+        let argument = self.expression(parser)?;
+        parser.expect_symbol(b")")?;
+        let place = parser.count();
+        let argument = boxed(parser.alloc, argument)?;
+        Ok(Expr::SetFunction(place, function, argument))
+    }
+
+    /// Reads what stands behind the word of a set function.
+    #[tactic(auto, unfolding(crate::specs::Inner::Readers::set_function_at))]
+    pub(crate) fn set_function(
+        &self,
+        parser: &mut Parser<'a>,
+        function: SetFunction,
+    ) -> Result<Expr<'a>, Stop>
+        requires { Nests self.now.levels (F.pre self.now.inner) (F.post self.now.inner) }
+        ensures { Reads expression_of (set_function_at (nested_at self.now.levels) function (left parser.old)) result (left parser.new) }
+    {
+        parser.expect_symbol(b"(")?;
+        if parser.symbol(b"*") {
+            return rows(parser, function);
+        }
+        self.argument(parser, function)
     }
 }

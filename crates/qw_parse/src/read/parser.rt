@@ -1,13 +1,13 @@
 //! The tokens of a statement that are still to be read.
 
-ghost use Rattle.std.specs.Prelude.{◌≡◌, option_map, if◌then◌else◌, Some, None, false, IfOk};
+ghost use Rattle.std.specs.Prelude.{◌≡◌, length, option_map, if◌then◌else◌, Some, None, false, IfOk};
 ghost use Rattle.qw_token.specs.Token.{lexeme};
-ghost use Rattle.qw_ast.specs.ScriptGrammar.{addition_of, comparison_of, field_of, is_integer, is_name, is_number, is_regular, is_string, multiplication_of, sign_of, truth_of};
+ghost use Rattle.qw_ast.specs.ScriptGrammar.{addition_of, comparison_of, field_of, is_integer, is_name, is_number, is_regular, is_string, multiplication_of, set_function_of, sign_of, truth_of};
 ghost use Rattle.qw_parse.specs.Inner.Readers.{interval_sign_at, join_at, not_at, octets_if, symbol_at, token_at, word_at};
 ghost use Rattle.qw_parse.specs.Inner.Parser.{Passes, Reads, behind, first_of, is_there, left};
 
 use super::terminal;
-use qw_ast::script::Sign;
+use qw_ast::script::{SetFunction, Sign};
 use qw_scalar::comparison::Comparison;
 use qw_scalar::expression::{Field, Operator};
 use qw_token::token::Token;
@@ -54,6 +54,13 @@ impl<'a> Parser<'a> {
         ensures { result ≡ Rattle.qw_parse.specs.Inner.Parser.is_none (left self.now) }
     {
         self.rest.is_empty()
+    }
+
+    /// How many tokens are still to be read.
+    pub(crate) fn count(&self) -> usize
+        ensures { result ≡ length (left self.now) }
+    {
+        self.rest.len()
     }
 
     /// The next token.
@@ -232,6 +239,17 @@ impl<'a> Parser<'a> {
         let comparison = terminal::comparison_of(&self.first()?)?;
         self.skip();
         Some(comparison)
+    }
+
+    /// The set function whose word is next, if there is one.
+    #[tactic(auto, unfolding(crate::specs::Inner::Readers::token_at))]
+    pub(crate) fn set_function(&mut self) -> Option<SetFunction>
+        ensures found { token_at set_function_of (left self.old) ≡ option_map (λ x. (x, left self.new)) result }
+        ensures kept { result ≡ None → left self.new ≡ left self.old }
+    {
+        let function = terminal::set_function_of(&self.first()?)?;
+        self.skip();
+        Some(function)
     }
 
     /// Reads the name of a field of a date.

@@ -1,8 +1,8 @@
-//! Primaries (ISO/IEC 9075:1992, 6.11): literals, column references, brackets, CASE and functions.
+//! Primaries (ISO/IEC 9075:1992, 6.11): literals, column references, brackets, CASE, functions and set functions.
 
 ghost use Rattle.qw_ast.specs.Syntax as syntax;
 ghost use Rattle.qw_ast.specs.SyntaxTree.{clause_of, expression_of};
-ghost use Rattle.qw_parse.specs.Inner.Readers.{brackets_at, column_at, keyed_at, nested_at, primary_at, primary_by};
+ghost use Rattle.qw_parse.specs.Inner.Readers.{brackets_at, column_at, keyed_at, nested_at, other_at, primary_at, primary_by};
 ghost use Rattle.qw_parse.specs.Inner.Parser.{Reads, left};
 ghost use Rattle.qw_parse.specs.Inner.Nests.{Nests};
 
@@ -36,6 +36,22 @@ impl<'a, F: Fn(&mut Parser<'a>, usize) -> Result<Phrase<'a>, Stop>> Rules<F> {
         in_brackets(parser.alloc, phrase)
     }
 
+    /// Reads a set function, a date or a column reference, by what is next.
+    #[tactic(auto, unfolding(crate::specs::Inner::Readers::other_at))]
+    fn other(&self, parser: &mut Parser<'a>) -> Result<Expr<'a>, Stop>
+        requires { Nests self.now.levels (F.pre self.now.inner) (F.post self.now.inner) }
+        ensures { Reads (λ e. syntax.expression (expression_of e)) (other_at (nested_at self.now.levels) (left parser.old)) result (left parser.new) }
+    {
+        if let Some(function) = parser.set_function() {
+            return self.set_function(parser, function);
+        }
+        if parser.is_word(b"DATE") {
+            let date = parser.date()?;
+            return Ok(Expr::Date(date.string, date.intervals));
+        }
+        column(parser)
+    }
+
     /// Reads a primary that begins with a word.
     #[tactic(auto, unfolding(crate::specs::Inner::Readers::keyed_at))]
     fn keyed(&self, parser: &mut Parser<'a>) -> Result<Expr<'a>, Stop>
@@ -54,11 +70,7 @@ impl<'a, F: Fn(&mut Parser<'a>, usize) -> Result<Phrase<'a>, Stop>> Rules<F> {
         if parser.word(b"EXTRACT") {
             return self.extract(parser);
         }
-        if parser.is_word(b"DATE") {
-            let date = parser.date()?;
-            return Ok(Expr::Date(date.string, date.intervals));
-        }
-        column(parser)
+        self.other(parser)
     }
 
     /// Reads a primary, by what is next.

@@ -1,11 +1,11 @@
-//! Queries (ISO/IEC 9075:1992, 7.9, 7.3, 7.4, 7.5, 7.6; 13.1 for the order of their rows).
+//! Queries (ISO/IEC 9075:1992, 7.9, 7.3, 7.4, 7.5, 7.6, 7.8; 7.7 for their groups, 13.1 for the order of their rows).
 
 ghost use Rattle.std.specs.Prelude.{option_map, map};
 ghost use Rattle.qw_token.specs.Token.{lexemes};
 ghost use Rattle.qw_ast.specs.SyntaxTree.{condition_of, entry_of, expression_of, item_of, joined_of, octets_of, selected_of, source_of};
 ghost use Rattle.qw_ast.specs.SyntaxTree as tree;
 ghost use Rattle.qw_parse.specs.Inner.Readers as readers;
-ghost use Rattle.qw_parse.specs.Inner.Readers.{condition_at, entry_at, expression_at, filter_at, further_at, item_at, joined_at, joins_at, naming_at, nested_at, select_at, select_list_at, source_at, sources_at};
+ghost use Rattle.qw_parse.specs.Inner.Readers.{condition_at, entry_at, expression_at, filter_at, further_at, having_at, item_at, joined_at, joins_at, naming_at, nested_at, select_at, select_list_at, source_at, sources_at};
 ghost use Rattle.qw_parse.specs.Inner.Parser.{Finds, Reads, left};
 
 use super::parser::{Parser, Stop};
@@ -98,6 +98,18 @@ impl<'a> Parser<'a> {
         Ok(Some(condition))
     }
 
+    /// Reads a having clause, or nothing.
+    #[tactic(auto, unfolding(crate::specs::Inner::Readers::having_at))]
+    fn having(&mut self) -> Result<Option<Cond<'a>>, Stop>
+        ensures { Reads (option_map condition_of) (having_at (nested_at 33) (left self.old)) result (left self.new) }
+    {
+        if !self.word(b"HAVING") {
+            return Ok(None);
+        }
+        let condition = self.condition()?;
+        Ok(Some(condition))
+    }
+
     /// Reads an entry of FROM: the name of a table, and an alias or none.
     #[tactic(auto, unfolding(crate::specs::Inner::Readers::entry_at))]
     fn entry(&mut self) -> Result<Entry<'a>, Stop>
@@ -177,11 +189,15 @@ impl<'a> Parser<'a> {
         self.expect_word(b"FROM")?;
         let sources = self.sources()?;
         let condition = self.filter()?;
+        let grouping = self.grouping()?;
+        let having = self.having()?;
         let order = self.order()?;
         Ok(Statement {
             list,
             sources,
             condition,
+            grouping,
+            having,
             order,
         })
     }

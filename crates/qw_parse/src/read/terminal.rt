@@ -1,10 +1,10 @@
-//! What a single token is: a key word, a symbol, a literal or a name; and which sign, operator, field or truth it says.
+//! What a single token is: a key word, a symbol, a literal or a name; and which sign, operator, field, set function or truth it says.
 
 ghost use Rattle.std.specs.Prelude.{◌≡◌};
 ghost use Rattle.qw_token.specs.Token.{lexeme};
 ghost use Rattle.qw_ast.specs.ScriptGrammar as grammar;
 
-use qw_ast::script::Sign;
+use qw_ast::script::{SetFunction, Sign};
 use qw_ast::word::{folds_to, is_reserved};
 use qw_scalar::comparison::Comparison;
 use qw_scalar::expression::{Field, Operator};
@@ -128,6 +128,27 @@ pub(crate) fn field_of(token: &Token<'_>) -> Option<Field>
     }
     if is_word(token, b"DAY") {
         return Some(Field::Day);
+    }
+    None
+}
+
+pub(crate) fn set_function_of(token: &Token<'_>) -> Option<SetFunction>
+    ensures { result ≡ grammar.set_function_of (lexeme token.now) }
+{
+    if is_word(token, b"COUNT") {
+        return Some(SetFunction::Count);
+    }
+    if is_word(token, b"SUM") {
+        return Some(SetFunction::Sum);
+    }
+    if is_word(token, b"AVG") {
+        return Some(SetFunction::Avg);
+    }
+    if is_word(token, b"MIN") {
+        return Some(SetFunction::Min);
+    }
+    if is_word(token, b"MAX") {
+        return Some(SetFunction::Max);
     }
     None
 }

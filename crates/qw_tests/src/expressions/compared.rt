@@ -8,14 +8,18 @@ ghost use Rattle.qw_types.specs.Value.{IsDay, is_day as tells_day};
 ghost use Rattle.qw_meaning.specs.Query.{entry_of, joined_of, source_of};
 ghost use Rattle.qw_meaning.specs.Select.{entries_in, entries_of, types_of};
 ghost use Rattle.qw_meaning.specs.Select as specified;
+ghost use Rattle.qw_grouped.specs.Whole.{sources_in};
+ghost use Rattle.qw_grouped.specs.WholeQuery.{body_of};
 ghost use Rattle.qw_plain.specs.Rows.{HasRowsOf};
 
 use crate::tables::left;
 use qw_bench::bench::{Bench, Ended};
 use qw_csv::loading::load;
 use qw_csv::{Cell, Loaded};
-use qw_meaning::query::{Entry, Joined, Query, Source};
-use qw_plain::outcome::{Answer, plain_outcome};
+use qw_grouped::{Body, WholeQuery};
+use qw_meaning::query::{Entry, Joined, Source};
+use qw_plain::outcome::Answer;
+use qw_plain_grouped::outcome::plain_whole_outcome;
 use qw_schema::parse::schema_of;
 use qw_sink::results::received;
 use qw_top::top::queries::queries_of;
@@ -204,11 +208,21 @@ fn is_same(value: &Val, other: &Val) -> bool {
 }
 
 // What the plain program answers over the tables. Their rows are tested for being of their kinds, as it asks.
-fn plain_answer(alloc: Global, query: &Query, tables: &[Vec<Row>]) -> Result<Answer, Fail> {
-    if !have_rows(query.sources(), tables) {
+fn plain_answer(alloc: Global, query: &WholeQuery, tables: &[Vec<Row>]) -> Result<Answer, Fail> {
+    if !have_rows(sources_of(&query.body), tables) {
         return Err("rows of other kinds".into());
     }
-    Ok(plain_outcome(alloc, query, tables)?)
+    Ok(plain_whole_outcome(alloc, query, tables)?)
+}
+
+// The sources of FROM.
+fn sources_of(body: &Body) -> &[Source]
+    ensures { map source_of result.now ≡ sources_in (body_of body.now) }
+{
+    match body {
+        Body::Plain(query) => query.sources(),
+        Body::Grouped(query) => query.sources(),
+    }
 }
 
 // Whether the table of each entry of FROM has rows of the entry's columns.

@@ -5,15 +5,17 @@ use Rattle.qw_types.specs.Contents.{Contents, column_type}
 use Rattle.qw_types.specs.declared.kind.Kind.TheVariants as kind
 use Rattle.qw_types.specs.declared.schema.Table.{Table}
 use Rattle.qw_scalar.specs.Expression.{Expression}
-use Rattle.qw_scalar.specs.Tree.{expression_of}
 use Rattle.qw_scalar.specs.Typing.{kind_of}
-use Rattle.qw_meaning.specs.Query.{query_of}
 use Rattle.qw_meaning.specs.Select.{Entry, entries_of}
+use Rattle.qw_grouped.specs.Whole.{sources_in}
+use Rattle.qw_grouped.specs.WholeQuery.{body_of, whole_of}
 use Rattle.qw_parse.specs.Script.{IsScriptRefused}
 use Rattle.qw_parse.specs.declared.fault.ParseFault.TheVariants as parsing
 use Rattle.qw_typer.specs.declared.fault.TypeFault.TheVariants as typing
 use Rattle.qw_typer.specs.declared.query.TypedQuery.{TypedQuery}
-use Rattle.qw_compile.specs.Limits.{IsShort}
+use Rattle.qw_whole.specs.WholePromises.{items_in}
+use Rattle.qw_compile_whole.specs.WholeLimits.{IsShortBody}
+use Rattle.qw_compile_whole.specs.WholeTaken.{IsTaken}
 use Rattle.qw_bench.specs.Bench.{IsColumnIn, Program}
 use Rattle.qw_sink.specs.declared.sink.Head.{Head}
 use Rattle.qw_top.specs.Causes.{queries_mistyped, queries_refused}
@@ -26,7 +28,7 @@ use Rattle.qw_top.specs.declared.top.queries.QueriesFault.TheVariants.{Script, T
 use Rattle.qw_top.specs.Inner.Stages.{AreContentsOf}
 use Rattle.qw_top.specs.Inner.Stop.{StopsFor}
 
--- the head of a column of this name, whose values an item gives; one without a kind is none of a specification
+-- the head of a column of this name, whose values an item gives; one without a kind is none of a query
 abbrev pub head_of : List ℕ → Expression → Head
 head_of name item = record { name = name; kind = unwrap_or (kind_of item) (kind.Number 0) }
 
@@ -37,7 +39,7 @@ heads_of (name ∷ names) (item ∷ items) = head_of name item ∷ heads_of name
 
 -- the query that it is
 abbrev pub asked_of : TypedQuery → Asked
-asked_of query = record { specification = query_of query.query; header = heads_of query.names.items (map expression_of query.query.items); keys = query.keys.items }
+asked_of query = record { whole = whole_of query.query; header = heads_of query.names.items (items_in (body_of query.query.body)); keys = query.keys.items }
 
 -- an entry of FROM is over a table of the schema, and its columns are that table's
 pub record IsEntryOver (schema : List Table) (entry : Entry) : Type 0 where
@@ -45,10 +47,11 @@ pub record IsEntryOver (schema : List Table) (entry : Entry) : Type 0 where
   pub there : slice_get schema entry.table ≡ Some table
   pub columns_are : entry.columns ≡ map column_type table.columns
 
--- Each entry of its FROM is; and it isn't too long to be compiled.
+-- Each entry of its FROM is; it is one that is compiled, and it isn't too long for that.
 pub record IsOver (schema : List Table) (query : TypedQuery) : Type 0 where
-  pub entries : AllByRecursion (IsEntryOver schema) (entries_of (query_of query.query).sources)
-  pub short : IsShort query.query
+  pub entries : AllByRecursion (IsEntryOver schema) (entries_of (sources_in (body_of query.query.body)))
+  pub taken : IsTaken (whole_of query.query)
+  pub short : IsShortBody query.query.body
 
 -- a text is refused for a fault, or memory was wanted
 abbrev pub Refuses : List Table → (text : List ℕ) → QueriesFault → Type 0

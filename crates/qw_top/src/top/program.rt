@@ -6,13 +6,14 @@ ghost use Rattle.qw_types.specs.Contents.{Contents};
 ghost use Rattle.qw_types.specs.Schema.{AreColumns};
 ghost use Rattle.qw_types.specs.declared.schema.Table.{Table};
 ghost use Rattle.qw_promise.specs.Compiled.{IsCompiled};
-ghost use Rattle.qw_compile.specs.PlannedQueries.{promise_of};
+ghost use Rattle.qw_whole.specs.WholePromises.{promise_of_whole};
 ghost use Rattle.qw_bench.specs.Bench.{IsColumnIn};
 ghost use Rattle.qw_top.specs.Inner.Queries.{IsJobOf, IsOver, asked_of};
 ghost use Rattle.qw_top.specs.Inner.Stages.{AreContentsOf};
 
 use qw_bench::bench::Job;
-use qw_compile::compile::{CompileFault, Compiled, compile};
+use qw_compile::compile::{CompileFault, Compiled};
+use qw_compile_whole::compile_whole::compile_whole;
 use qw_typer::query::TypedQuery;
 use qw_types::{NoMemory, Schema};
 use qw_valid::valid::{ValidFault, validate};
@@ -26,11 +27,11 @@ use std::alloc::Global;
 /// [`NoMemory`] where memory does not suffice.
 pub fn compiled(alloc: Global, schema: &Schema, query: &TypedQuery) -> Result<Compiled, NoMemory>
     requires { IsOver schema.now query.now }
-    ensures compiled { IfOk result (λ made. IsCompiled (promise_of (asked_of query.now).specification) made.layout made.module) }
+    ensures compiled { IfOk result (λ made. IsCompiled (promise_of_whole (asked_of query.now).whole) made.layout made.module) }
     ensures columns { IfOk result (λ made. (tables : List Contents) → AreContentsOf schema.now tables → AllByRecursion (IsColumnIn tables) made.layout.columns) }
 {
     limits_kept(schema);
-    match compile(alloc, &query.query) {
+    match compile_whole(alloc, &query.query) {
         Ok(compiled) => Ok(compiled),
         Err(CompileFault::NoMemory) => Err(NoMemory),
         Err(CompileFault::TooLong) => unreachable!(),

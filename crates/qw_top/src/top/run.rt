@@ -3,6 +3,7 @@
 ghost use Rattle.std.specs.Prelude.{◌≡◌, ◌≤◌, ◌⊎◌, length, map, replicate, IfOk, IfErr, OnOk};
 ghost use Rattle.std.specs.List.{AllByRecursion, AllZip};
 ghost use Rattle.qw_meaning.specs.Select.{AreOfEntries, entries_of};
+ghost use Rattle.qw_grouped.specs.Whole.{sources_in};
 ghost use Rattle.qw_types.specs.Limits.{most_tables};
 ghost use Rattle.qw_linear.specs.Memory.{most_pages};
 ghost use Rattle.qw_bench.specs.Bench.{IsColumnIn, IsStart, Program, rows_in_tables};
@@ -79,7 +80,7 @@ fn finished<'a>(
     requires over { AllByRecursion (IsOver schema.now) queries.now }
     requires few_queries { length queries.now ≤ 64 }
     requires tables { AreContentsOf schema.now tables.now }
-    requires read { AllByRecursion (λ (asked : Asked). AreOfEntries (entries_of asked.specification.sources) (rows_in_tables tables.now)) (map asked_of queries.now) }
+    requires read { AllByRecursion (λ (asked : Asked). AreOfEntries (entries_of (sources_in asked.whole.body)) (rows_in_tables tables.now)) (map asked_of queries.now) }
     ensures ran { IfOk result (λ bench. HasRun (limits_of (options_of options)) options.quantum tables.now (map asked_of queries.now) bench) }
     ensures stops { IfErr result (λ stop. StopsToRun (limits_of (options_of options)) tables.now (map asked_of queries.now) stop) }
 {

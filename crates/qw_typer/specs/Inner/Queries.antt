@@ -12,12 +12,16 @@ use Rattle.qw_typer.specs.declared.refusal.Refusal.{Refusal}
 use Rattle.qw_typer.specs.declared.refusal.Refusal.TheVariants as refusal
 use Rattle.qw_typer.specs.Faults.{Fault}
 use Rattle.qw_typer.specs.Keys.{first_position}
-use Rattle.qw_typer.specs.Meant.{Entry, Scope}
+use Rattle.qw_typer.specs.Meant.{Entry}
+use Rattle.qw_types.specs.declared.schema.Table.{Table}
+use Rattle.qw_ast.specs.Limits.{entries_of}
+use Rattle.qw_ast.specs.Syntax.{Select}
+use Rattle.qw_typer.specs.Typed.{entries_faults, entries_named}
 use Rattle.qw_typer.specs.Inner.Typing.{spelled}
 
 -- each entry has the columns of a table
-abbrev pub HaveTables : Scope → Type 0
-HaveTables scope = AllByRecursion (λ (e : Entry). AreColumns e.columns) scope
+abbrev pub HaveTables : List Entry → Type 0
+HaveTables entries = AllByRecursion (λ (e : Entry). AreColumns e.columns) entries
 
 -- the parts of a specification
 abbrev pub parts_of : Over → QueryParts
@@ -43,3 +47,9 @@ abbrev pub IsFaultOf : ℕ → Refusal → TypeFault → Type 0
 IsFaultOf k refusal.NoMemory fault = fault ≡ type_fault.NoMemory
 IsFaultOf k (refusal.Fault kind token) type_fault.NoMemory = Unit {0}
 IsFaultOf k (refusal.Fault kind token) (type_fault.Fault statement kind' name) = (statement ≡ k) × (kind' ≡ kind) × (name ≡ spelled token)
+
+-- FROM has no fault, and these are its entries, which are tables
+pub record IsFrom (schema : List Table) (s : Select) (entries : List Entry) : Type 0 where
+  pub faultless : entries_faults schema [] (entries_of s.sources) ≡ []
+  pub are : entries ≡ entries_named schema s
+  pub tables : HaveTables entries

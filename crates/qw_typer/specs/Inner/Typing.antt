@@ -1,5 +1,5 @@
--- Mirrors the functions of src/expression.rt, condition.rt and statement.rt: operands from left to right, and the first fault that is met.
-use Rattle.std.specs.Prelude.{◌≡◌, ◌≤◌, ℕ, Bool, List, [], ◌∷◌, ◌++◌, length, map, take, drop, Option, Some, None, Result, Ok, Err, MatchResult, ◌&&◌, if◌then◌else◌}
+-- Mirrors the functions of src/expression.rt, leaf.rt, set_function.rt and statement.rt: operands from left to right, and the first fault that is met.
+use Rattle.std.specs.Prelude.{◌≡◌, ◌≤◌, ℕ, Bool, true, List, [], ◌∷◌, ◌++◌, length, map, take, drop, Option, Some, None, Result, Ok, Err, MatchResult, ◌&&◌, if◌then◌else◌, codes, option_map, unwrap_or}
 use Rattle.qw_types.specs.declared.kind.Kind.{Kind}
 use Rattle.qw_types.specs.declared.kind.Kind.TheVariants as kind
 use Rattle.qw_scalar.specs.declared.comparison.Comparison.TheVariants.{Equal}
@@ -17,28 +17,45 @@ use Rattle.qw_typer.specs.declared.tree.Results.{Results}
 use Rattle.qw_typer.specs.declared.tree.Values.{Values}
 use Rattle.qw_meaning.specs.Select as specified
 use Rattle.qw_meaning.specs.Select.{Specification}
+use Rattle.qw_ast.specs.declared.script.SetFunction.{SetFunction}
 use Rattle.qw_ast.specs.declared.script.Sign.{Sign}
 use Rattle.qw_ast.specs.Grammar.{name_of}
 use Rattle.qw_ast.specs.Limits.{entries_in}
-use Rattle.qw_ast.specs.Syntax.{Expression, null, number, text, date, column, signed, arithmetic, extract, searched_case, simple_case, coalesce, null_if, Condition, comparison, between, among, is_null, both, either, negation_of, is, bracketed, condition, expression, Expressions, last, further, Branching, otherwise, when, SelectItem, Selected, all_columns, items, Joined, Source, Select}
+use Rattle.qw_ast.specs.Syntax.{Expression, null, number, text, date, column, signed, arithmetic, extract, searched_case, simple_case, coalesce, null_if, count_rows, set_function, Condition, comparison, between, among, is_null, both, either, negation_of, is, bracketed, condition, expression, Expressions, last, further, Branching, otherwise, when, SelectItem, Selected, all_columns, items, Joined, Source, Select}
 use Rattle.qw_typer.specs.declared.refusal.Token.{Token}
-use Rattle.qw_typer.specs.declared.refusal.Token.TheVariants.{Name, Literal}
+use Rattle.qw_typer.specs.declared.refusal.Token.TheVariants.{Name, Literal, Function}
 use Rattle.qw_typer.specs.declared.refusal.Refusal.{Refusal}
 use Rattle.qw_typer.specs.declared.refusal.Refusal.TheVariants as refusal
 use Rattle.qw_typer.specs.declared.scope.Entry.{Entry as CodeEntry}
 use Rattle.qw_typer.specs.declared.scope.Found.{Found}
+use Rattle.qw_typer.specs.declared.scope.FunctionColumn.{FunctionColumn as CodeFunction}
+use Rattle.qw_typer.specs.declared.scope.Grouping.{Grouping as CodeGrouping}
+use Rattle.qw_typer.specs.declared.scope.Place.{Place}
+use Rattle.qw_typer.specs.declared.scope.Scope.{Scope as CodeScope}
 use Rattle.qw_typer.specs.declared.scope.Found.TheVariants as found
 use Rattle.qw_typer.specs.declared.tree.Typed.{Typed}
-use Rattle.qw_typer.specs.Faults.{Fault, among_faults, arithmetic_faults, branch_faults, case_faults, column_faults, comparison_faults, faults, field_faults, first_of_all, first_of_branches, first_token, is_allowed, item_faults, misplaced, results_agree, results_kind, sign_faults}
-use Rattle.qw_typer.specs.Meant.{Entry, Scope, meant, with_not, with_sign}
+use Rattle.qw_typer.specs.Faults.{Fault, among_faults, arithmetic_faults, branch_faults, case_faults, comparison_faults, faults, field_faults, function_word, argument_faults, group_faults, nested_faults, reference_faults, first_of_all, first_of_branches, first_token, is_allowed, item_faults, misplaced, results_agree, results_kind, sign_faults}
+use Rattle.qw_typer.specs.Grouping.{starred_faults}
+use Rattle.qw_typer.specs.Meant.{Entry, FunctionColumn, Grouping, Scope, first_of, function_meant, in_group, meant, referred, ungrouped, with_not, with_sign}
 use Rattle.qw_typer.specs.Typed.{entry_meant, items_meant}
 
 -- the entries of FROM that the code keeps
 abbrev pub as_entry : CodeEntry → Entry
 as_entry e = record { name = e.name; number = e.number; table = e.table; columns = e.columns.now }
 
-abbrev pub in_reach : List CodeEntry → Scope
-in_reach entries = map as_entry entries
+abbrev pub as_entries : List CodeEntry → List Entry
+as_entries entries = map as_entry entries
+
+-- and the grouped table
+abbrev pub as_function : CodeFunction → FunctionColumn
+as_function f = record { place = f.place; ty = f.ty }
+
+abbrev pub as_grouping : CodeGrouping → Grouping
+as_grouping g = record { columns = g.columns.now; functions = map as_function g.functions.now }
+
+-- what names are resolved against
+abbrev pub in_reach : CodeScope → Scope
+in_reach scope = record { entries = as_entries scope.entries.now; grouping = option_map as_grouping scope.grouping }
 
 -- what was found of the columns that a reference may mean
 abbrev pub IsFound : Found → List meaning.Expression → Type 0
@@ -50,6 +67,7 @@ IsFound found.Several es = 2 ≤ length es
 abbrev pub spelled : Token → List ℕ
 spelled (Name octets) = name_of octets.now
 spelled (Literal octets) = octets.now
+spelled (Function f) = function_word f
 
 -- the refusal is this fault, or want of memory
 unfoldable pub Refuses : {A : Type 0} → Refusal → Result A Fault → Type 0
@@ -113,6 +131,10 @@ allowed_scale operator s t = if is_allowed operator s t then Some (meaning.scale
 abbrev pub GivesArguments : Result (Results Exprs) Refusal → Result meaning.Expressions Fault → Type 0
 GivesArguments result r = MatchResult result (λ t. (r ≡ Ok (tree.expressions_of t.tree)) × AreTold t.kind t.agree (meaning.coalesced (tree.expressions_of t.tree))) (λ refusal. Refuses refusal r)
 
+-- a call gives the column's number and its type, or refuses
+abbrev pub GivesPlace : Result Place Refusal → Result meaning.Expression Fault → Type 0
+GivesPlace result r = MatchResult result (λ p. r ≡ Ok (meaning.column p.place p.ty)) (λ refusal. Refuses refusal r)
+
 abbrev pub GivesValues : meaning.Expression → Result Values Refusal → Result meaning.Expressions Fault → Type 0
 GivesValues x result r = MatchResult result (λ v. (r ≡ Ok (tree.expressions_of v.tree)) × (v.comparable ≡ all_comparable x (tree.expressions_of v.tree))) (λ refusal. Refuses refusal r)
 
@@ -131,6 +153,20 @@ arithmetic_outcome token operator x y = outcome (arithmetic_faults token operato
 
 abbrev pub field_outcome : List ℕ → Field → meaning.Expression → Result meaning.Expression Fault
 field_outcome token field x = outcome (field_faults token x) (meaning.extract field x)
+
+abbrev pub reference_outcome : List Entry → Option (List ℕ) → List ℕ → Result meaning.Expression Fault
+reference_outcome entries qualifier name = outcome (reference_faults entries qualifier name) (first_of (referred entries (option_map name_of qualifier) (name_of name)))
+
+-- a column of FROM, over the grouped table where there is one
+abbrev pub group_outcome : Option Grouping → List ℕ → meaning.Expression → Result meaning.Expression Fault
+group_outcome grouping name x = outcome (group_faults grouping name x) (unwrap_or (in_group grouping x) meaning.null)
+
+abbrev pub nested_outcome : Option Grouping → List ℕ → Result Bool Fault
+nested_outcome grouping word = outcome (nested_faults grouping word) true
+
+-- of a set function of this argument, which is a column of the grouped table
+abbrev pub argument_outcome : List ℕ → SetFunction → meaning.Expression → meaning.Expression → Result meaning.Expression Fault
+argument_outcome token f x column' = outcome (argument_faults token f x) column'
 
 abbrev pub case_outcome : List ℕ → meaning.Choices → Result meaning.Expression Fault
 case_outcome token cs = outcome (case_faults token cs) (meaning.case cs)
@@ -153,7 +189,9 @@ abbrev mutual
   typed scope (number octets) = outcome (faults scope (number octets)) (meant scope (number octets))
   typed scope (text octets) = Ok (meant scope (text octets))
   typed scope (date string intervals) = outcome (faults scope (date string intervals)) (meant scope (date string intervals))
-  typed scope (column qualifier name) = outcome (column_faults scope qualifier name) (meant scope (column qualifier name))
+  typed scope (column qualifier name) = do
+    x ← reference_outcome scope.entries qualifier name
+    group_outcome scope.grouping (name_of name) x
   typed scope (signed sign a) = do
     x ← typed scope a
     sign_outcome (first_token a) sign x
@@ -178,6 +216,11 @@ abbrev mutual
     x ← typed scope a
     y ← typed scope b
     null_if_outcome (first_token a) x y
+  typed scope (count_rows place) = nested_outcome scope.grouping (codes "COUNT") >>= (λ b. Ok (function_meant scope.grouping place))
+  typed scope (set_function place f a) = do
+    b ← nested_outcome scope.grouping (function_word f)
+    x ← typed (ungrouped scope.entries) a
+    argument_outcome (first_token a) f x (function_meant scope.grouping place)
 
   pub typed_condition : Scope → Condition → Result meaning.Condition Fault
   typed_condition scope (comparison op a b) = do
@@ -283,17 +326,17 @@ typed_items scope (i ∷ others) = do
   Ok (x ∷ xs)
 
 abbrev pub typed_list : Scope → Selected → Result (List meaning.Expression) Fault
-typed_list scope all_columns = Ok (items_meant scope all_columns)
+typed_list scope all_columns = outcome (starred_faults scope.grouping scope.entries) (items_meant scope all_columns)
 typed_list scope (items list) = typed_items scope list
 
 -- JOIN over what its ON reaches, and its own entry
-abbrev pub typed_joined : (reach : Scope) → Entry → Joined → Result specified.Joined Fault
+abbrev pub typed_joined : (reach : List Entry) → Entry → Joined → Result specified.Joined Fault
 typed_joined reach e j = do
-  cs ← typed_conjuncts reach j.on
+  cs ← typed_conjuncts (ungrouped reach) j.on
   Ok (record { entry = entry_meant e; on = cs })
 
 -- what is joined to the entries `reached`; `behind` are the entries behind them
-abbrev pub typed_joins : (reached behind : Scope) → List Joined → Result (List specified.Joined) Fault
+abbrev pub typed_joins : (reached behind : List Entry) → List Joined → Result (List specified.Joined) Fault
 typed_joins reached behind [] = Ok []
 typed_joins reached [] (j ∷ joins) = Ok []
 typed_joins reached (e ∷ behind) (j ∷ joins) = do
@@ -302,24 +345,24 @@ typed_joins reached (e ∷ behind) (j ∷ joins) = do
   Ok (joined ∷ others)
 
 -- a source over its own entries
-abbrev pub typed_source : Scope → Source → Result specified.Source Fault
+abbrev pub typed_source : List Entry → Source → Result specified.Source Fault
 typed_source [] source = Ok (record { first = record { table = 0; columns = [] }; joins = [] })
 typed_source (e ∷ behind) source = do
   joins ← typed_joins (e ∷ []) behind source.joins
   Ok (record { first = entry_meant e; joins = joins })
 
 -- sources over the entries from the first one's on
-abbrev pub typed_sources : Scope → List Source → Result (List specified.Source) Fault
-typed_sources scope [] = Ok []
-typed_sources scope (source ∷ sources) = do
-  s ← typed_source (take (length (entries_in source)) scope) source
-  others ← typed_sources (drop (length (entries_in source)) scope) sources
+abbrev pub typed_sources : List Entry → List Source → Result (List specified.Source) Fault
+typed_sources entries [] = Ok []
+typed_sources entries (source ∷ sources) = do
+  s ← typed_source (take (length (entries_in source)) entries) source
+  others ← typed_sources (drop (length (entries_in source)) entries) sources
   Ok (s ∷ others)
 
 -- a query over the entries of its FROM
 abbrev pub typed_over : Scope → Select → Result Specification Fault
 typed_over scope s = do
   is' ← typed_list scope s.selected
-  sources ← typed_sources scope s.sources
+  sources ← typed_sources scope.entries s.sources
   cs ← typed_filter scope s.filter
   Ok (record { sources = sources; conjuncts = cs; items = is' })

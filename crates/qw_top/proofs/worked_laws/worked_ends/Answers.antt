@@ -1,14 +1,14 @@
 use Rattle.std.proofs.Common.{◌≡◌, inl, inr, refl, arith}
 use Rattle.std.proofs.lemmas.Option.{none-some}
 use Rattle.qw_command_line.specs.Words.{default_options}
-use Rattle.qw_compile.specs.PlannedQueries.{page_bound}
+use Rattle.qw_whole.specs.WholePromises.{whole_pages}
 use Rattle.qw_bench.specs.Bench.{rows_in_tables}
 use Rattle.qw_top.specs.Complete.{most_steps}
 use Rattle.qw_top.specs.Limits.{limits_of}
 use Rattle.qw_top.specs.Worked.{joined, joined_tables}
 use Rattle.qw_top.proofs.worked_laws.worked_ends.Goals as goal
 
-pages_are : page_bound joined.specification (rows_in_tables joined_tables) ≡ 4
+pages_are : whole_pages joined.whole (rows_in_tables joined_tables) ≡ 4
 pages_are = refl
 
 steps_are : most_steps joined (rows_in_tables joined_tables) ≡ 17918066688

@@ -11,6 +11,7 @@ returns c = record {
   many_statements = refl;
   many_items = refl;
   many_entries = refl;
+  many_groups = refl;
   many_keys = refl;
   many_nodes = refl;
   many_octets = refl;
@@ -23,5 +24,8 @@ returns c = record {
   literal = refl;
   date = refl;
   ordinal = refl;
+  not_grouped = refl;
+  nested = refl;
+  many_functions = refl;
   pages = refl;
 }

@@ -5,7 +5,7 @@ pub returns-clause-meaning : goal.returns-clause-meaning
 returns-clause-meaning c = query_meaning
 
 pub returns-clause-no_fault : goal.returns-clause-no_fault
-returns-clause-no_fault c = λ schema s specification names keys m. m.faultless
+returns-clause-no_fault c = λ schema s whole names keys m. m.faultless
 
 pub returns-clause-one : goal.returns-clause-one
 returns-clause-one c = one_meaning

@@ -1,4 +1,4 @@
-use Rattle.qw_typer.proofs.LawLemmas.{typed_query}
+use Rattle.qw_typer.proofs.TypedLemmas.{typed_query}
 use Rattle.qw_typer.proofs.laws.meanings_are_typed.Goals as goal
 
 pub returns : goal.returns

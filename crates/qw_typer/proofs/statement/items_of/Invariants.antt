@@ -1,7 +1,7 @@
 use Rattle.std.proofs.Common.{◌≡◌, map, length}
 use Rattle.qw_ast.specs.SyntaxTree as syntax
-use Rattle.qw_ast.specs.Limits.{octets, over_items}
-use Rattle.qw_typer.specs.Inner.Sizes.{nodes}
+use Rattle.qw_ast.specs.Limits.{over_items}
+use Rattle.qw_typer.specs.Inner.Sizes.{nodes, octets}
 use Rattle.qw_typer.specs.Inner.Typing.{in_reach, typed_items}
 use Rattle.qw_typer.proofs.FitLemmas.{FitsWith}
 use Rattle.qw_typer.proofs.StepLemmas.{After}

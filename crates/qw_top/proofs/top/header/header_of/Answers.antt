@@ -9,12 +9,12 @@ use Rattle.qw_top.proofs.QueryLemmas.{heads-more, typed_at}
 use Rattle.qw_top.proofs.top.header.header_of.Goals as goal
 
 pub with_head-requires : goal.with_head-requires
-with_head-requires c = rw c.items-items.ensures.items (typed_at _ c.args.query.now.query.items c.loop-index.index c.items-items.ensures.kept.items)
+with_head-requires c = typed_at c.items_of-items.result.now c.loop-index.index c.items_of-items.ensures.typed
 
 pub loop-index-preserved : goal.loop-index-preserved
 loop-index-preserved c =
     let names = c.args.query.now.names.items in
-    let items = c.items-items.result.now in
+    let items = c.items_of-items.result.now in
     let i = c.loop-index.index in
     let name = c.name-item.result in
     let within = rw c.deref-name-items.ensures.value at c.loop-index-test.true in

@@ -3,7 +3,7 @@ use Rattle.std.proofs.lemmas.Result.{err_from_is_err_and}
 use Rattle.qw_ast.specs.SyntaxTree.{joined_of}
 use Rattle.qw_parse.specs.Inner.Parser.{left}
 use Rattle.qw_parse.specs.Inner.Readers.{append, join_at, joined_at, joins_at, nested_at}
-use Rattle.qw_parse.proofs.SelectLemmas.{join_shortens}
+use Rattle.qw_parse.proofs.NameLemmas.{join_shortens}
 use Rattle.qw_parse.proofs.ReadLemmas.{going_down, going_end, going_stop, joined_shortens, joins_start, list_on}
 use Rattle.qw_parse.proofs.read.parser.Parser.joins.Goals as goal
 

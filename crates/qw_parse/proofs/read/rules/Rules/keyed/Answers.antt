@@ -1,9 +1,8 @@
 use Rattle.std.proofs.Common.{refl}
 use Rattle.std.specs.Prelude.{codes}
-use Rattle.std.proofs.lemmas.Result.{err_from_is_err_and}
 use Rattle.qw_parse.specs.Inner.Parser.{left}
-use Rattle.qw_parse.specs.Inner.Readers.{as_clause, nested_at}
-use Rattle.qw_parse.proofs.PrimaryReadLemmas.{Past, as_clause_reads, keyed_case, keyed_coalesce, keyed_column, keyed_date, keyed_extract, keyed_null_if, not_there, there}
+use Rattle.qw_parse.specs.Inner.Readers.{nested_at}
+use Rattle.qw_parse.proofs.PrimaryReadLemmas.{Past, as_clause_reads, keyed_case, keyed_coalesce, keyed_extract, keyed_null_if, keyed_other}
 use Rattle.qw_parse.proofs.read.rules.Rules.keyed.Goals as goal
 
 pub returns-then-word : goal.returns-then-word
@@ -32,33 +31,11 @@ returns-then-word-4 g c =
     rw (keyed_extract (nested_at c.args.self.now.levels) (left c.args.parser.now) (left c.word.new.self) no_case (left c.word-2.new.self) no_coalesce (left c.word-3.new.self) no_null_if (left c.word-4.new.self) c.if-word-4.ensures.found)
     (as_clause_reads _ c.extract.result (left c.extract.new.parser) c.extract.ensures)
 
-pub returns-in_err-date : goal.returns-in_err-date
-unfolding as_clause
-returns-in_err-date g c =
-    let err = err_from_is_err_and c.from_residual.result c.from_residual.ensures.1 in
-    let date = there _ c.if-is_word.ensures in
-    let no_case : Past (codes "CASE") (left c.args.parser.now) (left c.word.new.self) = record { absent = c.if-word.ensures.found; kept = c.if-word.ensures.kept refl } in
-    let no_coalesce : Past (codes "COALESCE") (left c.word.new.self) (left c.word-2.new.self) = record { absent = c.if-word-2.ensures.found; kept = c.if-word-2.ensures.kept refl } in
-    let no_null_if : Past (codes "NULLIF") (left c.word-2.new.self) (left c.word-3.new.self) = record { absent = c.if-word-3.ensures.found; kept = c.if-word-3.ensures.kept refl } in
-    let no_extract : Past (codes "EXTRACT") (left c.word-3.new.self) (left c.word-4.new.self) = record { absent = c.if-word-4.ensures.found; kept = c.if-word-4.ensures.kept refl } in
-    rw (err.1, err.2, keyed_date (nested_at c.args.self.now.levels) (left c.args.parser.now) (left c.word.new.self) no_case (left c.word-2.new.self) no_coalesce (left c.word-3.new.self) no_null_if (left c.word-4.new.self) no_extract date.0 date.1)
-    (λ more. rw (c.in_err-date.ensures more) refl)
-
-pub returns-then-is_word : goal.returns-then-is_word
-unfolding as_clause
-returns-then-is_word g c =
-    let date = there _ c.if-is_word.ensures in
-    let no_case : Past (codes "CASE") (left c.args.parser.now) (left c.word.new.self) = record { absent = c.if-word.ensures.found; kept = c.if-word.ensures.kept refl } in
-    let no_coalesce : Past (codes "COALESCE") (left c.word.new.self) (left c.word-2.new.self) = record { absent = c.if-word-2.ensures.found; kept = c.if-word-2.ensures.kept refl } in
-    let no_null_if : Past (codes "NULLIF") (left c.word-2.new.self) (left c.word-3.new.self) = record { absent = c.if-word-3.ensures.found; kept = c.if-word-3.ensures.kept refl } in
-    let no_extract : Past (codes "EXTRACT") (left c.word-3.new.self) (left c.word-4.new.self) = record { absent = c.if-word-4.ensures.found; kept = c.if-word-4.ensures.kept refl } in
-    rw (keyed_date (nested_at c.args.self.now.levels) (left c.args.parser.now) (left c.word.new.self) no_case (left c.word-2.new.self) no_coalesce (left c.word-3.new.self) no_null_if (left c.word-4.new.self) no_extract date.0 date.1, c.in_ok-date.ensures) refl
-
 pub returns : goal.returns
 returns g c =
     let no_case : Past (codes "CASE") (left c.args.parser.now) (left c.word.new.self) = record { absent = c.if-word.ensures.found; kept = c.if-word.ensures.kept refl } in
     let no_coalesce : Past (codes "COALESCE") (left c.word.new.self) (left c.word-2.new.self) = record { absent = c.if-word-2.ensures.found; kept = c.if-word-2.ensures.kept refl } in
     let no_null_if : Past (codes "NULLIF") (left c.word-2.new.self) (left c.word-3.new.self) = record { absent = c.if-word-3.ensures.found; kept = c.if-word-3.ensures.kept refl } in
     let no_extract : Past (codes "EXTRACT") (left c.word-3.new.self) (left c.word-4.new.self) = record { absent = c.if-word-4.ensures.found; kept = c.if-word-4.ensures.kept refl } in
-    rw (keyed_column (nested_at c.args.self.now.levels) (left c.args.parser.now) (left c.word.new.self) no_case (left c.word-2.new.self) no_coalesce (left c.word-3.new.self) no_null_if (left c.word-4.new.self) no_extract (not_there _ c.if-is_word.ensures))
-    (as_clause_reads _ c.column.result (left c.column.new.parser) c.column.ensures)
+    rw (keyed_other (nested_at c.args.self.now.levels) (left c.args.parser.now) (left c.word.new.self) no_case (left c.word-2.new.self) no_coalesce (left c.word-3.new.self) no_null_if (left c.word-4.new.self) no_extract)
+    c.other.ensures

@@ -1,0 +1,63 @@
+-- A grouped query is typed with few nodes and octets.
+use Rattle.std.proofs.Common.{◌≡◌, ℕ, ◌+◌, ◌*◌, ◌≤◌, List, [], ◌∷◌, ◌++◌, map, length, sum_by, refl, sym, ap, ◌∙◌, arith, subst}
+use Rattle.std.proofs.lemmas.List.{length-map}
+use Rattle.qw_types.specs.declared.schema.Table.{Table}
+use Rattle.qw_grouped.specs.Grouped as group
+use Rattle.qw_grouped.specs.Query.{GroupedParts}
+use Rattle.qw_grouped.specs.declared.set_function.SetFunction as coded_function
+use Rattle.qw_ast.specs.Limits.{entries_of}
+use Rattle.qw_ast.specs.Syntax.{Reference, Select, Selected, all_columns, items}
+use Rattle.qw_typer.specs.declared.grouped.Groups as coded_groups
+use Rattle.qw_typer.specs.declared.grouped.Behind as coded_behind
+use Rattle.qw_typer.specs.Functions.{functions_in}
+use Rattle.qw_typer.specs.Grouping.{as_grouped, columns_grouped, grouping_of}
+use Rattle.qw_typer.specs.Meant.{Entry, Grouping, meant, ungrouped}
+use Rattle.qw_typer.specs.Typed.{IsWithin, entries_named, having_faults, filter_faults, scope_of, selected_faults, sources_faults}
+use Rattle.qw_typer.specs.Inner.Grouping.{FitsBehind, FitsGrouped, FitsGroups, RowsAdded, behind_of, groups_of, listed_nodes, over_group, starred_nodes}
+use Rattle.qw_typer.specs.Inner.Queries.{HaveTables}
+use Rattle.qw_typer.proofs.MadeLemmas.{IsMade, behind_none}
+use Rattle.qw_typer.proofs.SoundLemmas.{no_both}
+use Rattle.qw_typer.proofs.StarLemmas.{few_starred}
+
+abbrev pub parts_with : coded_groups.Groups → coded_behind.Behind → List coded_function.SetFunction → GroupedParts
+parts_with groups behind functions =
+    record { sources = behind.sources.items; conjuncts = behind.conjuncts.items; columns = groups.columns.items; functions = functions; having = behind.having.items; items = behind.items.items }
+
+star_few : (schema : List Table) (s : Select) (selected : Selected) → HaveTables (entries_named schema s) → length s.grouping ≤ 64 → selected_faults (over_group (entries_named schema s) (grouping_of (entries_named schema s) s)) selected ≡ []
+    → starred_nodes (entries_named schema s) selected ≤ listed_nodes selected
+star_few schema s all_columns tables few h =
+    let es = entries_named schema s in
+    let star = few_starred schema (entries_of s.sources) (grouping_of es s) tables h in
+    let count = length-map s.grouping (λ (r : Reference). as_grouped (meant (ungrouped es) (Rattle.qw_ast.specs.Syntax.column r.qualifier r.name))) in
+    omega (arith, star, count, few)
+star_few schema s (items list) tables few h = omega arith
+
+pub grouped_fits : (schema : List Table) (s : Select) (entries : List Entry) (groups : coded_groups.Groups) (behind : coded_behind.Behind) (functions : List group.SetFunction) (after : List coded_function.SetFunction)
+    → IsMade schema s entries (groups_of groups) (behind_of behind) functions → IsWithin s → FitsGroups groups s → FitsBehind behind entries s → RowsAdded groups.functions.functions.items after → FitsGrouped (parts_with groups behind after) s
+grouped_fits schema s entries groups behind functions after m within one two added =
+    let es = entries_named schema s in
+    let sc = over_group es (grouping_of es s) in
+    let none = (behind_none schema s entries (groups_of groups) (behind_of behind) m.from m.groups_given m.behind_given).0 in
+    let selected = no_both (selected_faults sc s.selected) (sources_faults schema 0 s.sources ++ (having_faults sc s ++ filter_faults (scope_of schema s) s)) none in
+    let star = star_few schema s s.selected (subst HaveTables m.from.are m.from.tables) within.few_columns selected.0 in
+    let same : starred_nodes entries s.selected ≡ starred_nodes es s.selected = ap (λ (fs : List Entry). starred_nodes fs s.selected) m.from.are in
+    let item_nodes = two.items_fit.nodes_fit in
+    let item_octets = two.items_fit.octets_fit in
+    let source_nodes = two.sources_fit.nodes_fit in
+    let source_octets = two.sources_fit.octets_fit in
+    let having_nodes = two.having_fits.nodes_fit in
+    let having_octets = two.having_fits.octets_fit in
+    let filter_nodes = two.filter_fits.nodes_fit in
+    let filter_octets = two.filter_fits.octets_fit in
+    let argument_nodes = one.arguments.nodes_fit in
+    let argument_octets = one.arguments.octets_fit in
+    let columns = one.columns_are in
+    let functions_are = one.functions_are in
+    let more_nodes = added.nodes_few in
+    let more_octets = added.octets_are in
+    let more = added.length_few in
+    record {
+      few_functions = one.few_functions;
+      nodes_fit = omega (arith, star, same, item_nodes, source_nodes, having_nodes, filter_nodes, argument_nodes, columns, functions_are, more_nodes, more);
+      octets_fit = omega (arith, item_octets, source_octets, having_octets, filter_octets, argument_octets, more_octets);
+    }
