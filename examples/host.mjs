@@ -119,7 +119,7 @@ class Query {
 
   list() {
     this.take("SELECT");
-    this.take("ALL");
+    this.take("ALL", "DISTINCT");
     if (this.take("*")) return this.entries.flatMap((entry) => entry.table.columns.map((_, index) => this.columnAt(entry, index)))
       .map(({ column, ...kind }) => ({ name: column, ...kind }));
     const results = [];
@@ -166,6 +166,7 @@ class Query {
     this.take("NOT");
     if (this.take("BETWEEN")) { this.sum(); this.take("AND"); this.sum(); }
     if (this.take("IN")) this.arguments();
+    if (this.take("LIKE")) this.sum();
     return first;
   }
 

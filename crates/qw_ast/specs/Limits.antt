@@ -1,5 +1,5 @@
 -- How large a query is, and which queries a script may have (ISO/IEC 9075:1992, 7.9, 7.7). The standard leaves the limits to the implementation.
-use Rattle.std.specs.Prelude.{◌≤◌, ◌+◌, ◌-◌, ◌==◌, ℕ, if◌then◌else◌, List, [], ◌∷◌, length, map, take, drop, Option, Some, None}
+use Rattle.std.specs.Prelude.{◌≤◌, ◌+◌, ◌-◌, ◌==◌, ℕ, Bool, true, false, if◌then◌else◌, List, [], ◌∷◌, length, map, take, drop, Option, Some, None}
 use Rattle.std.specs.List.{AllByRecursion, flat_map}
 use Rattle.qw_types.specs.Octets.{single_quote}
 use Rattle.qw_token.specs.Token.{Lexeme}
@@ -144,9 +144,16 @@ query_columns s = length s.grouping
 abbrev pub query_keys : Select → ℕ
 query_keys s = length s.order
 
+-- behind DISTINCT, `*` counts as the columns that it may stand for, 64 of each of 8 entries, since rows are told apart by each of them
+abbrev pub starred_nodes : (distinct : Bool) → Selected → ℕ
+starred_nodes false selected = 0
+starred_nodes true all_columns = 512
+starred_nodes true (items list) = 0
+
 -- each column reference of GROUP BY is a node
 abbrev pub query_nodes : Select → ℕ
-query_nodes s = over_items nodes (items_of s.selected) + (over_sources nodes_condition s.sources + (over_filter nodes_condition s.filter + (length s.grouping + over_filter nodes_condition s.having)))
+query_nodes s =
+    starred_nodes s.distinct s.selected + (over_items nodes (items_of s.selected) + (over_sources nodes_condition s.sources + (over_filter nodes_condition s.filter + (length s.grouping + over_filter nodes_condition s.having))))
 
 abbrev pub query_octets : Select → ℕ
 query_octets s = over_items octets (items_of s.selected) + (over_sources octets_condition s.sources + (over_filter octets_condition s.filter + over_filter octets_condition s.having))

@@ -11,7 +11,7 @@ use Rattle.qw_scalar.specs.declared.expression.Operator.TheVariants.{Add, Subtra
 use Rattle.qw_scalar.specs.declared.expression.Field.{Field}
 use Rattle.qw_scalar.specs.declared.expression.Field.TheVariants.{Year, Month, Day}
 use Rattle.qw_scalar.specs.declared.comparison.Comparison.{Comparison}
-use Rattle.qw_scalar.specs.declared.comparison.Comparison.TheVariants.{Equal, NotEqual, Less, LessOrEqual, Greater, GreaterOrEqual}
+use Rattle.qw_scalar.specs.declared.comparison.Comparison.TheVariants.{Equal, NotEqual, Less, LessOrEqual, Greater, GreaterOrEqual, Like, NotLike}
 use Rattle.qw_token.specs.declared.token.Kind.{Kind}
 use Rattle.qw_token.specs.declared.token.Kind.TheVariants.{Word, DelimitedIdentifier, CharacterString, Number, Symbol}
 use Rattle.qw_token.specs.Token.{Lexeme}
@@ -148,7 +148,7 @@ pub data IsOptionalNot : Bool → List Lexeme → List Lexeme → Type 0 where
   not_absent : (rest : List Lexeme) → IsOptionalNot false rest rest
   not_there : (t : Lexeme) (rest : List Lexeme) → IsTrue (is_word (codes "NOT") t) → IsOptionalNot true (t ∷ rest) rest
 
--- ALL or nothing (6.5, 7.9); it has no effect
+-- ALL or nothing, before the argument of a set function (6.5); it has no effect
 pub data IsOptionalAll : List Lexeme → List Lexeme → Type 0 where
   all_absent : (rest : List Lexeme) → IsOptionalAll rest rest
   all_there : (t : Lexeme) (rest : List Lexeme) → IsTrue (is_word (codes "ALL") t) → IsOptionalAll (t ∷ rest) rest
@@ -269,13 +269,20 @@ IsValueExpression Inner e ts rest = Series (IsTerm Inner) (IsOperator addition_o
 
 -- ---- conditions
 
--- a predicate (8.2, 8.3, 8.4, 8.6)
+-- LIKE, with NOT before it or without
+abbrev pub likeness : Bool → Comparison
+likeness false = Like
+likeness true = NotLike
+
+-- a predicate (8.2, 8.3, 8.4, 8.5, 8.6); the pattern of LIKE is a character string, without ESCAPE
 pub data IsPredicate (Inner : Clause → List Lexeme → List Lexeme → Type 0) : Condition → List Lexeme → List Lexeme → Type 0 where
   a_comparison : (a b : Expression) (op : Comparison) (t : Lexeme) (ts us rest : List Lexeme) → IsValueExpression Inner a ts (t ∷ us) → comparison_of t ≡ Some op → IsValueExpression Inner b us rest → IsPredicate Inner (comparison op a b) ts rest
   a_between : (x a b : Expression) (negated : Bool) (word conjunction : Lexeme) (ts us vs ws rest : List Lexeme) → IsValueExpression Inner x ts us → IsOptionalNot negated us (word ∷ vs) → IsTrue (is_word (codes "BETWEEN") word)
       → IsValueExpression Inner a vs (conjunction ∷ ws) → IsTrue (is_word (codes "AND") conjunction) → IsValueExpression Inner b ws rest → IsPredicate Inner (between negated x a b) ts rest
   an_in : (x e : Expression) (es : List Expression) (negated : Bool) (word opening closing : Lexeme) (ts us vs ws rest : List Lexeme) → IsValueExpression Inner x ts us → IsOptionalNot negated us (word ∷ opening ∷ vs) → IsTrue (is_word (codes "IN") word)
       → IsTrue (is_symbol (codes "(") opening) → Inner (expression e) vs ws → AreFurther (IsExpressionOf Inner) es ws (closing ∷ rest) → IsTrue (is_symbol (codes ")") closing) → IsPredicate Inner (among negated x (arguments e es)) ts rest
+  a_like : (x : Expression) (negated : Bool) (word t : Lexeme) (ts us rest : List Lexeme) → IsValueExpression Inner x ts us → IsOptionalNot negated us (word ∷ t ∷ rest) → IsTrue (is_word (codes "LIKE") word) → IsTrue (is_string t)
+      → IsPredicate Inner (comparison (likeness negated) x (text t.octets)) ts rest
   a_null_test : (x : Expression) (negated : Bool) (word null_word : Lexeme) (ts us rest : List Lexeme) → IsValueExpression Inner x ts (word ∷ us) → IsTrue (is_word (codes "IS") word) → IsOptionalNot negated us (null_word ∷ rest)
       → IsTrue (is_word (codes "NULL") null_word) → IsPredicate Inner (is_null negated x) ts rest
 
@@ -330,6 +337,12 @@ pub data IsNaming : Option (List ℕ) → List Lexeme → List Lexeme → Type 0
 -- a derived column (7.9)
 pub data IsItem (Inner : Clause → List Lexeme → List Lexeme → Type 0) : SelectItem → List Lexeme → List Lexeme → Type 0 where
   item : (e : Expression) (name : Option (List ℕ)) (ts us rest : List Lexeme) → Inner (expression e) ts us → IsNaming name us rest → IsItem Inner (record { value = e; name = name }) ts rest
+
+-- a set quantifier or nothing (7.9): whether it is DISTINCT; ALL and nothing are one
+pub data IsQuantifier : Bool → List Lexeme → List Lexeme → Type 0 where
+  no_quantifier : (rest : List Lexeme) → IsQuantifier false rest rest
+  all_rows : (t : Lexeme) (rest : List Lexeme) → IsTrue (is_word (codes "ALL") t) → IsQuantifier false (t ∷ rest) rest
+  distinct_rows : (t : Lexeme) (rest : List Lexeme) → IsTrue (is_word (codes "DISTINCT") t) → IsQuantifier true (t ∷ rest) rest
 
 -- a select list (7.9)
 pub data IsSelectList (Inner : Clause → List Lexeme → List Lexeme → Type 0) : Selected → List Lexeme → List Lexeme → Type 0 where
@@ -406,10 +419,10 @@ pub data IsOrder : List SortSpecification → List Lexeme → List Lexeme → Ty
 
 -- a query specification (7.9, 7.3, 7.4, 7.7, 7.8), and the order of its rows (13.1)
 pub data IsSelect (Inner : Clause → List Lexeme → List Lexeme → Type 0) : Select → List Lexeme → List Lexeme → Type 0 where
-  a_select : (selected : Selected) (sources : List Source) (filter : Option Condition) (grouping : List Reference) (having : Option Condition) (order : List SortSpecification) (word from : Lexeme) (ts us vs ws xs ys zs rest : List Lexeme)
-      → IsTrue (is_word (codes "SELECT") word) → IsOptionalAll ts us → IsSelectList Inner selected us (from ∷ vs) → IsTrue (is_word (codes "FROM") from) → AreSources Inner sources vs ws → IsFilter Inner filter ws xs
+  a_select : (distinct : Bool) (selected : Selected) (sources : List Source) (filter : Option Condition) (grouping : List Reference) (having : Option Condition) (order : List SortSpecification) (word from : Lexeme) (ts us vs ws xs ys zs rest : List Lexeme)
+      → IsTrue (is_word (codes "SELECT") word) → IsQuantifier distinct ts us → IsSelectList Inner selected us (from ∷ vs) → IsTrue (is_word (codes "FROM") from) → AreSources Inner sources vs ws → IsFilter Inner filter ws xs
       → IsGrouping grouping xs ys → IsHaving Inner having ys zs → IsOrder order zs rest
-      → IsSelect Inner (record { selected = selected; sources = sources; filter = filter; grouping = grouping; having = having; order = order }) (word ∷ ts) rest
+      → IsSelect Inner (record { distinct = distinct; selected = selected; sources = sources; filter = filter; grouping = grouping; having = having; order = order }) (word ∷ ts) rest
 
 -- The tokens are this query. A statement with more than 32 brackets and CASEs open is refused before, and so none is a query here.
 abbrev pub IsSelectOf : List Lexeme → Select → Type 0

@@ -40,6 +40,7 @@ mutual
 
   -- a condition (8.12); a truth value tells whether NOT stands in the predicate
   pub data Condition : Type 0 where
+    -- a comparison, or LIKE, whose second expression is the pattern (8.2, 8.5)
     comparison : Comparison → Expression → Expression → Condition
     between : Bool → Expression → Expression → Expression → Condition
     among : Bool → Expression → Expressions → Condition
@@ -108,6 +109,8 @@ pub record SortSpecification : Type 0 where
 
 -- SELECT .. FROM .. WHERE .. GROUP BY .. HAVING .. ORDER BY .. (7.9, 7.4, 7.6, 7.7, 7.8, 13.1)
 pub record Select : Type 0 where
+  -- whether DISTINCT stands behind SELECT (7.9 "set quantifier")
+  pub distinct : Bool
   pub selected : Selected
   pub sources : List Source
   pub filter : Option Condition

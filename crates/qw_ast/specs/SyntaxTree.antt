@@ -97,7 +97,7 @@ abbrev pub sort_of : coded_sort.SortSpecification → SortSpecification
 sort_of s = record { key = key_of s.key; is_descending = s.is_descending }
 
 abbrev pub select_of : Statement → Select
-select_of s = record { selected = selected_of s.list; sources = map source_of s.sources.items; filter = option_map condition_of s.condition; grouping = map reference_of s.grouping.items; having = option_map condition_of s.having; order = map sort_of s.order.items }
+select_of s = record { distinct = s.distinct; selected = selected_of s.list; sources = map source_of s.sources.items; filter = option_map condition_of s.condition; grouping = map reference_of s.grouping.items; having = option_map condition_of s.having; order = map sort_of s.order.items }
 
 -- the queries that statements are, in order
 abbrev pub selects_of : List Statement → List Select

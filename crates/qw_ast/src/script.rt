@@ -70,7 +70,7 @@ pub enum Expr<'a> {
 /// A condition (8.12 "search condition", with its predicates). A `bool` tells whether NOT stands in the predicate.
 #[cycle(script)]
 pub enum Cond<'a> {
-    /// `left comparison right` (8.2).
+    /// `left comparison right` (8.2), or `left [NOT] LIKE right` (8.5), where right is a character string.
     Compare(Comparison, Box<Expr<'a>>, Box<Expr<'a>>),
     /// `operand [NOT] BETWEEN least AND greatest` (8.3).
     Between(bool, Box<Expr<'a>>, Box<Expr<'a>>, Box<Expr<'a>>),
@@ -174,10 +174,11 @@ pub struct SortSpecification<'a> {
     pub is_descending: bool,
 }
 
-/// `SELECT list FROM sources [WHERE condition] [GROUP BY grouping] [HAVING having] [ORDER BY order]` (7.9, 7.4, 7.6, 7.7, 7.8, 13.1), with
-/// one source or more; without a GROUP BY the grouping is empty, and without an ORDER BY the order.
+/// `SELECT [ALL | DISTINCT] list FROM sources [WHERE condition] [GROUP BY grouping] [HAVING having] [ORDER BY order]` (7.9, 7.4, 7.6, 7.7,
+/// 7.8, 13.1), with one source or more; without a GROUP BY the grouping is empty, and without an ORDER BY the order.
 #[derive(Drop)]
 pub struct Statement<'a> {
+    pub distinct: bool,
     pub list: SelectList<'a>,
     pub sources: Vec<Source<'a>>,
     pub condition: Option<Cond<'a>>,

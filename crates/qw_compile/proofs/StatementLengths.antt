@@ -74,7 +74,7 @@ locals_long tables texts words columns own =
     let numbers : List ValType = word_types words parts in
     omega (arith, tables_long tables (I32 ∷ I32 ∷ I32 ∷ text_types texts numbers), texts_long texts numbers, words_long words parts, parts_long columns held, held_long columns own)
 
-pub few_locals : (tables texts words : ℕ) (columns : List ReadColumn) (own locals : List ValType) (pipelines : List LowStep) → locals ≡ query_locals tables texts words columns own → length pipelines + length own ≤ 2006404 → tables ≤ 8 → texts ≤ 4012 → words ≤ 4012 →
+pub few_locals : (tables texts words : ℕ) (columns : List ReadColumn) (own locals : List ValType) (pipelines : List LowStep) → locals ≡ query_locals tables texts words columns own → length pipelines + length own ≤ 2006404 → tables ≤ 9 → texts ≤ 4012 → words ≤ 4012 →
     length columns ≤ 512 → length locals ≤ 2097152
 few_locals tables texts words columns own locals pipelines is short few few_texts few_words few_columns =
     let all = ap (λ (l : List ValType). length l) is in

@@ -1,6 +1,6 @@
 -- The run of a grouped query's statement with DISTINCT, from the memory that it begins with to the rows that are found: those of the walk over the second
--- table, in some order (ISO/IEC 9075:1992, 7.7 to 7.9).
-use Rattle.std.proofs.Common.{◌≡◌, ℕ, suc, ◌+◌, ◌*◌, ◌<◌, ◌≤◌, inl, IsUtf8, Some, List, [], ◌∷◌, ◌++◌, length, map, refl, sym, subst, arith}
+-- table, in some order (ISO/IEC 9075:1992, 7.7 to 7.9). Where rows are counted that go into groups, they are few.
+use Rattle.std.proofs.Common.{◌≡◌, ℕ, suc, ◌+◌, ◌*◌, ◌^◌, ◌<◌, ◌≤◌, inl, IsUtf8, Option, Some, List, [], ◌∷◌, ◌++◌, length, map, slice_get, refl, sym, subst, arith}
 use Rattle.std.specs.List.{AllByRecursion, concat}
 use Rattle.std.specs.List.Sorted.{IsPermutation}
 use Rattle.std.proofs.lemmas.List.Sorted.{length_permutation}
@@ -9,6 +9,7 @@ use Rattle.qw_types.specs.declared.kind.Kind.{Kind}
 use Rattle.qw_types.specs.declared.value.Val.{Val}
 use Rattle.qw_linear.specs.Memory.{page}
 use Rattle.qw_module.specs.declared.instruction.ValType.{ValType}
+use Rattle.qw_module.specs.declared.instruction.ValType.TheVariants.{I32, I64}
 use Rattle.qw_scalar.specs.Typing.{kind_of}
 use Rattle.qw_grouped.specs.Grouped.{Grouped}
 use Rattle.qw_map.specs.Layout.{Layout, descriptor_size, entry_offset}
@@ -34,6 +35,7 @@ use Rattle.qw_table.specs.declared.key.Field.{Field}
 use Rattle.qw_physical.specs.Physical.{Pipeline, filter, select}
 use Rattle.qw_physical.specs.declared.pipeline.ReadColumn.{ReadColumn}
 use Rattle.qw_operator.specs.Carries.{directory}
+use Rattle.qw_operator.proofs.CarriedTyped.{AreLed, IsReaderDeclared}
 use Rattle.qw_operator.proofs.Promised.{AreOwn}
 use Rattle.qw_operator.proofs.Stood.{Stood}
 use Rattle.qw_emit.specs.RunsOf.{first_locals}
@@ -46,14 +48,15 @@ use Rattle.qw_compile.specs.QueryLocals.{own_start, query_readers}
 use Rattle.qw_compile.specs.Statements.{AreCourses, Course, build_block, builds_block}
 use Rattle.qw_compile.proofs.LocalsDeclared.{first_own_types, rest_own_types}
 use Rattle.qw_compile.proofs.LocalsPlaced.{literal_count, literals_known, texts_placed, words_placed}
-use Rattle.qw_compile.proofs.PipelineRuns.{AreStood, Grounds, fed_over}
+use Rattle.qw_compile.proofs.PipelineRuns.{AreStood, Grounds, fed_over, readers_of}
 use Rattle.qw_compile.proofs.QueryRuns.{AreLaid, IsBegun}
-use Rattle.qw_compile_whole.specs.DistinctStatements.{distinct_block}
-use Rattle.qw_compile_whole.specs.GroupedStatements.{IsGathering}
+use Rattle.qw_compile_whole.specs.DistinctStatements.{distinct_block_of}
+use Rattle.qw_compile_whole.specs.GuardedStatements.{IsGatheringBy, gather_block}
 use Rattle.qw_compile_whole.proofs.EnterBounded.{IsDistinctBounded}
-use Rattle.qw_compile_whole.proofs.FrontEnds.{HasSettled, front_then, settle_ends}
+use Rattle.qw_compile_whole.proofs.FrontEnds.{HasSettled, settle_ends}
 use Rattle.qw_compile_whole.proofs.Gathered.{AreGathered}
 use Rattle.qw_compile_whole.proofs.GroupBounded.{GoTogether, groups_paid, rows_met, walked_of}
+use Rattle.qw_compile_whole.proofs.GuardedFronts.{IsGuard, front_by, gather_cost, gather_paid}
 use Rattle.qw_compile_whole.proofs.Walked.{walk_then}
 use Rattle.qw_compile_whole.proofs.WalkedInto.{enter_then}
 
@@ -100,13 +103,15 @@ module _ (layout : Layout) (tables : List (List (List Val))) (limit others : ℕ
       (again : Grouped) (into : Group) (key_again : List ReadColumn) (values_again : List ValueColumn) (together_again : GoTogether again into key_again values_again literals) (into_fields : List Field) (into_kinds : kinds_of (sources_of into_fields) ≡ map kind_of into.values) (values_are : into.values ≡ query.items)
       (is_select : gathering.sink ≡ select group.values) (kinds_are : map kind_of again.items ≡ map (λ (k : Kind). Some k) layout.cells) (table_is : group.table ≡ length building) (into_is : into.table ≡ length building + 1) (room_T : length building + 1 < T)
       (builds : List Course) (gathers : Course) (enters walk : Statement) (builds_own gathers_own enters_own walk_own : List ValType) (built : AreCourses literals (query_readers T n columns) own_first building builds builds_own)
-      (gathered : IsGathering literals (query_readers T n columns) (own_first + length builds_own) gathering group fields gathers gathers_own)
+      (guard : Option ℕ) (is_guard : IsGuard guard) (gathered : IsGatheringBy guard literals (query_readers T n columns) (own_first + length builds_own) gathering group fields gathers gathers_own)
       (entered : IsGroupPipelineTo (InEnd (Grouping into_fields into) (filter query.having ∷ [])) literals (directory (length building)) (own_first + length builds_own + length gathers_own) key values enters enters_own)
       (walked : IsGroupPipeline literals (directory (length building + 1)) (own_first + length builds_own + length gathers_own + length enters_own) key_again values_again (filter again.having ∷ []) (select again.items) walk walk_own)
       (own_room : own_first + length builds_own + length gathers_own + length enters_own + length walk_own ≤ many) (own_types : AreOwn types own_first (builds_own ++ (gathers_own ++ (enters_own ++ walk_own)))) (Told : ℕ → Type 0)
-      (b : IsDistinctBounded T n columns texts words at table_of building gathering query group key values again into key_again values_again Told u most N tables) where
+      (page_is : slice_get types 0 ≡ Some I32) (free_is : slice_get types 1 ≡ Some I32) (left_is : slice_get types 2 ≡ Some I32) (count_is : slice_get types 4 ≡ Some I64) (directory_is : slice_get types (directory group.table) ≡ Some I32)
+      (readers_declared : AllByRecursion (IsReaderDeclared types) (readers_of T n columns gathering.entry)) (led : AreLed types gathering.operators)
+      (b : IsDistinctBounded T n columns texts words at table_of building gathering query group key values again into key_again values_again Told u most N tables) (fewer : guard ≡ Some 4 → (stoods : List Stood) → AreStood tables [] building stoods → length (rows_met tables stoods gathering) < 10 ^ 18) where
     abbrev pub whole : Statement
-    whole = distinct_block T base leads sets builds (length building) gathers enters walk
+    whole = distinct_block_of guard T base leads sets builds (length building) gathers enters walk
 
     abbrev Answered : LowState → Type 0
     Answered = IsDistinctAnswered layout tables building gathering query again
@@ -149,12 +154,13 @@ module _ (layout : Layout) (tables : List (List (List Val))) (limit others : ℕ
     pub distinct_ends : Ends (size whole * N) Answered Never Told (meaning most fuel whole first)
     distinct_ends =
         let B : ℕ = size (builds_block T 0 builds) in
-        let G : ℕ = size (build_block T (length building) gathers) in
+        let G : ℕ = size (gather_block guard T (length building) gathers) in
+        let X : ℕ = gather_cost guard (size (build_block T (length building) gathers)) N in
         let E : ℕ = size enters in
         let W : ℕ = size walk in
         let a : ℕ = 7 + (size leads + size sets) + 44 in
-        Ends-more Answered Never Told (7 + (size leads + (size sets + (B * N + (G * N + (26 + (E * N + (6 + (W * N + 12))))))))) (size whole * N) (meaning most fuel whole first)
-        (omega (arith, add-mul a (B + (G + (E + W))) N, add-mul B (G + (E + W)) N, add-mul G (E + W) N, add-mul E W N, at_least a N b.some))
-        (front_then layout tables limit others are_ready small T columns texts words table_of laid texts_are utf8 small_words most fuel N u types leads sets leads_all sets_all b.some turns b.u_low declared building gathering group together.can fields field_kinds is_select table_is (omega (arith, room_T))
-        builds gathers builds_own gathers_own (enters_own ++ walk_own) built gathered (omega (arith, own_room)) own_types Told b.budget b.reached b.told b.gathered b.told_gathered (26 + (E * N + (6 + (W * N + 12)))) Answered
-        (seq (directory_block (directory (length building + 1))) (seq enters (seq begin_block (seq walk finish_block)))) walks_end)
+        Ends-more Answered Never Told (7 + (size leads + (size sets + (B * N + (X + (26 + (E * N + (6 + (W * N + 12))))))))) (size whole * N) (meaning most fuel whole first)
+        (omega (arith, add-mul a (B + (G + (E + W))) N, add-mul B (G + (E + W)) N, add-mul G (E + W) N, add-mul E W N, at_least a N b.some, gather_paid guard T (length building) gathers N b.some))
+        (front_by layout tables limit others are_ready small T columns texts words table_of laid texts_are utf8 small_words most fuel N u types leads sets leads_all sets_all b.some turns b.u_low declared building gathering group together.can fields field_kinds is_select table_is (omega (arith, room_T))
+        builds gathers builds_own gathers_own (enters_own ++ walk_own) built (omega (arith, own_room)) own_types Told page_is free_is left_is count_is directory_is readers_declared led b.budget b.reached b.told b.gathered b.told_gathered (26 + (E * N + (6 + (W * N + 12)))) Answered
+        (seq (directory_block (directory (length building + 1))) (seq enters (seq begin_block (seq walk finish_block)))) walks_end guard is_guard gathered fewer)

@@ -27,7 +27,7 @@ columns_long n [] = refl
 columns_long n (e ∷ items) = ap suc (columns_long (n + 1) items)
 
 -- no value is behind the last column
-none_behind : (n : ℕ) (kinds : List (Option Kind)) → length kinds ≡ n → drop n kinds ≡ []
+pub none_behind : (n : ℕ) (kinds : List (Option Kind)) → length kinds ≡ n → drop n kinds ≡ []
 none_behind n [] is = drop_none n
   where
     drop_none : (m : ℕ) → drop m (let none : List (Option Kind) = [] in none) ≡ []
@@ -36,7 +36,7 @@ none_behind n [] is = drop_none n
 none_behind zero (k ∷ kinds) is = absurd (omega (arith, is))
 none_behind (suc n) (k ∷ kinds) is = none_behind n kinds (omega (arith, is))
 
-all_sized : (n m : ℕ) (items : List Expression) → AllByRecursion IsTyped items → AreSized (key_from n (distinct_columns m items))
+pub all_sized : (n m : ℕ) (items : List Expression) → AllByRecursion IsTyped items → AreSized (key_from n (distinct_columns m items))
 all_sized n m [] typed = tt
 all_sized n m (e ∷ items) typed = (widest_sized (kind_of e) (kind_low e typed.0), all_sized (n + 1) (m + 1) items typed.1)
 

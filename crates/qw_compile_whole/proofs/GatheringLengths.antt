@@ -57,24 +57,28 @@ counted_few : (guard : Option ℕ) → length (steps_of (count_from guard)) + le
 counted_few None = omega arith
 counted_few (Some z) = omega arith
 
-pub grouped_short : (guard : Option ℕ) (builds gathers walks table : ℕ) (code0 code1 code2 code3 code4 code5 code6 code7 code8 : List LowStep) (own0 own1 own2 own3 : List ValType) → code0 ≡ [] → own0 ≡ [] → length code1 + length own1 ≤ length code0 + length own0 + builds → code2 ≡ code1 ++ steps_of (count_from guard) → code3 ≡ code2 ++ steps_of (directory_block (directory table)) →
-    length code4 + length own2 + 40 ≤ length code3 + length own1 + gathers → code5 ≡ code4 ++ steps_of (stop_at guard) → code6 ≡ code5 ++ steps_of begin_block → length code7 + length own3 + 40 ≤ length code6 + length own2 + walks → code8 ≡ code7 ++ steps_of finish_block →
-    length code8 + length own3 ≤ builds + gathers + walks
-grouped_short guard builds gathers walks table code0 code1 code2 code3 code4 code5 code6 code7 code8 own0 own1 own2 own3 none none_own built counted directed gathered stopped begun walked finished =
+pub front_short : (guard : Option ℕ) (builds gathers table : ℕ) (code0 code1 code2 code3 code4 code5 : List LowStep) (own0 own1 own2 : List ValType) → code0 ≡ [] → own0 ≡ [] → length code1 + length own1 ≤ length code0 + length own0 + builds → code2 ≡ code1 ++ steps_of (count_from guard) → code3 ≡ code2 ++ steps_of (directory_block (directory table)) →
+    length code4 + length own2 + 40 ≤ length code3 + length own1 + gathers → code5 ≡ code4 ++ steps_of (stop_at guard) → length code5 + length own2 ≤ builds + gathers
+front_short guard builds gathers table code0 code1 code2 code3 code4 code5 own0 own1 own2 none none_own built counted directed gathered stopped =
     let two = ap (λ (l : List LowStep). length l) counted ∙ length-append code1 (steps_of (count_from guard)) in
     let three = ap (λ (l : List LowStep). length l) directed ∙ length-append code2 (steps_of (directory_block (directory table))) in
     let five = ap (λ (l : List LowStep). length l) stopped ∙ length-append code4 (steps_of (stop_at guard)) in
-    let six = ap (λ (l : List LowStep). length l) begun ∙ length-append code5 (steps_of begin_block) in
-    let eight = ap (λ (l : List LowStep). length l) finished ∙ length-append code7 (steps_of finish_block) in
     let few = counted_few guard in
-    omega (arith, two, three, five, six, eight, few, built, gathered, walked, ap (λ (l : List LowStep). length l) none, ap (λ (l : List ValType). length l) none_own)
+    omega (arith, two, three, five, few, built, gathered, ap (λ (l : List LowStep). length l) none, ap (λ (l : List ValType). length l) none_own)
+
+pub grouped_short : (front walks : ℕ) (code1 code2 code3 code4 : List LowStep) (own1 own2 : List ValType) → length code1 + length own1 ≤ front → code2 ≡ code1 ++ steps_of begin_block → length code3 + length own2 + 40 ≤ length code2 + length own1 + walks → code4 ≡ code3 ++ steps_of finish_block →
+    length code4 + length own2 ≤ front + walks
+grouped_short front walks code1 code2 code3 code4 own1 own2 before begun walked finished =
+    let two = ap (λ (l : List LowStep). length l) begun ∙ length-append code1 (steps_of begin_block) in
+    let four = ap (λ (l : List LowStep). length l) finished ∙ length-append code3 (steps_of finish_block) in
+    omega (arith, two, four, before, walked)
 
 -- ---- a pipeline whose rows go into groups, and one that would make rows of their values
-span_apart : (os : List Operator) (s : Sink) → span os s ≡ span_to os (sink_span s)
+pub span_apart : (os : List Operator) (s : Sink) → span os s ≡ span_to os (sink_span s)
 span_apart [] s = refl
 span_apart (o ∷ os) s = ap (λ (n : ℕ). operator_span o + n) (span_apart os s)
 
-span_more : (os : List Operator) (m n d : ℕ) → m ≡ n + d → span_to os m ≡ span_to os n + d
+pub span_more : (os : List Operator) (m n d : ℕ) → m ≡ n + d → span_to os m ≡ span_to os n + d
 span_more [] m n d h = h
 span_more (o ∷ os) m n d h = let rest = span_more os m n d h in omega (arith, rest)
 
@@ -101,7 +105,7 @@ words_few ps behind columns words short few =
 
 -- ---- the whole
 pub few_steps : (descriptor texts words : ℕ) (leads sets : Statement) (pipelines code : List LowStep) (own : List ValType) → code ≡ steps_of (space_block descriptor) ++ (steps_of leads ++ (steps_of sets ++ pipelines)) → statement_size leads ≤ 6 * texts → statement_size sets ≤ 2 * words →
-    length pipelines + length own ≤ 2020000 → texts ≤ 4012 → words ≤ 4012 → length code ≤ 2097152
+    length pipelines + length own ≤ 2030000 → texts ≤ 4012 → words ≤ 4012 → length code ≤ 2097152
 few_steps descriptor texts words leads sets pipelines code own is leading setting short few few_words =
     let all = ap (λ (l : List LowStep). length l) is in
     let one = length-append (steps_of (space_block descriptor)) (steps_of leads ++ (steps_of sets ++ pipelines)) in
@@ -109,7 +113,7 @@ few_steps descriptor texts words leads sets pipelines code own is leading settin
     let three = length-append (steps_of sets) pipelines in
     omega (arith, all, one, two, three, steps_twice leads, steps_twice sets, leading, setting, short, few, few_words)
 
-pub few_locals : (tables texts words : ℕ) (columns : List ReadColumn) (own locals : List ValType) (pipelines : List LowStep) → locals ≡ query_locals tables texts words columns own → length pipelines + length own ≤ 2020000 → tables ≤ 8 → texts ≤ 4012 → words ≤ 4012 →
+pub few_locals : (tables texts words : ℕ) (columns : List ReadColumn) (own locals : List ValType) (pipelines : List LowStep) → locals ≡ query_locals tables texts words columns own → length pipelines + length own ≤ 2030000 → tables ≤ 9 → texts ≤ 4012 → words ≤ 4012 →
     length columns ≤ 512 → length locals ≤ 2097152
 few_locals tables texts words columns own locals pipelines is short few few_texts few_words few_columns =
     let all = ap (λ (l : List ValType). length l) is in

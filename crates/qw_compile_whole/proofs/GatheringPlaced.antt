@@ -34,7 +34,7 @@ use Rattle.qw_compile.specs.Placed.{ArePlaced, EmitsBuilds, literals_placed}
 use Rattle.qw_compile.specs.QueryLocals.{readers_over}
 use Rattle.qw_compile.specs.Statements.{AreCourses, Course, build_block, builds_block, course_block}
 use Rattle.qw_compile.specs.declared.courses.Places.{Places}
-use Rattle.qw_compile_whole.specs.GroupedPlaced.{EmitsGathering, EmitsGrouped, EmitsWalk, gathering_of}
+use Rattle.qw_compile_whole.specs.GroupedPlaced.{EmitsFront, EmitsGathering, EmitsGrouped, EmitsWalk, gathering_of}
 use Rattle.qw_compile_whole.specs.GroupedStatements.{IsGatheringTo}
 use Rattle.qw_compile_whole.specs.GuardedStatements.{IsGatheringBy, count_from, gather_block, stop_at}
 
@@ -132,38 +132,52 @@ gather_steps : (guard : Option ℕ) (t n : ℕ) (c : Course) → steps_of (gathe
 gather_steps None t n c = sym (append-nil (steps_of (build_block t n c)))
 gather_steps (Some z) t n c = refl
 
-chained : (b l d c s g w f c1 c2 c3 c4 c5 c6 c7 c8 : List LowStep) → c1 ≡ b → c2 ≡ c1 ++ l → c3 ≡ c2 ++ d → c4 ≡ c3 ++ c → c5 ≡ c4 ++ s → c6 ≡ c5 ++ g → c7 ≡ c6 ++ w → c8 ≡ c7 ++ f → c8 ≡ b ++ ((l ++ ((d ++ c) ++ s)) ++ (g ++ (w ++ f)))
-chained b l d c s g w f c1 c2 c3 c4 c5 c6 c7 c8 one two three four five six seven eight =
-    eight ∙ (ap (λ (x : List LowStep). x ++ f) (seven ∙ ap (λ (x : List LowStep). x ++ w) (six ∙ ap (λ (x : List LowStep). x ++ g)
-    (five ∙ ap (λ (x : List LowStep). x ++ s) (four ∙ ap (λ (x : List LowStep). x ++ c) (three ∙ ap (λ (x : List LowStep). x ++ d) (two ∙ ap (λ (x : List LowStep). x ++ l) one))))))
-    ∙ (append_assoc (((((b ++ l) ++ d) ++ c) ++ s) ++ g) w f
-    ∙ (append_assoc ((((b ++ l) ++ d) ++ c) ++ s) g (w ++ f)
-    ∙ (ap (λ (x : List LowStep). x ++ (g ++ (w ++ f)))
-    (ap (λ (x : List LowStep). x ++ s) (append_assoc (b ++ l) d c) ∙ (append_assoc (b ++ l) (d ++ c) s ∙ append_assoc b l ((d ++ c) ++ s)))
-    ∙ append_assoc b (l ++ ((d ++ c) ++ s)) (g ++ (w ++ f))))))
+front_chained : (b l d c s c1 c2 c3 c4 c5 : List LowStep) → c1 ≡ b → c2 ≡ c1 ++ l → c3 ≡ c2 ++ d → c4 ≡ c3 ++ c → c5 ≡ c4 ++ s → c5 ≡ b ++ (l ++ ((d ++ c) ++ s))
+front_chained b l d c s c1 c2 c3 c4 c5 one two three four five =
+    five ∙ (ap (λ (x : List LowStep). x ++ s) (four ∙ ap (λ (x : List LowStep). x ++ c) (three ∙ ap (λ (x : List LowStep). x ++ d) (two ∙ ap (λ (x : List LowStep). x ++ l) one)))
+    ∙ (ap (λ (x : List LowStep). x ++ s) (append_assoc (b ++ l) d c) ∙ (append_assoc (b ++ l) (d ++ c) s ∙ append_assoc b l ((d ++ c) ++ s))))
 
-pub grouped_emitted : (guard : Option ℕ) (p : Places) (first : ℕ) (building : List Pipeline) (entry : ℕ) (operators : List Operator) (g : Group) (key : List ReadColumn) (values : List ValueColumn) (behind : Pipeline) (code1 code2 code3 code4 code5 code6 code7 code8 : List LowStep) (own1 own2 own3 : List ValType) (kinds : List Kind) →
-    EmitsBuilds p first building [] code1 [] own1 → code2 ≡ code1 ++ steps_of (count_from guard) → code3 ≡ code2 ++ steps_of (directory_block (directory g.table)) → EmitsGathering guard p first entry operators g code3 code4 own1 own2 → code5 ≡ code4 ++ steps_of (stop_at guard) → code6 ≡ code5 ++ steps_of begin_block →
-    EmitsWalk p first g.table key values behind code6 code7 own2 own3 → code8 ≡ code7 ++ steps_of finish_block → map Some kinds ≡ result_kinds behind.sink → EmitsGrouped guard p first building entry operators g key values behind code8 own3 kinds
-grouped_emitted guard p first building entry operators g key values behind code1 code2 code3 code4 code5 code6 code7 code8 own1 own2 own3 kinds b counted directed e stopped begun w finished kinds_are = record {
+pub front_emitted : (guard : Option ℕ) (p : Places) (first : ℕ) (building : List Pipeline) (entry : ℕ) (operators : List Operator) (g : Group) (code1 code2 code3 code4 code5 : List LowStep) (own1 own2 : List ValType) →
+    EmitsBuilds p first building [] code1 [] own1 → code2 ≡ code1 ++ steps_of (count_from guard) → code3 ≡ code2 ++ steps_of (directory_block (directory g.table)) → EmitsGathering guard p first entry operators g code3 code4 own1 own2 → code5 ≡ code4 ++ steps_of (stop_at guard) →
+    EmitsFront guard p first building entry operators g code5 own2
+front_emitted guard p first building entry operators g code1 code2 code3 code4 code5 own1 own2 b counted directed e stopped = record {
   builds = b.courses;
   gathers = e.course;
-  walk = w.walk;
   fields = e.fields;
   builds_own = b.own;
   gathers_own = e.own;
-  walk_own = w.own;
   code_is =
-      chained (steps_of (builds_block p.tables 0 b.courses)) (steps_of (count_from guard)) (steps_of (directory_block (directory g.table))) (steps_of (course_block p.tables e.course)) (steps_of (stop_at guard)) (steps_of begin_block) (steps_of w.walk) (steps_of finish_block)
-      code1 code2 code3 code4 code5 code6 code7 code8 b.code_is counted directed e.code_is stopped begun w.code_is finished
-      ∙ ap (λ (l : List LowStep). steps_of (builds_block p.tables 0 b.courses) ++ (l ++ (steps_of begin_block ++ (steps_of w.walk ++ steps_of finish_block)))) (sym (gather_steps guard p.tables g.table e.course));
-  own_is = w.own_is ∙ (ap (λ (l : List ValType). l ++ w.own) (e.own_is ∙ ap (λ (l : List ValType). l ++ e.own) b.own_is) ∙ append_assoc b.own e.own w.own);
+      front_chained (steps_of (builds_block p.tables 0 b.courses)) (steps_of (count_from guard)) (steps_of (directory_block (directory g.table))) (steps_of (course_block p.tables e.course)) (steps_of (stop_at guard))
+      code1 code2 code3 code4 code5 b.code_is counted directed e.code_is stopped
+      ∙ ap (λ (l : List LowStep). steps_of (builds_block p.tables 0 b.courses) ++ l) (sym (gather_steps guard p.tables g.table e.course));
+  own_is = e.own_is ∙ ap (λ (l : List ValType). l ++ e.own) b.own_is;
   built = let none : first + length {A = ValType} [] ≡ first = omega arith in subst (λ (n : ℕ). AreCourses (literals_placed p) p.readers.items n building b.courses b.own) none b.are;
   gathered = subst (λ (l : List ValType). IsGatheringBy guard (literals_placed p) p.readers.items (first + length l) (gathering_of entry operators g) g e.fields e.course e.own) b.own_is e.is;
   field_kinds = e.kinds;
+}
+
+walk_chained : (b g h w f c1 c2 c3 c4 : List LowStep) → c1 ≡ b ++ g → c2 ≡ c1 ++ h → c3 ≡ c2 ++ w → c4 ≡ c3 ++ f → c4 ≡ b ++ (g ++ (h ++ (w ++ f)))
+walk_chained b g h w f c1 c2 c3 c4 one two three four =
+    four ∙ (ap (λ (x : List LowStep). x ++ f) (three ∙ ap (λ (x : List LowStep). x ++ w) (two ∙ ap (λ (x : List LowStep). x ++ h) one))
+    ∙ (append_assoc ((b ++ g) ++ h) w f ∙ (append_assoc (b ++ g) h (w ++ f) ∙ append_assoc b g (h ++ (w ++ f)))))
+
+pub grouped_emitted : (guard : Option ℕ) (p : Places) (first : ℕ) (building : List Pipeline) (entry : ℕ) (operators : List Operator) (g : Group) (key : List ReadColumn) (values : List ValueColumn) (behind : Pipeline) (code1 code2 code3 code4 : List LowStep) (own1 own2 : List ValType) (kinds : List Kind) →
+    EmitsFront guard p first building entry operators g code1 own1 → code2 ≡ code1 ++ steps_of begin_block → EmitsWalk p first g.table key values behind code2 code3 own1 own2 → code4 ≡ code3 ++ steps_of finish_block → map Some kinds ≡ result_kinds behind.sink → EmitsGrouped guard p first building entry operators g key values behind code4 own2 kinds
+grouped_emitted guard p first building entry operators g key values behind code1 code2 code3 code4 own1 own2 kinds b begun w finished kinds_are = record {
+  builds = b.builds;
+  gathers = b.gathers;
+  walk = w.walk;
+  fields = b.fields;
+  builds_own = b.builds_own;
+  gathers_own = b.gathers_own;
+  walk_own = w.own;
+  code_is = walk_chained (steps_of (builds_block p.tables 0 b.builds)) (steps_of (gather_block guard p.tables g.table b.gathers)) (steps_of begin_block) (steps_of w.walk) (steps_of finish_block) code1 code2 code3 code4 b.code_is begun w.code_is finished;
+  own_is = w.own_is ∙ (ap (λ (l : List ValType). l ++ w.own) b.own_is ∙ append_assoc b.builds_own b.gathers_own w.own);
+  built = b.built;
+  gathered = b.gathered;
+  field_kinds = b.field_kinds;
   walked =
-      let place : first + length own2 ≡ first + length b.own + length e.own =
-      (let one = ap (λ (l : List ValType). length l) e.own_is ∙ length-append own1 e.own in let two = ap (λ (l : List ValType). length l) b.own_is in omega (arith, one, two)) in
+      let place : first + length own1 ≡ first + length b.builds_own + length b.gathers_own = (let one = ap (λ (l : List ValType). length l) b.own_is ∙ length-append b.builds_own b.gathers_own in omega (arith, one)) in
       subst (λ (n : ℕ). IsGroupPipeline (literals_placed p) (directory g.table) n key values behind.operators behind.sink w.walk w.own) place w.is;
   kinds_are = kinds_are;
 }

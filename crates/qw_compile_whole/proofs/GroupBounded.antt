@@ -79,7 +79,7 @@ pub record GatherReach (T n : ℕ) (columns : List ReadColumn) (literals : List 
   pub fits : group_width g + u ≤ page
   pub enough : groups_paid u g budget (rows_met tables stoods p) + 2 * u < (most + 1) * u
 
--- Of the walk over the groups of these rows, none of which raised anything, where so many octets are paid for: keys are of their columns' types, values of their kinds;
+-- Of the walk over the groups of these rows, none of which raised anything, where so many octets are paid for: keys have values that the cells of their columns give back, and values are of their kinds;
 -- the walk takes no more than N; and the rows of the result are paid for.
 pub record WalkReach (query : Grouped) (g : Group) (key : List ReadColumn) (values : List ValueColumn) (u most N : ℕ) (rows : List (List Val)) (budget : ℕ) : Type 0 where
   pub stored : AllByRecursion (λ (k : List Val). AreStored key k) (keys g.columns rows)

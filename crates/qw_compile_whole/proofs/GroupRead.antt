@@ -27,7 +27,7 @@ use Rattle.qw_group.specs.Areas.{Chooses}
 use Rattle.qw_group.specs.Groups.{AreChosenWithin}
 use Rattle.qw_group.specs.Groups as groups
 use Rattle.qw_operator.proofs.KnownLeaves.{IsUtf8Value}
-use Rattle.qw_operator.proofs.PairRows.{AreStored}
+use Rattle.qw_operator.proofs.PairRows.{AreStored, held_typed}
 use Rattle.qw_group_pipeline.specs.Groups.{most_read}
 use Rattle.qw_group_pipeline.proofs.ValuesCome.{AreRead}
 use Rattle.qw_whole.specs.GroupTables.{chooses, chosen_units, is_average, octets_at, read_units}
@@ -82,7 +82,7 @@ pub key_stored : (n : ℕ) (columns : List GroupedColumn) (key : List Val) → A
 key_stored n [] [] h = tt
 key_stored n [] (v ∷ key) h = absurd h
 key_stored n (c ∷ columns) [] h = absurd h
-key_stored n (c ∷ columns) (v ∷ key) h = (h.0, key_stored (n + 1) columns key h.1)
+key_stored n (c ∷ columns) (v ∷ key) h = (held_typed c.ty false v h.0, key_stored (n + 1) columns key h.1)
 
 -- ---- values
 number_small : (v : ℤ) → IsTrue (fits v) → unsigned_abs v ≤ 10 ^ 18 - 1

@@ -13,8 +13,10 @@ use Rattle.qw_meaning.specs.Query.{QueryParts, query_of}
 use Rattle.qw_meaning.specs.Select.{Specification}
 use Rattle.qw_algebra.specs.Sizes.{tests_on}
 use Rattle.qw_grouped.specs.Grouped.{Grouped, arguments_of, expression_of_column, front}
+use Rattle.qw_grouped.specs.Query.{GroupedParts, grouped_of}
 use Rattle.qw_compile.specs.WrittenTexts.{texts_of_query}
 use Rattle.qw_compile.proofs.TextsWithin.{texts_there}
+use Rattle.qw_compile_whole.specs.WholeTexts.{front_texts, texts_of_grouped}
 
 module _ (P : List ℕ → Type 0) where
   of_texts : (ls : List Leaf) → AllByRecursion P (texts_among ls) → AllByRecursion (OfText P) ls
@@ -43,3 +45,10 @@ module _ (P : List ℕ → Type 0) where
   argument_texts parts query is h =
       all_back (HasLeaves (OfText P)) (map expression_of_column query.columns) (arguments_of query.functions)
       (subst (λ (s : Specification). AllByRecursion (HasLeaves (OfText P)) s.items) is (list_texts parts h))
+
+  -- the select list of a grouped query
+  pub group_list_texts : (parts : GroupedParts) → AllByRecursion P (texts_of_grouped parts) → AllByRecursion (HasLeaves (OfText P)) (grouped_of parts).items
+  group_list_texts parts h =
+      items_texts parts.items
+      (all_back P (flat_map texts_within parts.having) (flat_map texts_in parts.items)
+      (all_back P (front_texts parts) (flat_map texts_within parts.having ++ flat_map texts_in parts.items) h))

@@ -1,28 +1,19 @@
 -- The texts that reach the groups of a query, and those that MIN and MAX choose of them, are UTF-8, as the texts of tables and of literals are.
-use Rattle.std.proofs.Common.{◌≡◌, ℕ, zero, suc, ◌+◌, ◌/◌, ◌%◌, Bool, true, false, if◌then◌else◌, IsUtf8, ℤ, pos, ◌*ℤ◌, int_div, List, [], ◌∷◌, ◌++◌, map, length, Some, Result, Ok, Err, IfOk, slice_get, subst}
+use Rattle.std.proofs.Common.{◌≡◌, ℕ, zero, suc, ◌+◌, Bool, true, false, if◌then◌else◌, IsUtf8, ℤ, pos, ◌*ℤ◌, int_div, List, [], ◌∷◌, ◌++◌, map, length, Result, Ok, Err, IfOk, slice_get, subst}
 use Rattle.std.specs.List.{AllByRecursion}
 use Rattle.std.specs.List.Sorted.{IsPermutation}
 use Rattle.std.specs.Ordering.{is_ge, is_le}
 use Rattle.std.proofs.ByRecursion.{all_shuffled}
 use Rattle.qw_types.specs.Arithmetic.{◌>>=◌, checked}
-use Rattle.qw_types.specs.Value.{IsOfTypeOrNull, IsSized}
+use Rattle.qw_types.specs.Value.{IsSized}
 use Rattle.qw_types.specs.ValueOrder.{is_same_row, value_order}
-use Rattle.qw_types.proofs.KindLemmas.{stored_of_kind}
 use Rattle.qw_types.specs.declared.code.Code.{Code}
 use Rattle.qw_types.specs.declared.schema.ColumnType.{ColumnType}
-use Rattle.qw_types.specs.declared.value.Ty.{Ty}
 use Rattle.qw_types.specs.declared.value.Val.{Val}
-use Rattle.qw_scalar.specs.Evaluation.{as_number, at_row, cell_of, value_of}
-use Rattle.qw_scalar.specs.Expression.{Expression}
-use Rattle.qw_leaves.specs.Leaves.{HasLeaves, OfColumn, OfText}
-use Rattle.qw_leaves.specs.declared.leaf.Leaf.{Leaf}
-use Rattle.qw_leaves.specs.declared.leaf.Leaf.TheVariants as leaf
-use Rattle.qw_leaves.proofs.LeafLemmas.{column_leaves, leaves_joined}
-use Rattle.qw_meaning.specs.Flow.{each, kept, rows_given, selected, values_of}
-use Rattle.qw_meaning.specs.From.{from_sources}
+use Rattle.qw_scalar.specs.Evaluation.{as_number, cell_of}
+use Rattle.qw_leaves.specs.Leaves.{HasLeaves, OfText}
 use Rattle.qw_meaning.specs.Outcome.{flow}
-use Rattle.qw_meaning.specs.Select.{AreOfEntries, Entry, IsColumnOf, IsItemOver, entries_of, type_in, types_of}
-use Rattle.qw_meaning.proofs.FromLemmas.{cell}
+use Rattle.qw_meaning.specs.Select.{AreOfEntries, Entry, entries_of}
 use Rattle.qw_grouped.specs.Grouped.{Grouped, IsGrouped, arguments_of, expression_of_column, front, kinds_of}
 use Rattle.qw_grouped.specs.Groups.{function_values, key_of, members, values_at}
 use Rattle.qw_grouped.specs.SetFunctions.{average_value, greater, greatest, greatest_value, is_not_null, least, least_value, lesser, not_null, set_function_value, sum_value, total}
@@ -30,11 +21,9 @@ use Rattle.qw_grouped.specs.declared.query.GroupedColumn.{GroupedColumn}
 use Rattle.qw_grouped.specs.declared.set_function.SetFunctionKind.{SetFunctionKind}
 use Rattle.qw_grouped.specs.declared.set_function.SetFunctionKind.TheVariants.{CountRows, Count, Sum, Avg, Min, Max}
 use Rattle.qw_grouped.proofs.Lists.{all_filter}
-use Rattle.qw_grouped.proofs.TypedRows.{all_flat_map, all_map}
-use Rattle.qw_operator.proofs.KnownLeaves.{Fits, IsUtf8Value}
-use Rattle.qw_operator.proofs.PairRows.{stored_utf8}
-use Rattle.qw_operator.proofs.Promised.{value_utf8}
-use Rattle.qw_compile_whole.proofs.GroupTyped.{HoldsEach, from_rows}
+use Rattle.qw_grouped.proofs.TypedRows.{all_map, all_more}
+use Rattle.qw_operator.proofs.KnownLeaves.{IsUtf8Value}
+use Rattle.qw_compile_whole.proofs.HeldRows.{IsHeldRow, row_utf8, rows_held}
 
 -- ---- set functions
 
@@ -78,12 +67,12 @@ function_utf8 Avg values h = average_utf8 (not_null values)
 function_utf8 Min values h = least_of (not_null values) (all_filter IsUtf8Value is_not_null values h)
 function_utf8 Max values h = greatest_of (not_null values) (all_filter IsUtf8Value is_not_null values h)
 
-cell_utf8 : (place : ℕ) (row : List Val) → AllByRecursion IsUtf8Value row → IsUtf8Value (cell_of (slice_get row place))
+pub cell_utf8 : (place : ℕ) (row : List Val) → AllByRecursion IsUtf8Value row → IsUtf8Value (cell_of (slice_get row place))
 cell_utf8 place [] h = tt
 cell_utf8 zero (v ∷ row) h = h.0
 cell_utf8 (suc place) (v ∷ row) h = cell_utf8 place row h.1
 
-functions_utf8 : (functions : List SetFunctionKind) (place : ℕ) (rows : List (List Val)) → AllByRecursion (AllByRecursion IsUtf8Value) rows → IfOk (function_values place functions rows) (AllByRecursion IsUtf8Value)
+pub functions_utf8 : (functions : List SetFunctionKind) (place : ℕ) (rows : List (List Val)) → AllByRecursion (AllByRecursion IsUtf8Value) rows → IfOk (function_values place functions rows) (AllByRecursion IsUtf8Value)
 functions_utf8 [] place rows h = tt
 functions_utf8 (f ∷ functions) place rows h =
     both (set_function_value f (values_at place rows)) (function_values (place + 1) functions rows)
@@ -95,56 +84,16 @@ functions_utf8 (f ∷ functions) place rows h =
     both (Ok v) (Err code) x y = tt
     both (Err code) q x y = tt
 
--- ---- the select list of what reaches the groups
-
-type_sized : (columns : List ColumnType) (j : ℕ) (ty : Ty) → AllByRecursion (λ (c : ColumnType). IsSized c.ty) columns → slice_get (types_of columns) j ≡ Some ty → IsSized ty
-type_sized [] j ty h e = absurd cc
-type_sized (c ∷ columns) zero ty h e = let same : c.ty ≡ ty = cc in subst IsSized same h.0
-type_sized (c ∷ columns) (suc j) ty h e = type_sized columns j ty h.1 e
-
-pub column_sized : (entries : List Entry) (k j : ℕ) (ty : Ty) → AllByRecursion (λ (e : Entry). AllByRecursion (λ (c : ColumnType). IsSized c.ty) e.columns) entries → type_in (slice_get entries k) j ≡ Some ty → IsSized ty
-column_sized [] k j ty h e = absurd cc
-column_sized (one ∷ entries) zero j ty h e = type_sized one.columns j ty h.0 e
-column_sized (one ∷ entries) (suc k) j ty h e = column_sized entries k j ty h.1 e
+-- ---- what reaches the groups
 
 module _ (query : Grouped) (whole : IsGrouped query) (tables : List (List (List Val))) (loaded : AreOfEntries (entries_of query.sources) tables)
     (sized : AllByRecursion (λ (e : Entry). AllByRecursion (λ (c : ColumnType). IsSized c.ty) e.columns) (entries_of query.sources)) (texts : AllByRecursion (HasLeaves (OfText IsUtf8)) (arguments_of query.functions)) where
-  leaf_fits : (row : List Val) → HoldsEach (entries_of query.sources) tables row → (l : Leaf) → OfText IsUtf8 l → OfColumn (IsColumnOf (entries_of query.sources)) l → Fits row l
-  leaf_fits row held (leaf.Column i ty) t c =
-      let of : IsOfTypeOrNull ty false (cell row i) = held i ty c in
-      (stored_of_kind ty false (cell row i) (column_sized (entries_of query.sources) (i / 64) (i % 64) ty sized c) of, stored_utf8 ty false (cell row i) of)
-  leaf_fits row held (leaf.Number v s) t c = tt
-  leaf_fits row held (leaf.Date d) t c = tt
-  leaf_fits row held (leaf.Text x) t c = t
-
   all_texts : (columns : List GroupedColumn) → AllByRecursion (HasLeaves (OfText IsUtf8)) (map expression_of_column columns ++ arguments_of query.functions)
   all_texts [] = texts
   all_texts (c ∷ columns) = (tt, all_texts columns)
 
-  items_utf8 : (items : List Expression) → AllByRecursion (IsItemOver (IsColumnOf (entries_of query.sources))) items → AllByRecursion (HasLeaves (OfText IsUtf8)) items → (row : List Val) → HoldsEach (entries_of query.sources) tables row
-      → IfOk (values_of items (at_row row)) (AllByRecursion IsUtf8Value)
-  items_utf8 [] typed said row held = tt
-  items_utf8 (item ∷ items) typed said row held =
-      both (value_of item (at_row row)) (values_of items (at_row row))
-      (value_utf8 item row (leaves_joined (OfText IsUtf8) (OfColumn (IsColumnOf (entries_of query.sources))) (Fits row) (λ l t c. leaf_fits row held l t c) item said.0 (column_leaves (IsColumnOf (entries_of query.sources)) item typed.0.1)))
-      (items_utf8 items typed.1 said.1 row held)
-    where
-      both : (r : Result Val Code) (q : Result (List Val) Code) → IfOk r IsUtf8Value → IfOk q (AllByRecursion IsUtf8Value) → IfOk (r >>= (λ value. q >>= (λ values. Ok (value ∷ values)))) (AllByRecursion IsUtf8Value)
-      both (Ok v) (Ok vs) x y = (x, y)
-      both (Ok v) (Err code) x y = tt
-      both (Err code) q x y = tt
-
-  selected_utf8 : (row : List Val) → HoldsEach (entries_of query.sources) tables row → AllByRecursion (AllByRecursion IsUtf8Value) (rows_given (selected (front query).items row))
-  selected_utf8 row held = one (values_of (front query).items (at_row row)) (items_utf8 (front query).items whole.front.items (all_texts query.columns) row held)
-    where
-      one : (q : Result (List Val) Code) → IfOk q (AllByRecursion IsUtf8Value) → AllByRecursion (AllByRecursion IsUtf8Value) (rows_given (q >>= (λ values. let r : Result (List (List Val)) Code = Ok (values ∷ []) in r)))
-      one (Ok values) h = (h, tt)
-      one (Err code) h = tt
-
-  rows_utf8 : AllByRecursion (AllByRecursion IsUtf8Value) (flow (front query) tables).rows
-  rows_utf8 =
-      all_flat_map (HoldsEach (entries_of query.sources) tables) (AllByRecursion IsUtf8Value) (λ row. rows_given (selected (front query).items row)) (each (kept query.conjuncts) (from_sources query.sources tables)).rows
-      selected_utf8 (from_rows query whole tables loaded)
+  pub rows_utf8 : AllByRecursion (AllByRecursion IsUtf8Value) (flow (front query) tables).rows
+  rows_utf8 = all_more (IsHeldRow (front query).items) (AllByRecursion IsUtf8Value) (flow (front query) tables).rows (λ row h. row_utf8 (front query).items row h) (rows_held (front query) tables whole.front loaded sized (all_texts query.columns))
 
   -- of these rows, in any order
   pub values_utf8 : (rows : List (List Val)) → IsPermutation (flow (front query) tables).rows rows → (key vs : List Val) → function_values (length query.columns) (kinds_of query.functions) (members (length query.columns) key rows) ≡ Ok vs → AllByRecursion IsUtf8Value vs

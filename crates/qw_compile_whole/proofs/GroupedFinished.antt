@@ -1,5 +1,5 @@
 -- The module around a grouped query's steps is the compiled form of what is promised of it, where its pipelines keep that.
-use Rattle.std.proofs.Common.{◌≡◌, ◌∙◌, ◌≤◌, ◌<◌, ℕ, ◌+◌, ◌^◌, true, Some, None, List, [], ◌∷◌, ◌++◌, Option, drop, length, length-append, map, refl, sym, ap, ap₂, subst, subst₂, arith}
+use Rattle.std.proofs.Common.{◌≡◌, ◌∙◌, ◌≤◌, ◌<◌, ℕ, ◌+◌, ◌^◌, true, Some, None, List, [], ◌∷◌, ◌++◌, Option, drop, length, map, refl, sym, ap, ap₂, subst, subst₂, arith}
 use Rattle.std.specs.List.{AllByRecursion}
 use Rattle.std.proofs.lemmas.List.{length-map, map-append}
 use Rattle.std.proofs.Math.Seq.{drop-append_seam}
@@ -38,8 +38,7 @@ use Rattle.qw_physical.specs.Physical.{Operator, Pipeline, Sink, filter, select}
 use Rattle.qw_physical.specs.Typed.{IsTypedOperator, IsTypedPhysical, IsTypedSink}
 use Rattle.qw_physical.specs.declared.pipeline.Pipeline as coded
 use Rattle.qw_physical.specs.declared.pipeline.ReadColumn.{ReadColumn}
-use Rattle.qw_leaves.proofs.LeafLists.{all_back, all_front}
-use Rattle.qw_algebra.proofs.Lists.{all_append, all_map, all_more}
+use Rattle.qw_algebra.proofs.Lists.{all_append}
 use Rattle.qw_operator.specs.Carries.{directory, result_kinds}
 use Rattle.qw_operator.specs.Takes.{CanCarry, CanSink}
 use Rattle.qw_operator.proofs.CarriedTyped.{AreLed, IsLed}
@@ -56,17 +55,16 @@ use Rattle.qw_group_pipeline.proofs.GroupsFeed.{AreNumbered}
 use Rattle.qw_group_pipeline.proofs.ValuesCome.{column_for}
 use Rattle.qw_compile.specs.QueryLiterals.{query_words}
 use Rattle.qw_compile.specs.QueryLocals.{own_start}
-use Rattle.qw_compile.specs.QueryMade.{CanStand, literal_locals, literals_by, readers_by, texts_by}
+use Rattle.qw_compile.specs.QueryMade.{literal_locals, literals_by, readers_by, texts_by}
 use Rattle.qw_compile.specs.Statements.{AreCourses}
-use Rattle.qw_compile.proofs.Directories.{IsBelow, all_below, leading}
 use Rattle.qw_compile.proofs.Laid.{are_laid, are_used, used_many}
 use Rattle.qw_compile.proofs.LocalsPlaced.{literal_count}
 use Rattle.qw_compile.proofs.PipelineRuns.{AreStood, fed_over, readers_of}
-use Rattle.qw_compile.proofs.Planned.{IsPartedOf, are_sized, parted_as, same_long}
+use Rattle.qw_compile.proofs.Planned.{IsPartedOf, are_sized}
 use Rattle.qw_compile.proofs.PromiseKept.{SelectsItems, last_selects}
 use Rattle.qw_compile.proofs.QueryReach.{table_of}
 use Rattle.qw_compile.proofs.QueryRuns.{AreLaid}
-use Rattle.qw_compile.proofs.QueryTyped.{IsLeading, directory_is, types}
+use Rattle.qw_compile.proofs.QueryTyped.{IsLeading, types}
 use Rattle.qw_compile.proofs.Sizes.{size_steps}
 use Rattle.qw_compile.proofs.SmallWords.{words_small}
 use Rattle.qw_compile_whole.specs.GroupColumns.{key_columns, value_columns}
@@ -76,12 +74,12 @@ use Rattle.qw_compile_whole.specs.GuardedStatements.{IsGatheringBy, guard_for, g
 use Rattle.qw_compile_whole.specs.StatementOf.{IsStatementOf}
 use Rattle.qw_compile_whole.specs.WholeTexts.{texts_of_grouped}
 use Rattle.qw_compile_whole.proofs.ColumnTypes.{arguments_are, key_sized, values_of_kinds}
+use Rattle.qw_compile_whole.proofs.FrontLed.{built_low, cut_as, end_leads, end_takes, front_leads, front_takes}
 use Rattle.qw_compile_whole.proofs.FoldedBehind.{kinds_folded, with_behind}
 use Rattle.qw_compile_whole.proofs.GroupBounded.{GoTogether, IsGroupBounded, rows_met, walked_of}
 use Rattle.qw_compile_whole.proofs.GroupCompiled.{grouped_compiled}
 use Rattle.qw_compile_whole.proofs.GroupedPlacing.{group_can}
 use Rattle.qw_compile_whole.proofs.GroupedReady.{behind_can, can_group, follow_long, functions_kinds, items_follow, key_long, key_numbered, tests_follow, values_numbered}
-use Rattle.qw_compile_whole.proofs.GroupedStands.{front_stands}
 use Rattle.qw_compile_whole.proofs.GroupedTyped.{grouped_typed}
 
 chosen_same : (a b : List Expression) → select a ≡ select b → a ≡ b
@@ -127,9 +125,7 @@ module _ (row_is : (row other : List Val) → is_same_row row other ≡ true →
   sources_are = ap (λ (f : Specification). f.sources) s.before_is
 
   abbrev pub cut : IsPartedOf s.kept s.of.node (map pipeline_of s.ps)
-  cut =
-      let same = parted_as s.kept s.of.node (map pipeline_of s.ps) s.made.building s.made.gathering s.made.pipelines_are s.of.same in
-      record { building = s.made.building; last = s.made.gathering; whole = s.made.pipelines_are; same = same.0; same_last = same.1 }
+  cut = cut_as s.before s.kept s.columns s.ps s.are s.of texts s.behind s.among s.made.building s.made.gathering s.made.pipelines_are
 
   kinds_front : map kind_of s.group.values ≡ map kind_of (front query).items
   kinds_front =
@@ -153,47 +149,15 @@ module _ (row_is : (row other : List Val) → is_same_row row other ≡ true →
     small = small;
   }
 
-  -- ---- how many tables
-  built_many : length s.made.building + 1 ≡ T
-  built_many =
-      let one = length-map s.ps pipeline_of in
-      let two = ap (λ (l : List Pipeline). length l) s.made.pipelines_are in
-      let three = length-append s.made.building (s.made.gathering ∷ []) in
-      omega (arith, one, two, three)
-
   pub low : length s.made.building < length s.ps
-  low = let one = built_many in omega (arith, one)
-
-  -- ---- pipelines
-  abbrev Takes : ℕ → Pipeline → Type 0
-  Takes n p = CanCarry (literals_by T n texts all ++ map known_of (readers_of T (literal_locals texts all) s.columns p.entry)) p.operators p.sink
-
-  takes : AllByRecursion (Takes (length s.columns)) (s.made.building ++ s.made.gathering ∷ [])
-  takes =
-      subst (AllByRecursion (Takes (length s.columns))) s.made.pipelines_are
-      (all_map (Takes (length s.columns)) pipeline_of s.ps
-      (all_more (λ (q : coded.Pipeline). CanStand T texts all s.columns (pipeline_of q)) (λ (q : coded.Pipeline). Takes (length s.columns) (pipeline_of q)) s.ps (λ q h. h.takes)
-      (front_stands s.before s.kept s.columns s.ps s.are s.of T texts s.behind s.among)))
-
-  building_takes : AllByRecursion (Takes (length s.columns)) s.made.building
-  building_takes = all_front (Takes (length s.columns)) s.made.building (s.made.gathering ∷ []) takes
-
-  last_takes : Takes (length s.columns) s.made.gathering
-  last_takes = (all_back (Takes (length s.columns)) s.made.building (s.made.gathering ∷ []) takes).0
-
-  below : AllByRecursion (IsBelow (length s.made.building)) (s.made.building ++ s.made.gathering ∷ [])
-  below =
-      let one = length-map s.ps pipeline_of in
-      let long = same_long s.kept (pipelines s.of.node) (map pipeline_of s.ps) s.of.same in
-      let count = built_many in
-      subst (AllByRecursion (IsBelow (length s.made.building))) s.made.pipelines_are (all_below s.kept s.of.node (length s.made.building) (map pipeline_of s.ps) (omega (arith, count, one, long)) s.of.same)
+  low = built_low s.before s.kept s.columns s.ps s.are s.of texts s.behind s.among s.made.building s.made.gathering s.made.pipelines_are
 
   -- with the columns of the layout
   pub takes_building : AllByRecursion (λ (p : Pipeline). CanCarry (literals_by T (length layout.columns) texts all ++ map known_of (readers_of T (literal_locals texts all) s.columns p.entry)) p.operators p.sink) s.made.building
-  takes_building = subst (λ (n : ℕ). AllByRecursion (Takes n) s.made.building) many building_takes
+  takes_building = front_takes s.before s.kept s.columns s.ps s.are s.of texts s.behind s.among s.made.building s.made.gathering s.made.pipelines_are (length layout.columns) many
 
   pub takes_last : CanCarry (literals_by T (length layout.columns) texts all ++ map known_of (readers_of T (literal_locals texts all) s.columns s.made.gathering.entry)) s.made.gathering.operators s.made.gathering.sink
-  takes_last = subst (λ (n : ℕ). Takes n s.made.gathering) many last_takes
+  takes_last = end_takes s.before s.kept s.columns s.ps s.are s.of texts s.behind s.among s.made.building s.made.gathering s.made.pipelines_are (length layout.columns) many
 
   -- ---- what is behind
   can_walk : (n : ℕ) → CanCarry (all_anywhere key values ++ literals_by T n texts all) (filter s.behind_is.having ∷ []) (select s.behind_is.items)
@@ -242,15 +206,6 @@ module _ (row_is : (row other : List Val) → is_same_row row other ≡ true →
   abbrev declared : List ValType
   declared = types T (entry_offset (length s.columns)) s.columns texts words own
 
-  leads_one : (p : Pipeline) → IsBelow (length s.made.building) p → Takes (length s.columns) p → IsLeading declared p
-  leads_one p less can =
-      leading declared (length s.made.building) (λ t h. let fewer = low in directory_is T (entry_offset (length s.columns)) s.columns texts words own t (omega (arith, h, fewer))) refl refl
-      (literals_by T (length s.columns) texts all ++ map known_of (readers_of T (literal_locals texts all) s.columns p.entry)) p less can
-
-  all_lead : (qs : List Pipeline) → AllByRecursion (IsBelow (length s.made.building)) qs → AllByRecursion (Takes (length s.columns)) qs → AllByRecursion (IsLeading declared) qs
-  all_lead [] less can = tt
-  all_lead (q ∷ qs) less can = (leads_one q less.0 can.0, all_lead qs less.1 can.1)
-
   pub leads_behind : IsLeading (types (length s.ps) (entry_offset (length s.columns)) s.columns (texts_of_grouped parts) (query_words (s.ps ++ s.behind ∷ [])) (s.made.builds_own ++ (s.made.gathers_own ++ s.made.walk_own))) (pipeline_of s.behind)
   leads_behind = (
     subst (AreLed declared) (sym s.behind_is.operators_are) tt,
@@ -259,10 +214,10 @@ module _ (row_is : (row other : List Val) → is_same_row row other ≡ true →
   )
 
   pub leads_building : AllByRecursion (IsLeading (types (length s.ps) (entry_offset (length s.columns)) s.columns (texts_of_grouped parts) (query_words (s.ps ++ s.behind ∷ [])) (s.made.builds_own ++ (s.made.gathers_own ++ s.made.walk_own)))) s.made.building
-  leads_building = all_lead s.made.building (all_front (IsBelow (length s.made.building)) s.made.building (s.made.gathering ∷ []) below) building_takes
+  leads_building = front_leads s.before s.kept s.columns s.ps s.are s.of texts s.behind s.among s.made.building s.made.gathering s.made.pipelines_are own
 
   pub leads_gathering : AreLed (types (length s.ps) (entry_offset (length s.columns)) s.columns (texts_of_grouped parts) (query_words (s.ps ++ s.behind ∷ [])) (s.made.builds_own ++ (s.made.gathers_own ++ s.made.walk_own))) s.made.gathering.operators
-  leads_gathering = (leads_one s.made.gathering (all_back (IsBelow (length s.made.building)) s.made.building (s.made.gathering ∷ []) below).0 last_takes).0
+  leads_gathering = end_leads s.before s.kept s.columns s.ps s.are s.of texts s.behind s.among s.made.building s.made.gathering s.made.pipelines_are own
 
   -- ---- rows are counted or not
   module _ (guard : Option ℕ) (guard_is : guard_for (length s.ps) (length (value_columns (grouped_of parts))) ≡ guard) where

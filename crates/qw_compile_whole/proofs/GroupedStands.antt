@@ -63,17 +63,17 @@ texts_among_both before behind ps p one two =
     (subst (AllByRecursion (Contains (before ++ behind))) (sym two) (all_more (Contains behind) (Contains (before ++ behind)) behind (λ t h. contains_right before behind t h) (contains_all behind))))
 
 -- ---- the last one
-record Halved (ps : List Pipeline) : Type 0 where
-  building : List Pipeline
-  last : Pipeline
-  is : ps ≡ building ++ last ∷ []
+pub record Halved (ps : List Pipeline) : Type 0 where
+  pub building : List Pipeline
+  pub last : Pipeline
+  pub is : ps ≡ building ++ last ∷ []
 
-halved : (ps : List Pipeline) → 1 ≤ length ps → Halved ps
+pub halved : (ps : List Pipeline) → 1 ≤ length ps → Halved ps
 halved [] some = absurd (omega (arith, some))
 halved (p ∷ []) some = record { building = []; last = p; is = refl }
 halved (p ∷ q ∷ ps) some = let rest = halved (q ∷ ps) (omega arith) in record { building = p ∷ rest.building; last = rest.last; is = ap (λ (l : List Pipeline). p ∷ l) rest.is }
 
-selects_last : (P : List Expression → Type 0) (ps : List Pipeline) (p : Pipeline) (items : List Expression) → p.sink ≡ select items → P items → LastSelects P (ps ++ p ∷ [])
+pub selects_last : (P : List Expression → Type 0) (ps : List Pipeline) (p : Pipeline) (items : List Expression) → p.sink ≡ select items → P items → LastSelects P (ps ++ p ∷ [])
 selects_last P [] p items is h = subst (Selects P) (sym is) h
 selects_last P (q ∷ []) p items is h = selects_last P [] p items is h
 selects_last P (q ∷ r ∷ ps) p items is h = selects_last P (r ∷ ps) p items is h

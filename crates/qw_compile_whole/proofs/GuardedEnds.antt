@@ -182,6 +182,22 @@ module _ (layout : Layout) (tables : List (List (List Val))) (limit others : ℕ
             (Ends-weaker (G * N) (G * N) Mid Mid Never Never (Tells (fed_over tables stoods gathering).codes) Told (meaning most fuel (build_block T (length building) gathers) from) (omega arith) (λ v x. x) (λ v x. x) told scan_ends)
             (λ v mid. inr (mid.0.1 ∙ ap (λ (m : ℕ). Some (Number m)) none, stop_stops most fuel z v Nowhere Never S (mid.0.1 ∙ ap (λ (m : ℕ). Some (Number m)) none) stops)))
 
+    -- ---- where the rows are few, whatever follows
+    module _ (f : IsFirstBounded T n columns texts words at table_of building gathering group Told u most N tables) (fewer : (stoods : List Stood) → AreStood tables [] building stoods → length (rows_met tables stoods gathering) < top) (m : ℕ) (P : LowState → Type 0) (rest : Statement)
+        (onward : (s0 : LowState) (begun : IsBegun layout tables limit others are_ready small T columns texts words table_of laid texts_are utf8 small_words most fuel N u types s0) → Grounds T n columns literals c base u fuel N many types s0 → (stoods : List Stood) → AreStood tables [] building stoods →
+        (fed_over tables stoods gathering).codes ≡ [] → (w : LowState) → AreGathered T n c base u s0 group fields (f.budget (length building)) (rows_met tables stoods gathering) w → Ends m P Never Told (meaning most fuel rest w)) where
+      pub few_then : Ends (7 + (size leads + (size sets + (size (builds_block T 0 builds) * N + ((2 + (size (build_block T (length building) gathers) * N + 3)) + m))))) P Never Told
+          (meaning most fuel (seq (space_block base) (seq leads (seq sets (seq (builds_block T 0 builds) (seq (counted_block top z T (length building) gathers) rest))))) first)
+      few_then =
+          joins_then layout tables limit others are_ready small T columns texts words table_of laid texts_are utf8 small_words most fuel N u types leads sets leads_all sets_all some turns u_low declared building builds builds_own (gathers_own ++ later_own) (omega (arith, room_T)) built (omega (arith, own_room)) own_types Told f.budget f.reached f.told
+          ((2 + (G * N + 3)) + m) P (seq (counted_block top z T (length building) gathers) rest)
+          (λ s0 begun ground stoods are stood_is sources t between.
+          let r = f.gathered stoods are in
+          let All : LowState → Type 0 = λ w. AreGathered T n c base u s0 group fields (f.budget (length building)) (rows_met tables stoods gathering) w × ((fed_over tables stoods gathering).codes ≡ []) in
+          Ends-then P Never Told (2 + (G * N + 3)) m All (meaning most fuel (counted_block top z T (length building) gathers) t) (meaning most fuel rest)
+          (few_ends s0 ground stoods are stood_is (sources gathering r.table_is r.has_column) (f.budget (length building)) r t between (fewer stoods are) (f.told_gathered stoods are))
+          (λ w after. onward s0 begun ground stoods are after.1 w after.0))
+
     -- ---- the whole, where the rows are few
     module _ (query : Grouped) (key : List ReadColumn) (values : List ValueColumn) (together : GoTogether query group key values literals) (kinds_are : map kind_of query.items ≡ map (λ (k : Kind). Some k) layout.cells) (walk : Statement)
         (walked : IsGroupPipeline literals (directory (length building)) (own_first + length builds_own + length gathers_own) key values (filter query.having ∷ []) (select query.items) walk later_own) (walk_room : own_first + length builds_own + length gathers_own + length later_own ≤ many)
@@ -211,14 +227,15 @@ module _ (layout : Layout) (tables : List (List (List Val))) (limit others : ℕ
           let a : ℕ = 7 + (size leads + size sets) + 25 in
           Ends-more Answered Never Told (7 + (size leads + (size sets + (B * N + ((2 + (G * N + 3)) + (6 + (W * N + 12))))))) (size whole * N) (meaning most fuel whole first)
           (omega (arith, add-mul a (B + (G + W)) N, add-mul B (G + W) N, add-mul G W N, at_least a N some))
-          (joins_then layout tables limit others are_ready small T columns texts words table_of laid texts_are utf8 small_words most fuel N u types leads sets leads_all sets_all some turns u_low declared building builds builds_own (gathers_own ++ later_own) (omega (arith, room_T)) built (omega (arith, own_room)) own_types Told b.budget b.reached b.told
-          ((2 + (G * N + 3)) + (6 + (W * N + 12))) Answered (seq (counted_block top z T (length building) gathers) (seq begin_block (seq walk finish_block)))
-          (λ s0 begun ground stoods are stood_is sources t between.
-          let r = b.gathered stoods are in
-          let All : LowState → Type 0 = λ w. AreGathered T n c base u s0 group fields (b.budget (length building)) (rows_met tables stoods gathering) w × ((fed_over tables stoods gathering).codes ≡ []) in
-          Ends-then Answered Never Told (2 + (G * N + 3)) (6 + (W * N + 12)) All (meaning most fuel (counted_block top z T (length building) gathers) t) (meaning most fuel (seq begin_block (seq walk finish_block)))
-          (few_ends s0 ground stoods are stood_is (sources gathering r.table_is r.has_column) (b.budget (length building)) (first_of T n columns literals tables u most N table_of group stoods gathering (b.budget (length building)) r) t between (fewer stoods are) (b.told_gathered stoods are))
-          (λ w after. walks_end s0 begun ground stoods are after.1 w after.0)))
+          (few_then (record {
+            some = b.some;
+            u_low = b.u_low;
+            budget = b.budget;
+            reached = b.reached;
+            told = b.told;
+            gathered = λ stoods are. first_of T n columns literals tables u most N table_of group stoods gathering (b.budget (length building)) (b.gathered stoods are);
+            told_gathered = b.told_gathered;
+          }) fewer (6 + (W * N + 12)) Answered (seq begin_block (seq walk finish_block)) walks_end)
 
     -- ---- the whole, where they are many, whatever follows
     module _ (rest : Statement) (b : IsFirstBounded T n columns texts words at table_of building gathering group Told u most N tables) (more : (stoods : List Stood) → AreStood tables [] building stoods → top ≤ length (rows_met tables stoods gathering)) (Post Other : LowState → Type 0) (S : ℕ → Type 0) (stops : S 1) where

@@ -1,5 +1,5 @@
 -- The statement of a grouped query whose rows are counted is typed.
-use Rattle.std.proofs.Common.{◌≡◌, ℕ, ◌+◌, ◌<◌, ◌≤◌, Some, List, ◌++◌, length, refl, sym, subst, arith}
+use Rattle.std.proofs.Common.{◌≡◌, ℕ, ◌+◌, ◌<◌, ◌≤◌, Option, Some, None, List, ◌++◌, length, refl, sym, subst, arith}
 use Rattle.std.specs.List.{AllByRecursion}
 use Rattle.qw_linear.specs.Memory.{page}
 use Rattle.qw_module.specs.declared.instruction.ValType.{ValType}
@@ -27,8 +27,9 @@ use Rattle.qw_compile.specs.Statements.{AreCourses, Course, course_block}
 use Rattle.qw_compile.proofs.LocalsPlaced.{all_over, literals_known, texts_placed, words_placed}
 use Rattle.qw_compile.proofs.QueryTyped.{IsLeading, directory_is, directory_typed, known_over_typed, n, readers, readers_typed, types}
 use Rattle.qw_compile_whole.specs.GroupedStatements.{IsGatheringTo}
-use Rattle.qw_compile_whole.specs.GuardedStatements.{gather_block, guarded_block_of}
-use Rattle.qw_compile_whole.proofs.GroupedTyped.{around_typed, gathers_types, scan_typed}
+use Rattle.qw_compile_whole.specs.GuardedStatements.{IsGatheringBy, gather_block, guarded_block_of}
+use Rattle.qw_compile_whole.proofs.GroupedTyped.{around_typed, gathering_typed, gathers_types, scan_typed}
+use Rattle.qw_compile_whole.proofs.GuardedFronts.{IsGuard}
 
 module _ (T at : ℕ) (columns : List ReadColumn) (texts : List (List ℕ)) (words : List Word) (own : List ValType) where
   abbrev all : List ValType
@@ -45,6 +46,21 @@ module _ (T at : ℕ) (columns : List ReadColumn) (texts : List (List ℕ)) (wor
       (row_within_typed all refl refl (Some 4) fields g refl can (directory_is T at columns texts words own g.table low) literals (readers_over p.entry rs) next p.operators c.row mine (known_over_typed T at columns texts words own p.entry)
       (all_over (IsReaderDeclared all) p.entry rs (readers_typed T at columns texts words own)) owned led is.row)
 
+  -- the scan whose rows go into groups, counted or not
+  pub gather_typed : (guard : Option ℕ) → IsGuard guard → (next table : ℕ) (p : Pipeline) (g : Group) (fields : List Field) (c : Course) (mine : List ValType) → IsGatheringBy guard (literals_known T at texts words) (readers T at columns texts words own) next p g fields c mine →
+      AreOwn (types T at columns texts words own) next mine → AreLed (types T at columns texts words own) p.operators → CanGroup g → table < T → g.table ≡ table → IsTyped (types T at columns texts words own) (gather_block guard T table c)
+  gather_typed None is_guard next table p g fields c mine is owned led can low table_is =
+      (directory_typed T at columns texts words own table low, gathering_typed T at columns texts words own next p g fields c mine is owned led can (subst (λ (m : ℕ). m < T) (sym table_is) low))
+  gather_typed (Some z) is_guard next table p g fields c mine is owned led can low table_is =
+      subst (λ (k : ℕ). IsGatheringBy (Some k) literals (readers T at columns texts words own) next p g fields c mine → IsTyped all (gather_block (Some k) T table c)) (sym is_guard)
+      (λ counted. (
+        (I64, refl, (omega arith, refl)),
+        (
+          (directory_typed T at columns texts words own table low, first_typed next p g fields c mine counted owned led can (subst (λ (m : ℕ). m < T) (sym table_is) low)),
+          ((refl, refl), omega arith, tt),
+        ),
+      )) is
+
   pub guarded_typed : (descriptor_size : ℕ) (leads sets walk : Statement) (building : List Pipeline) (gathering behind : Pipeline) (g : Group) (fields : List Field) (key : List ReadColumn) (values : List ValueColumn) (builds : List Course) (gathers : Course) (builds_own gathers_own walk_own : List ValType) → descriptor_size ≤ page →
       LeadsToAll (texts_placed T at texts) leads → SetsAll (words_placed T (length texts) words) sets → AllByRecursion IsSmall words → own ≡ builds_own ++ (gathers_own ++ walk_own) →
       AreCourses (literals_known T at texts words) (readers T at columns texts words own) (own_start T (n T at columns texts words own) (length columns)) building builds builds_own →
@@ -54,14 +70,6 @@ module _ (T at : ℕ) (columns : List ReadColumn) (texts : List (List ℕ)) (wor
       IsTyped (types T at columns texts words own) (guarded_block_of (Some 4) T descriptor_size leads sets builds (length building) gathers walk)
   guarded_typed descriptor_size leads sets walk building gathering behind g fields key values builds gathers builds_own gathers_own walk_own small leads_all sets_all small_words own_is built gathered walked low table_is leading led can behind_led kinds =
       let start : ℕ = own_start T (n T at columns texts words own) (length columns) in
-      around_typed T at columns texts words own descriptor_size leads sets (gather_block (Some 4) T (length building) gathers) walk building behind key values builds builds_own gathers_own walk_own small leads_all sets_all small_words own_is built (
-        (I64, refl, (omega arith, refl)),
-        (
-          (
-            directory_typed T at columns texts words own (length building) low,
-            first_typed (start + length builds_own) gathering g fields gathers gathers_own gathered (gathers_types T at columns texts words own builds_own gathers_own walk_own own_is) led can (subst (λ (m : ℕ). m < T) (sym table_is) low),
-          ),
-          ((refl, refl), omega arith, tt),
-        ),
-      )
+      around_typed T at columns texts words own descriptor_size leads sets (gather_block (Some 4) T (length building) gathers) walk building behind key values builds builds_own gathers_own walk_own small leads_all sets_all small_words own_is built
+      (gather_typed (Some 4) refl (start + length builds_own) (length building) gathering g fields gathers gathers_own gathered (gathers_types T at columns texts words own builds_own gathers_own walk_own own_is) led can low table_is)
       walked low leading behind_led kinds

@@ -2,17 +2,26 @@ pub mod Beginnings
 pub mod BehindFolds
 pub mod ColumnSteps
 pub mod ColumnTypes
+mod CompiledMore
+mod DistinctColumns
 pub mod DistinctCompiled
 pub mod DistinctEnds
+mod DistinctFinished
 pub mod DistinctTogether
 pub mod DistinctTyped
+mod DistinctWhole
 pub mod EnterBounded
+pub mod EnterPlaced
+pub mod EnterPlacing
+pub mod EnterStands
+mod Finishes
 pub mod FirstBounded
 pub mod FirstGathered
 pub mod FoldedBehind
 pub mod FoldedUnits
 pub mod FrontCopies
 pub mod FrontEnds
+pub mod FrontLed
 pub mod Gathered
 pub mod GatheringLengths
 pub mod GatheringPlaced
@@ -41,15 +50,22 @@ pub mod GroupedTyped
 pub mod GuardedCompiled
 pub mod GuardedEnds
 pub mod GuardedFinished
+pub mod GuardedFronts
 pub mod GuardedTyped
+mod HeldGroups
+mod HeldRows
 pub mod LongFronts
 pub mod MadeOne
-mod OnceTyped
+mod OnceCounted
 pub mod OneDistinct
+mod ShortDistinct
 pub mod ShortGrouped
+mod PlainDistinctFinished
+mod PlainDistinctReady
 pub mod SingleAlone
 pub mod SingleBounded
 pub mod SingleCompiled
+mod SingleDistinct
 pub mod SingleEnds
 mod SingleKept
 pub mod SingleTyped
@@ -61,7 +77,6 @@ mod WholeCompiled
 pub mod WholeFinished
 mod WholeKept
 mod WholeOnce
-mod WholeTyped
 pub mod Widened
 pub mod FieldCounts
 pub mod FirstTaken

@@ -7,7 +7,6 @@ use Rattle.std.proofs.ByRecursion.{all_shuffled}
 use Rattle.std.proofs.lemmas.List.{length-map}
 use Rattle.std.proofs.lemmas.List.Sorted.{IsPermutation-sym, length_permutation}
 use Rattle.std.specs.declared.cmp.Ordering.TheVariants as ordering
-use Rattle.qw_types.specs.Value.{IsOfTypeOrNull}
 use Rattle.qw_types.specs.ValueOrder.{is_same_row, value_order}
 use Rattle.qw_types.specs.declared.code.Code.{Code}
 use Rattle.qw_types.specs.declared.value.Val.{Val}
@@ -38,7 +37,7 @@ use Rattle.qw_physical.specs.declared.pipeline.Pipeline as coded
 use Rattle.qw_physical.specs.declared.pipeline.ReadColumn.{ReadColumn}
 use Rattle.qw_physical.proofs.Orders.{Alike}
 use Rattle.qw_operator.specs.Takes.{CanCarry}
-use Rattle.qw_operator.proofs.PairRows.{AreStored}
+use Rattle.qw_operator.proofs.PairRows.{AreStored, IsHeld}
 use Rattle.qw_operator.proofs.Stood.{Stood}
 use Rattle.qw_emit.proofs.Answered.{IsTold}
 use Rattle.qw_group_sink.specs.Grouping.{Group}
@@ -95,7 +94,7 @@ pub refused_alone : (out : Outcome) (raised : ℕ) → Tells [] raised → IsTol
 refused_alone out raised tells = ⊎_elim inl (λ it. absurd (omega (arith, it.1.1))) tells
 
 -- ---- keys
-pub stored_row : (n m : ℕ) (items : List Expression) (row : List Val) → AllZip (λ (e : Expression) (v : Val). IsOfTypeOrNull (widest (kind_of e)) false v) items row → AreStored (key_from n (distinct_columns m items)) row
+pub stored_row : (n m : ℕ) (items : List Expression) (row : List Val) → AllZip (λ (e : Expression) (v : Val). IsHeld (widest (kind_of e)) false v) items row → AreStored (key_from n (distinct_columns m items)) row
 stored_row n m [] [] h = tt
 stored_row n m [] (v ∷ row) h = absurd h
 stored_row n m (e ∷ items) [] h = absurd h
@@ -149,7 +148,7 @@ module _ (row_is : (row other : List Val) → is_same_row row other ≡ true →
       (can : AllByRecursion (λ (p : Pipeline). CanCarry (literals_known T at texts words ++ map known_of (readers_of T (literal_count texts words) columns p.entry)) p.operators p.sink) cut.building)
       (can_last : CanCarry (literals_known T at texts words ++ map known_of (readers_of T (literal_count texts words) columns cut.last.entry)) cut.last.operators cut.last.sink)
       (tables : List (List (List Val))) (loaded : AreOfEntries (entries_of (query_of parts).sources) tables)
-      (typed : AllByRecursion (λ (row : List Val). AllZip (λ (e : Expression) (v : Val). IsOfTypeOrNull (widest (kind_of e)) false v) (query_of parts).items row) (flow (query_of parts) tables).rows) where
+      (held : AllByRecursion (λ (row : List Val). AllZip (λ (e : Expression) (v : Val). IsHeld (widest (kind_of e)) false v) (query_of parts).items row) (flow (query_of parts) tables).rows) where
     abbrev asked : Grouped
     asked = distinct_grouping (query_of parts)
 
@@ -174,10 +173,10 @@ module _ (row_is : (row other : List Val) → is_same_row row other ≡ true →
       keys_ok =
           subst (AllByRecursion (λ (k : List Val). AreStored key k)) (sym keys_are_once)
           (subst (λ (cs : List ReadColumn). AllByRecursion (λ (k : List Val). AreStored cs k) (once rows)) (sym key_is)
-          (all_more (λ (row : List Val). AllZip (λ (e : Expression) (v : Val). IsOfTypeOrNull (widest (kind_of e)) false v) (query_of parts).items row) (λ (k : List Val). AreStored (key_from 0 (distinct_columns 0 (query_of parts).items)) k) (once rows)
+          (all_more (λ (row : List Val). AllZip (λ (e : Expression) (v : Val). IsHeld (widest (kind_of e)) false v) (query_of parts).items row) (λ (k : List Val). AreStored (key_from 0 (distinct_columns 0 (query_of parts).items)) k) (once rows)
           (λ k h. stored_row 0 0 (query_of parts).items k h)
-          (all_once (λ (row : List Val). AllZip (λ (e : Expression) (v : Val). IsOfTypeOrNull (widest (kind_of e)) false v) (query_of parts).items row) rows
-          (all_shuffled (λ (row : List Val). AllZip (λ (e : Expression) (v : Val). IsOfTypeOrNull (widest (kind_of e)) false v) (query_of parts).items row) (flow (query_of parts) tables).rows rows from typed))))
+          (all_once (λ (row : List Val). AllZip (λ (e : Expression) (v : Val). IsHeld (widest (kind_of e)) false v) (query_of parts).items row) rows
+          (all_shuffled (λ (row : List Val). AllZip (λ (e : Expression) (v : Val). IsHeld (widest (kind_of e)) false v) (query_of parts).items row) (flow (query_of parts) tables).rows rows from held))))
 
       values_ok : AllByRecursion (λ (k : List Val). (vs : List Val) → function_values (length (distinct_columns 0 (query_of parts).items)) (kinds_of asked.functions) (members (length (distinct_columns 0 (query_of parts).items)) k rows) ≡ Ok vs → AreRead values vs)
           (keys (length (distinct_columns 0 (query_of parts).items)) rows)

@@ -7,7 +7,6 @@ use Rattle.std.proofs.ByRecursion.{all_shuffled}
 use Rattle.std.proofs.lemmas.List.{length-map}
 use Rattle.std.proofs.lemmas.List.Sorted.{IsPermutation-refl, IsPermutation-sym, IsPermutation-trans, length_permutation}
 use Rattle.std.specs.declared.cmp.Ordering.TheVariants as ordering
-use Rattle.qw_types.specs.Value.{IsOfTypeOrNull}
 use Rattle.qw_types.specs.ValueOrder.{is_same_row, value_order}
 use Rattle.qw_types.specs.declared.code.Code.{Code}
 use Rattle.qw_types.specs.declared.value.Val.{Val}
@@ -44,7 +43,7 @@ use Rattle.qw_physical.specs.declared.pipeline.Pipeline as coded
 use Rattle.qw_physical.specs.declared.pipeline.ReadColumn.{ReadColumn}
 use Rattle.qw_physical.proofs.Orders.{Alike}
 use Rattle.qw_operator.specs.Takes.{CanCarry}
-use Rattle.qw_operator.proofs.PairRows.{AreStored}
+use Rattle.qw_operator.proofs.PairRows.{AreStored, IsHeld}
 use Rattle.qw_operator.proofs.Stood.{Stood}
 use Rattle.qw_emit.proofs.Answered.{IsTold}
 use Rattle.qw_group_sink.specs.Carrying.{cost_to}
@@ -70,8 +69,9 @@ use Rattle.qw_whole.proofs.PermutedTables.{distinct_permuted}
 use Rattle.qw_compile_whole.specs.GroupColumns.{key_columns, key_from, value_columns}
 use Rattle.qw_compile_whole.specs.WholeDistinct.{distinct_columns, distinct_grouping}
 use Rattle.qw_compile_whole.proofs.EnterBounded.{EnterReach, IsDistinctBounded}
+use Rattle.qw_compile_whole.proofs.FirstBounded.{IsFirstBounded}
 use Rattle.qw_compile_whole.proofs.GroupBounded.{GatherReach, GoTogether, WalkReach, group_width, groups_paid, walked_of}
-use Rattle.qw_compile_whole.proofs.GroupCore.{alike, builds_reach, builds_told, by_plan, from_flow, gather_reach, gather_told, group_octets_less, keys_stored, pays, values_are_read}
+use Rattle.qw_compile_whole.proofs.GroupCore.{alike, builds_reach, builds_told, by_plan, first_bounded, from_flow, gather_reach, gather_told, group_octets_less, keys_stored, pays, values_are_read}
 use Rattle.qw_compile_whole.proofs.GroupKept.{few_spec, from_front, from_walk, keys_ok, octets_low, replaced, row_less, some_column, units_low, values_ok, walked_rows}
 use Rattle.qw_compile_whole.proofs.GroupOnce.{enters_less, made_long, turns_once}
 use Rattle.qw_compile_whole.proofs.GroupPlanned.{built_many}
@@ -124,17 +124,14 @@ module _ (row_is : (row other : List Val) → is_same_row row other ≡ true →
       low : (r e g q : ℕ) → max r e ≤ 24216 → g ≤ 16408 → q ≤ 512 → max (8 + 16 * q) (max (24 + 16 * (q + 0) + 32 * 0) (max g e)) ≤ 24216
       low r e g q a b d = omega (arith, a, b, d)
 
-  -- with the conjuncts of HAVING and the items as they are evaluated, and a second table
+  -- with the conjuncts of HAVING and the items as they are evaluated
   module _ (T at : ℕ) (texts : List (List ℕ)) (words : List Word) (g : Group) (key : List ReadColumn) (values : List ValueColumn) (having : List Condition) (items : List Expression)
       (together : GoTogether (replaced query having items) g key values (literals_known T at texts words)) (last_is : cut.last.sink ≡ select g.values) (key_is : key ≡ key_columns query) (values_are : values ≡ value_columns query)
       (same_behind : (before : Flow (List Val)) → behind_front query before ≡ behind_front (replaced query having items) before) (same_units : (rows : List (List Val)) → group_units general_hashing query rows ≡ group_units general_hashing (replaced query having items) rows)
       (same_items : length items ≡ length query.items) (utf8 : AllByRecursion (HasLeaves (OfText IsUtf8)) (arguments_of query.functions))
       (can : AllByRecursion (λ (p : Pipeline). CanCarry (literals_known T at texts words ++ map known_of (readers_of T (literal_count texts words) columns p.entry)) p.operators p.sink) cut.building)
       (can_last : CanCarry (literals_known T at texts words ++ map known_of (readers_of T (literal_count texts words) columns cut.last.entry)) cut.last.operators cut.last.sink)
-      (tables : List (List (List Val))) (loaded : AreOfEntries (entries_of (query_of parts).sources) tables) (few : 1 ≤ length query.functions → length (flow (front query) tables).rows < 10 ^ 18)
-      (into : Group) (key_again : List ReadColumn) (values_again : List ValueColumn) (together_again : GoTogether (distinct_grouping (shown query)) into key_again values_again (literals_known T at texts words)) (into_values : into.values ≡ items)
-      (key_again_is : key_again ≡ key_from 0 (distinct_columns 0 query.items)) (values_again_are : values_again ≡ [])
-      (typed : (rows : List (List Val)) → IsPermutation (flow (query_of parts) tables).rows rows → AllByRecursion (λ (row : List Val). AllZip (λ (e : Expression) (v : Val). IsOfTypeOrNull (widest (kind_of e)) false v) query.items row) (behind_front query (record { rows = rows; codes = [] })).rows) where
+      (tables : List (List (List Val))) (loaded : AreOfEntries (entries_of (query_of parts).sources) tables) where
     abbrev n : ℕ
     n = length query.columns
 
@@ -175,25 +172,11 @@ module _ (row_is : (row other : List Val) → is_same_row row other ≡ true →
         told_any (grouped_flow query tables).rows (once (grouped_flow query tables).rows) (grouped_flow query tables).codes raised
         (from_front row_is value_is parts kept columns made are of cut query whole front_is T at texts words g key values having items together last_is key_is values_are same_behind same_units same_items utf8 can can_last tables loaded raised h)
 
-    told_walk : (fed : Flow (List Val)) → Alike fed (flow (query_of parts) tables) → fed.codes ≡ [] → (raised : ℕ) → Tells (walked_of folded fed.rows).codes raised → Told raised
-    told_walk fed same none raised tells =
-        told_any (grouped_flow query tables).rows (once (grouped_flow query tables).rows) (grouped_flow query tables).codes raised
-        (from_walk row_is value_is parts kept columns made are of cut query whole front_is T at texts words g key values having items together last_is key_is values_are same_behind same_units same_items utf8 can can_last tables loaded fed same none raised tells)
-
-    keys_good : (rows : List (List Val)) → IsPermutation (flow (query_of parts) tables).rows rows → AllByRecursion (λ (k : List Val). AreStored key k) (keys (length query.columns) rows)
-    keys_good = keys_ok row_is value_is parts kept columns made are of cut query whole front_is T at texts words g key values having items together last_is key_is values_are same_behind same_units same_items utf8 can can_last tables loaded few
-
-    values_good : (rows : List (List Val)) → IsPermutation (flow (query_of parts) tables).rows rows → AllByRecursion (λ (k : List Val). (vs : List Val) → function_values (length query.columns) (kinds_of query.functions) (members (length query.columns) k rows) ≡ Ok vs → AreRead values vs) (keys (length query.columns) rows)
-    values_good = values_ok row_is value_is parts kept columns made are of cut query whole front_is T at texts words g key values having items together last_is key_is values_are same_behind same_units same_items utf8 can can_last tables loaded few
-
     units_few : (rows : List (List Val)) → IsPermutation rows (planned_rows (query_of parts) tables) → group_units general_hashing folded rows ≤ group_units general_hashing query (planned_rows (query_of parts) tables)
     units_few = units_low row_is value_is parts kept columns made are of cut query whole front_is T at texts words g key values having items together last_is key_is values_are same_behind same_units same_items utf8 can can_last tables loaded
 
     octets_few : (rows : List (List Val)) → IsPermutation rows (planned_rows (query_of parts) tables) → group_octets folded rows ≤ group_octets query (planned_rows (query_of parts) tables)
     octets_few = octets_low row_is value_is parts kept columns made are of cut query whole front_is T at texts words g key values having items together last_is key_is values_are same_behind same_units same_items utf8 can can_last tables loaded
-
-    less_rows : 1 ≤ length query.functions → length (flow (query_of parts) tables).rows < 10 ^ 18
-    less_rows = few_spec row_is value_is parts kept columns made are of cut query whole front_is T at texts words g key values having items together last_is key_is values_are same_behind same_units same_items utf8 can can_last tables loaded few
 
     less_row : 8 + 16 * length (query_of parts).items ≤ group_size query
     less_row = row_less row_is value_is parts kept columns made are of cut query whole front_is
@@ -218,238 +201,6 @@ module _ (row_is : (row other : List Val) → is_same_row row other ≡ true →
     told_gather = gather_told row_is value_is parts kept columns made are of cut folded some less_row widest_stored widest_low items_fit (omega arith) (omega arith) T at texts words g key values together last_is can can_last tables loaded Told told_front
         (group_units general_hashing query planned) (group_octets query planned) units_few octets_few S 2 N (omega arith) (omega arith) (omega arith)
 
-    module _ (stoods : List Stood) (stood : AreStood tables [] cut.building stoods) where
-      abbrev rows : List (List Val)
-      rows = (fed_over tables stoods cut.last).rows
-
-      abbrev before : ℕ
-      before = budget given_up_distinct tables cut.building (length cut.building)
-
-      gathers : GatherReach T (literal_count texts words) columns (literals_known T at texts words) tables given_up_distinct M N (table_of (entries_of (query_of parts).sources)) g stoods cut.last (budget given_up_distinct tables cut.building (length cut.building))
-      gathers = gather_reach row_is value_is parts kept columns made are of cut folded some less_row widest_stored widest_low items_fit (omega arith) (omega arith) T at texts words g key values together last_is can can_last tables loaded Told told_front
-          (group_units general_hashing query planned) (group_octets query planned) units_few octets_few S 2 N (omega arith) (omega arith) (omega arith) less_rows told_walk keys_good values_good stoods stood
-
-      keys_there : AllByRecursion (λ (k : List Val). AreStored key k) (keys g.columns rows)
-      keys_there = keys_stored row_is value_is parts kept columns made are of cut folded some less_row widest_stored widest_low items_fit (omega arith) (omega arith) T at texts words g key values together last_is can can_last tables loaded Told told_front
-          (group_units general_hashing query planned) (group_octets query planned) units_few octets_few S 2 N (omega arith) (omega arith) (omega arith) less_rows told_walk keys_good values_good stoods stood
-
-      values_there : AllByRecursion (λ (k : List Val). (vs : List Val) → function_values (length key) (functions_of values) (members g.columns k rows) ≡ Ok vs → AreRead values vs) (keys g.columns rows)
-      values_there = values_are_read row_is value_is parts kept columns made are of cut folded some less_row widest_stored widest_low items_fit (omega arith) (omega arith) T at texts words g key values together last_is can can_last tables loaded Told told_front
-          (group_units general_hashing query planned) (group_octets query planned) units_few octets_few S 2 N (omega arith) (omega arith) (omega arith) less_rows told_walk keys_good values_good stoods stood
-
-      paid_for : (octets : ℕ) → table_octets (kept_by spec) tables (placed spec) + octets ≤ S → before + 2 * given_up_distinct + octets + 2 * given_up_distinct < (M + 1) * given_up_distinct
-      paid_for = pays row_is value_is parts kept columns made are of cut folded some less_row widest_stored widest_low items_fit (omega arith) (omega arith) T at texts words g key values together last_is can can_last tables loaded Told told_front
-          (group_units general_hashing query planned) (group_octets query planned) units_few octets_few S 2 N (omega arith) (omega arith) (omega arith) stoods stood
-
-      first_octets : 4096 + length (keys g.columns rows) * group_width g ≤ group_octets query planned
-      first_octets = group_octets_less row_is value_is parts kept columns made are of cut folded some less_row widest_stored widest_low items_fit (omega arith) (omega arith) T at texts words g key values together last_is can can_last tables loaded Told told_front
-          (group_units general_hashing query planned) (group_octets query planned) units_few octets_few S 2 N (omega arith) (omega arith) (omega arith) stoods stood
-
-      by_planned : IsPermutation (fed_over tables stoods cut.last).rows (planned_rows (query_of parts) tables)
-      by_planned = by_plan row_is value_is parts kept columns made are of cut folded some less_row widest_stored widest_low items_fit (omega arith) (omega arith) T at texts words g key values together last_is can can_last tables loaded Told told_front
-          (group_units general_hashing query planned) (group_octets query planned) units_few octets_few S 2 N (omega arith) (omega arith) (omega arith) stoods stood
-
-      of_flow : IsPermutation (flow (query_of parts) tables).rows (fed_over tables stoods cut.last).rows
-      of_flow = from_flow row_is value_is parts kept columns made are of cut folded some less_row widest_stored widest_low items_fit (omega arith) (omega arith) T at texts words g key values together last_is can can_last tables loaded Told told_front
-          (group_units general_hashing query planned) (group_octets query planned) units_few octets_few S 2 N (omega arith) (omega arith) (omega arith) stoods stood
-
-      alike_flow : Alike (fed_over tables stoods cut.last) (flow (query_of parts) tables)
-      alike_flow = alike row_is value_is parts kept columns made are of cut folded some less_row widest_stored widest_low items_fit (omega arith) (omega arith) T at texts words g key values together last_is can can_last tables loaded Told told_front
-          (group_units general_hashing query planned) (group_octets query planned) units_few octets_few S 2 N (omega arith) (omega arith) (omega arith) stoods stood
-
-      -- ---- the rows that are put into the second table
-      abbrev W : List (List Val)
-      W = (walked_of (replaced query having items) (fed_over tables stoods cut.last).rows).rows
-
-      W_is : (behind_front query (record { rows = (fed_over tables stoods cut.last).rows; codes = [] })).rows ≡ W
-      W_is = ap (λ (f : Flow (List Val)). f.rows) (same_behind (record { rows = (fed_over tables stoods cut.last).rows; codes = [] }))
-
-      W_planned : IsPermutation W (rows_behind query (planned_rows (query_of parts) tables))
-      W_planned =
-          let same = order.behind_alike query (record { rows = rows; codes = [] }) (record { rows = planned; codes = [] }) (record { rows = by_planned; codes = IsPermutation-refl [] }) in
-          subst (λ (rs : List (List Val)). IsPermutation rs behind) W_is same.rows
-
-      W_long : AllByRecursion (λ (r : List Val). length r ≡ length query.items) W
-      W_long =
-          subst (λ (m : ℕ). AllByRecursion (λ (r : List Val). length r ≡ m) W) same_items
-          (made_long items (each (clauses.kept having) (grouped_table n kinds (record { rows = rows; codes = [] }))))
-
-      W_typed : AllByRecursion (λ (row : List Val). AllZip (λ (e : Expression) (v : Val). IsOfTypeOrNull (widest (kind_of e)) false v) query.items row) W
-      W_typed = subst (AllByRecursion (λ (row : List Val). AllZip (λ (e : Expression) (v : Val). IsOfTypeOrNull (widest (kind_of e)) false v) query.items row)) W_is (typed rows of_flow)
-
-      -- ---- the walk whose rows go there
-      into_columns : into.columns ≡ length query.items
-      into_columns = together_again.many ∙ columns_many 0 query.items
-
-      width_into : group_width into ≡ distinct_size (length query.items)
-      width_into = ap₂ (λ (c m : ℕ). entry_size c 0 m) into_columns (ap (λ (fs : List SetFunctionKind). length fs) together_again.functions)
-
-      fits_into : group_width into + given_up_distinct ≤ page
-      fits_into = let width = width_into in let low = widest_low in fit (group_width into) (distinct_size (length query.items)) widest_stored width (omega arith) low
-        where
-          fit : (w d m : ℕ) → w ≡ d → d ≤ m → m ≤ 24216 → w + (page - m) ≤ page
-          fit w d m e a b = omega (arith, e, a, b)
-
-      no_function : 1 ≤ length into.functions → length W < 10 ^ 18
-      no_function some_function = absurd (let none = ap (λ (fs : List SetFunctionKind). length fs) together_again.functions in omega (arith, some_function, none))
-
-      -- of rows in any order
-      module _ (entered : List (List Val)) (from : IsPermutation entered (walked_of (replaced query having items) (fed_over tables stoods cut.last).rows).rows) where
-        entered_long : AllByRecursion (λ (r : List Val). length r ≡ length query.items) entered
-        entered_long = all_shuffled (λ (r : List Val). length r ≡ length query.items) W entered (IsPermutation-sym entered W from) W_long
-
-        entered_typed : AllByRecursion (λ (row : List Val). AllZip (λ (e : Expression) (v : Val). IsOfTypeOrNull (widest (kind_of e)) false v) query.items row) entered
-        entered_typed = all_shuffled (λ (row : List Val). AllZip (λ (e : Expression) (v : Val). IsOfTypeOrNull (widest (kind_of e)) false v) query.items row) W entered (IsPermutation-sym entered W from) W_typed
-
-        entered_planned : IsPermutation entered (rows_behind query (planned_rows (query_of parts) tables))
-        entered_planned = IsPermutation-trans entered W behind from W_planned
-
-        keys_once : keys into.columns entered ≡ once entered
-        keys_once = ap (λ (c : ℕ). keys c entered) into_columns ∙ distinct_keys (length query.items) entered entered_long
-
-        once_many : length (once entered) ≡ length (once (rows_behind query (planned_rows (query_of parts) tables)))
-        once_many = sym (length_permutation (once entered) (once behind) (once_permuted entered behind entered_planned))
-
-        second_octets : 4096 + length (keys into.columns entered) * group_width into ≡ distinct_octets (length query.items) (rows_behind query (planned_rows (query_of parts) tables))
-        second_octets = ap₂ (λ (k w : ℕ). 4096 + k * w) (ap (λ (l : List (List Val)). length l) keys_once ∙ once_many) width_into
-
-        second_units : distinct_units general_hashing entered ≡ distinct_units general_hashing (rows_behind query (planned_rows (query_of parts) tables))
-        second_units = distinct_permuted general_hashing entered behind entered_planned
-
-        -- where the rows of the result stand behind both tables
-        both_paid : (octets : ℕ) → octets ≤ length (once (rows_behind query (planned_rows (query_of parts) tables))) * row_size (length query.items) →
-            groups_paid given_up_distinct into (groups_paid given_up_distinct g before rows) entered + octets + 2 * given_up_distinct < (M + 1) * given_up_distinct
-        both_paid octets few_octets =
-            turned before given_up_distinct (length (keys g.columns rows) * group_width g) (length (keys into.columns entered) * group_width into) octets ((M + 1) * given_up_distinct)
-            (paid_for (((4096 + length (keys g.columns rows) * group_width g) + (4096 + length (keys into.columns entered) * group_width into)) + octets)
-            (less (table_octets (kept_by spec) tables (placed spec)) (4096 + length (keys g.columns rows) * group_width g) (group_octets query planned) (4096 + length (keys into.columns entered) * group_width into) (distinct_octets (length query.items) behind) octets (length (once behind) * row_size (length query.items)) first_octets second_octets few_octets))
-          where
-            less : (j a p b d o r : ℕ) → a ≤ p → b ≡ d → o ≤ r → j + ((a + b) + o) ≤ ((j + p) + d) + r
-            less j a p b d o r e f h = omega (arith, e, f, h)
-
-            turned : (b u v w o m : ℕ) → b + 2 * u + (((4096 + v) + (4096 + w)) + o) + 2 * u < m → ((b + u + 4096 + v) + u + 4096 + w) + o + 2 * u < m
-            turned b u v w o m h = omega (arith, h)
-
-        -- ---- the walk over the second table
-        again_behind : walked_of (distinct_grouping (shown query)) entered ≡ record { rows = once entered; codes = [] }
-        again_behind = behind_once (shown query) whole.some_item entered entered_long
-
-        again_stored : AllByRecursion (λ (k : List Val). AreStored key_again k) (keys into.columns entered)
-        again_stored =
-            subst (AllByRecursion (λ (k : List Val). AreStored key_again k)) (sym keys_once)
-            (subst (λ (cs : List ReadColumn). AllByRecursion (λ (k : List Val). AreStored cs k) (once entered)) (sym key_again_is)
-            (all_more (λ (row : List Val). AllZip (λ (e : Expression) (v : Val). IsOfTypeOrNull (widest (kind_of e)) false v) query.items row) (λ (k : List Val). AreStored (key_from 0 (distinct_columns 0 query.items)) k) (once entered)
-            (λ k h. stored_row 0 0 query.items k h)
-            (all_once (λ (row : List Val). AllZip (λ (e : Expression) (v : Val). IsOfTypeOrNull (widest (kind_of e)) false v) query.items row) entered entered_typed)))
-
-        again_typed : AllByRecursion (λ (k : List Val). (vs : List Val) → function_values (length key_again) (functions_of values_again) (members into.columns k entered) ≡ Ok vs → AreRead values_again vs) (keys into.columns entered)
-        again_typed =
-            subst (λ (cs : List ValueColumn). AllByRecursion (λ (k : List Val). (vs : List Val) → function_values (length key_again) (functions_of cs) (members into.columns k entered) ≡ Ok vs → AreRead cs vs) (keys into.columns entered)) (sym values_again_are) (each_one (keys into.columns entered))
-          where
-            each_one : (ks : List (List Val)) → AllByRecursion (λ (k : List Val). (vs : List Val) → function_values (length key_again) (functions_of []) (members into.columns k entered) ≡ Ok vs → AreRead [] vs) ks
-            each_one [] = tt
-            each_one (k ∷ ks) = (no_values, each_one ks)
-
-        again_cost : 1025 + spend (λ (k : List Val). most_read (functions_of values_again) + by_result (function_values (length key_again) (functions_of values_again) (members into.columns k entered)) (λ vs. cost [] (filter again.having ∷ []) (select again.items) (k ++ vs))) (keys into.columns entered) ≤ N
-        again_cost =
-            let m : ℕ = length (distinct_columns 0 query.items) in
-            let place : length key_again ≡ m = together_again.key_many ∙ together_again.many in
-            let functions : functions_of values_again ≡ [] = together_again.theirs ∙ together_again.functions in
-            let some_again : 1 ≤ m = (let many = columns_many 0 query.items in let has = whole.some_item in omega (arith, many, has)) in
-            let all = groups_within again entered some_again (most_read []) (read_less []) in
-            subst (λ (c : ℕ). 1025 + spend (λ (k : List Val). most_read (functions_of values_again) + by_result (function_values (length key_again) (functions_of values_again) (members c k entered)) (λ vs. cost [] (filter again.having ∷ []) (select again.items) (k ++ vs))) (keys c entered) ≤ N) (sym together_again.many)
-            (subst (λ (l : ℕ). 1025 + spend (λ (k : List Val). most_read (functions_of values_again) + by_result (function_values l (functions_of values_again) (members m k entered)) (λ vs. cost [] (filter again.having ∷ []) (select again.items) (k ++ vs))) (keys m entered) ≤ N) (sym place)
-            (subst (λ (fs : List SetFunctionKind). 1025 + spend (λ (k : List Val). most_read fs + by_result (function_values m fs (members m k entered)) (λ vs. cost [] (filter again.having ∷ []) (select again.items) (k ++ vs))) (keys m entered) ≤ N) (sym functions)
-            (more (spend (λ (k : List Val). most_read [] + by_result (function_values m [] (members m k entered)) (λ vs. cost [] (filter again.having ∷ []) (select again.items) (k ++ vs))) (keys m entered)) (group_units general_hashing again entered) (distinct_units general_hashing entered) (distinct_units general_hashing behind)
-            (units spec tables) (group_units general_hashing query planned) all (units_once (shown query) whole.some_item entered entered_long general_hashing) second_units)))
-          where
-            more : (s f d e u q : ℕ) → 1025 + s ≤ 1 + f → f ≡ d → d ≡ e → 1025 + s ≤ 1 + ((u + q) + e)
-            more s f d e u q a b c = omega (arith, a, b, c)
-
-        again_cells : length again.items ≡ length query.items
-        again_cells = length-map (distinct_columns 0 query.items) expression_of_column ∙ columns_many 0 query.items
-
-        again_fits : 8 + 16 * length again.items + given_up_distinct ≤ page
-        again_fits = let low = widest_low in fit (length again.items) (length query.items) widest_stored again_cells (omega arith) low
-          where
-            fit : (a q m : ℕ) → a ≡ q → 8 + 16 * q ≤ m → m ≤ 24216 → 8 + 16 * a + (page - m) ≤ page
-            fit a q m e b c = omega (arith, e, b, c)
-
-        again_octets : length (walked_of again entered).rows * (8 + 16 * length again.items) ≡ length (once (rows_behind query (planned_rows (query_of parts) tables))) * row_size (length query.items)
-        again_octets = ap₂ (λ (k w : ℕ). k * (8 + 16 * w)) (ap (λ (f : Flow (List Val)). length f.rows) again_behind ∙ once_many) again_cells
-
-        again_reach : WalkReach again into key_again values_again given_up_distinct M N entered (groups_paid given_up_distinct into (groups_paid given_up_distinct g before rows) entered)
-        again_reach = record {
-          stored = again_stored;
-          typed = again_typed;
-          cost = again_cost;
-          fits = again_fits;
-          enough = both_paid (length (walked_of again entered).rows * (8 + 16 * length again.items)) (let same = again_octets in omega (arith, same));
-        }
-
-        again_told : (raised : ℕ) → Tells (walked_of (distinct_grouping (shown query)) entered).codes raised → Told raised
-        again_told raised tells = refused_alone (whole_outcome (asked_distinct query) tables) raised (subst (λ (f : Flow (List Val)). Tells f.codes raised) again_behind tells)
-
-      -- ---- the walk into it
-      abbrev entries : List Val → ℕ
-      entries row = length (in_slot slot (slot (key_of into.columns row)) (keys into.columns (walked_of (replaced query having items) (fed_over tables stoods cut.last).rows).rows))
-
-      abbrev chosen : List Val → ℕ
-      chosen row = chosen_units into.columns into.functions (walked_of (replaced query having items) (fed_over tables stoods cut.last).rows).rows row
-
-      enter_cost : 1025 + spend (λ (k : List Val). most_read (functions_of values) + by_result (function_values (length key) (functions_of values) (members g.columns k rows)) (λ vs. cost_to into.values (turn_of into entries chosen) [] (filter having ∷ []) (k ++ vs))) (keys g.columns rows) ≤ N
-      enter_cost =
-          let place : length key ≡ n = together.key_many ∙ together.many in
-          let functions : functions_of values ≡ kinds = together.theirs ∙ together.functions in
-          let less = enters_less folded (turn_of into entries chosen) rows some (most_read kinds) in
-          let all = groups_within folded rows some (most_read kinds) (read_less kinds) in
-          let turns = turns_once (shown query) whole.some_item W W_long into.columns into.functions together_again.many together_again.functions in
-          subst (λ (c : ℕ). 1025 + spend (λ (k : List Val). most_read (functions_of values) + by_result (function_values (length key) (functions_of values) (members c k rows)) (λ vs. cost_to into.values (turn_of into entries chosen) [] (filter having ∷ []) (k ++ vs))) (keys c rows) ≤ N) (sym together.many)
-          (subst (λ (m : ℕ). 1025 + spend (λ (k : List Val). most_read (functions_of values) + by_result (function_values m (functions_of values) (members n k rows)) (λ vs. cost_to into.values (turn_of into entries chosen) [] (filter having ∷ []) (k ++ vs))) (keys n rows) ≤ N) (sym place)
-          (subst (λ (fs : List SetFunctionKind). 1025 + spend (λ (k : List Val). most_read fs + by_result (function_values n fs (members n k rows)) (λ vs. cost_to into.values (turn_of into entries chosen) [] (filter having ∷ []) (k ++ vs))) (keys n rows) ≤ N) (sym functions)
-          (subst (λ (es : List Expression). 1025 + spend (λ (k : List Val). most_read kinds + by_result (function_values n kinds (members n k rows)) (λ vs. cost_to es (turn_of into entries chosen) [] (filter having ∷ []) (k ++ vs))) (keys n rows) ≤ N) (sym into_values)
-          (summed (spend (λ (k : List Val). most_read kinds + by_result (function_values n kinds (members n k rows)) (λ vs. cost_to items (turn_of into entries chosen) [] (filter having ∷ []) (k ++ vs))) (keys n rows))
-          (spend (λ (k : List Val). most_read kinds + by_result (function_values n kinds (members n k rows)) (λ vs. cost [] (filter having ∷ []) (select items) (k ++ vs))) (keys n rows))
-          (total (turn_of into entries chosen) W) (group_units general_hashing folded rows) (group_units general_hashing query planned) (distinct_units general_hashing W) (distinct_units general_hashing behind) (units spec tables)
-          less all (units_few rows by_planned) turns (second_units W (IsPermutation-refl W))))))
-        where
-          summed : (a s t f q d e u : ℕ) → a ≤ s + t → 1025 + s ≤ 1 + f → f ≤ q → t ≤ d → d ≡ e → 1025 + a ≤ 1 + ((u + q) + e)
-          summed a s t f q d e u i h l m p = omega (arith, i, h, l, m, p)
-
-      enter_reach : EnterReach folded g key values into given_up_distinct M N rows (groups_paid given_up_distinct g before rows)
-      enter_reach = record {
-        stored = keys_there;
-        typed = values_there;
-        entries = entries;
-        chosen = chosen;
-        met = λ row. omega arith;
-        compared = λ row. compared_within into.columns into.functions W row (chosen row) (omega arith);
-        cost = enter_cost;
-        few = no_function;
-        fits = fits_into;
-        enough = (let paid = both_paid W (IsPermutation-refl W) 0 (omega arith) in omega (arith, paid));
-      }
-
-    -- ---- all of it
-    abbrev IsKept : (most N : ℕ) → Type 0
-    IsKept most_pages most_units = IsDistinctBounded T (literal_count texts words) columns texts words at (table_of (entries_of (query_of parts).sources)) cut.building cut.last (replaced query having items) g key values
-        (distinct_grouping (shown query)) into key_again values_again (λ raised. IsTold (whole_outcome (asked_distinct query) tables) raised) given_up_distinct most_pages most_units tables
-
-    bounded : IsKept M N
-    bounded = record {
-      some = omega arith;
-      u_low = omega arith;
-      budget = λ i. budget given_up_distinct tables cut.building i;
-      reached = reached_by;
-      told = told_by;
-      gathered = λ stoods stood. gathers stoods stood;
-      told_gathered = told_gather;
-      entered = λ stoods stood none. enter_reach stoods stood;
-      told_entered = λ stoods stood none raised tells. told_walk (fed_over tables stoods cut.last) (alike_flow stoods stood) none raised tells;
-      walked = λ stoods stood none over entered from. again_reach stoods stood entered from;
-      told_walked = λ stoods stood none over entered from raised tells. again_told stoods stood entered from raised tells;
-    }
-
     units_are : N ≡ 1 + whole_units (asked_distinct query) tables
     units_are = ap (λ (s : Specification). 1 + ((units s tables + group_units general_hashing query (planned_rows s tables)) + distinct_units general_hashing (rows_behind query (planned_rows s tables)))) front_is
 
@@ -464,15 +215,278 @@ module _ (row_is : (row other : List Val) → is_same_row row other ≡ true →
         count : (c q : ℕ) → 2 + 2 * (c + 2) + q ≡ 2 + 2 * ((c + 1) + 1) + q
         count c q = omega arith
 
-    pub once_kept : IsDistinctBounded T (literal_count texts words) columns texts words at (table_of (entries_of (query_of parts).sources)) cut.building cut.last (replaced query having items) g key values
-        (distinct_grouping (shown query)) into key_again values_again (λ raised. IsTold (whole_outcome (asked_distinct query) tables) raised) given_up_distinct (whole_pages (asked_distinct query) tables) (1 + whole_units (asked_distinct query) tables) tables
-    once_kept = subst (λ (m : ℕ). IsKept m (1 + whole_units (asked_distinct query) tables)) pages_are (subst (λ (w : ℕ). IsKept M w) units_are bounded)
+    -- ---- up to the groups, however many rows there are
+    abbrev IsFirst : (most N : ℕ) → Type 0
+    IsFirst most_pages most_units = IsFirstBounded T (literal_count texts words) columns texts words at (table_of (entries_of (query_of parts).sources)) cut.building cut.last g Told given_up_distinct most_pages most_units tables
 
-    -- the rows of the second walk are the query's
-    pub once_rows : (stoods : List Stood) → AreStood tables [] cut.building stoods → (fed_over tables stoods cut.last).codes ≡ [] → (walked_of (replaced query having items) (fed_over tables stoods cut.last).rows).codes ≡ [] →
-        (entered : List (List Val)) → IsPermutation entered (walked_of (replaced query having items) (fed_over tables stoods cut.last).rows).rows →
-        IsSameOutcome (whole_outcome (asked_distinct query) tables) (Rows (walked_of (distinct_grouping (shown query)) entered).rows)
-    once_rows stoods stood none over entered from =
-        let same = walked_rows row_is value_is parts kept columns made are of cut query whole front_is T at texts words g key values having items together last_is key_is values_are same_behind same_units same_items utf8 can can_last tables loaded few stoods stood none over in
-        subst (λ (f : Flow (List Val)). IsSameOutcome (whole_outcome (asked_distinct query) tables) (Rows f.rows)) (sym (again_behind stoods stood entered from))
-        (same_once (grouped_flow query tables).rows (W stoods stood) entered (grouped_flow query tables).codes same from)
+    first : IsFirst M N
+    first = first_bounded row_is value_is parts kept columns made are of cut folded some less_row widest_stored widest_low items_fit (omega arith) (omega arith) T at texts words g key values together last_is can can_last tables loaded Told told_front
+        (group_units general_hashing query planned) (group_octets query planned) units_few octets_few S 2 N (omega arith) (omega arith) (omega arith)
+
+    pub once_first : IsFirstBounded T (literal_count texts words) columns texts words at (table_of (entries_of (query_of parts).sources)) cut.building cut.last g (λ raised. IsTold (whole_outcome (asked_distinct query) tables) raised)
+        given_up_distinct (whole_pages (asked_distinct query) tables) (1 + whole_units (asked_distinct query) tables) tables
+    once_first = subst (λ (m : ℕ). IsFirst m (1 + whole_units (asked_distinct query) tables)) pages_are (subst (λ (w : ℕ). IsFirst M w) units_are first)
+
+    -- ---- where the rows are few enough to be counted and summed, a second table
+    module _ (few : 1 ≤ length query.functions → length (flow (front query) tables).rows < 10 ^ 18)
+        (into : Group) (key_again : List ReadColumn) (values_again : List ValueColumn) (together_again : GoTogether (distinct_grouping (shown query)) into key_again values_again (literals_known T at texts words)) (into_values : into.values ≡ items)
+        (key_again_is : key_again ≡ key_from 0 (distinct_columns 0 query.items)) (values_again_are : values_again ≡ [])
+        (held : (rows : List (List Val)) → IsPermutation (flow (query_of parts) tables).rows rows → AllByRecursion (λ (row : List Val). AllZip (λ (e : Expression) (v : Val). IsHeld (widest (kind_of e)) false v) query.items row) (behind_front query (record { rows = rows; codes = [] })).rows) where
+      told_walk : (fed : Flow (List Val)) → Alike fed (flow (query_of parts) tables) → fed.codes ≡ [] → (raised : ℕ) → Tells (walked_of folded fed.rows).codes raised → Told raised
+      told_walk fed same none raised tells =
+          told_any (grouped_flow query tables).rows (once (grouped_flow query tables).rows) (grouped_flow query tables).codes raised
+          (from_walk row_is value_is parts kept columns made are of cut query whole front_is T at texts words g key values having items together last_is key_is values_are same_behind same_units same_items utf8 can can_last tables loaded fed same none raised tells)
+
+      keys_good : (rows : List (List Val)) → IsPermutation (flow (query_of parts) tables).rows rows → AllByRecursion (λ (k : List Val). AreStored key k) (keys (length query.columns) rows)
+      keys_good = keys_ok row_is value_is parts kept columns made are of cut query whole front_is T at texts words g key values having items together last_is key_is values_are same_behind same_units same_items utf8 can can_last tables loaded few
+
+      values_good : (rows : List (List Val)) → IsPermutation (flow (query_of parts) tables).rows rows → AllByRecursion (λ (k : List Val). (vs : List Val) → function_values (length query.columns) (kinds_of query.functions) (members (length query.columns) k rows) ≡ Ok vs → AreRead values vs) (keys (length query.columns) rows)
+      values_good = values_ok row_is value_is parts kept columns made are of cut query whole front_is T at texts words g key values having items together last_is key_is values_are same_behind same_units same_items utf8 can can_last tables loaded few
+
+      less_rows : 1 ≤ length query.functions → length (flow (query_of parts) tables).rows < 10 ^ 18
+      less_rows = few_spec row_is value_is parts kept columns made are of cut query whole front_is T at texts words g key values having items together last_is key_is values_are same_behind same_units same_items utf8 can can_last tables loaded few
+
+      module _ (stoods : List Stood) (stood : AreStood tables [] cut.building stoods) where
+        abbrev rows : List (List Val)
+        rows = (fed_over tables stoods cut.last).rows
+
+        abbrev before : ℕ
+        before = budget given_up_distinct tables cut.building (length cut.building)
+
+        gathers : GatherReach T (literal_count texts words) columns (literals_known T at texts words) tables given_up_distinct M N (table_of (entries_of (query_of parts).sources)) g stoods cut.last (budget given_up_distinct tables cut.building (length cut.building))
+        gathers = gather_reach row_is value_is parts kept columns made are of cut folded some less_row widest_stored widest_low items_fit (omega arith) (omega arith) T at texts words g key values together last_is can can_last tables loaded Told told_front
+            (group_units general_hashing query planned) (group_octets query planned) units_few octets_few S 2 N (omega arith) (omega arith) (omega arith) less_rows told_walk keys_good values_good stoods stood
+
+        keys_there : AllByRecursion (λ (k : List Val). AreStored key k) (keys g.columns rows)
+        keys_there = keys_stored row_is value_is parts kept columns made are of cut folded some less_row widest_stored widest_low items_fit (omega arith) (omega arith) T at texts words g key values together last_is can can_last tables loaded Told told_front
+            (group_units general_hashing query planned) (group_octets query planned) units_few octets_few S 2 N (omega arith) (omega arith) (omega arith) less_rows told_walk keys_good values_good stoods stood
+
+        values_there : AllByRecursion (λ (k : List Val). (vs : List Val) → function_values (length key) (functions_of values) (members g.columns k rows) ≡ Ok vs → AreRead values vs) (keys g.columns rows)
+        values_there = values_are_read row_is value_is parts kept columns made are of cut folded some less_row widest_stored widest_low items_fit (omega arith) (omega arith) T at texts words g key values together last_is can can_last tables loaded Told told_front
+            (group_units general_hashing query planned) (group_octets query planned) units_few octets_few S 2 N (omega arith) (omega arith) (omega arith) less_rows told_walk keys_good values_good stoods stood
+
+        paid_for : (octets : ℕ) → table_octets (kept_by spec) tables (placed spec) + octets ≤ S → before + 2 * given_up_distinct + octets + 2 * given_up_distinct < (M + 1) * given_up_distinct
+        paid_for = pays row_is value_is parts kept columns made are of cut folded some less_row widest_stored widest_low items_fit (omega arith) (omega arith) T at texts words g key values together last_is can can_last tables loaded Told told_front
+            (group_units general_hashing query planned) (group_octets query planned) units_few octets_few S 2 N (omega arith) (omega arith) (omega arith) stoods stood
+
+        first_octets : 4096 + length (keys g.columns rows) * group_width g ≤ group_octets query planned
+        first_octets = group_octets_less row_is value_is parts kept columns made are of cut folded some less_row widest_stored widest_low items_fit (omega arith) (omega arith) T at texts words g key values together last_is can can_last tables loaded Told told_front
+            (group_units general_hashing query planned) (group_octets query planned) units_few octets_few S 2 N (omega arith) (omega arith) (omega arith) stoods stood
+
+        by_planned : IsPermutation (fed_over tables stoods cut.last).rows (planned_rows (query_of parts) tables)
+        by_planned = by_plan row_is value_is parts kept columns made are of cut folded some less_row widest_stored widest_low items_fit (omega arith) (omega arith) T at texts words g key values together last_is can can_last tables loaded Told told_front
+            (group_units general_hashing query planned) (group_octets query planned) units_few octets_few S 2 N (omega arith) (omega arith) (omega arith) stoods stood
+
+        of_flow : IsPermutation (flow (query_of parts) tables).rows (fed_over tables stoods cut.last).rows
+        of_flow = from_flow row_is value_is parts kept columns made are of cut folded some less_row widest_stored widest_low items_fit (omega arith) (omega arith) T at texts words g key values together last_is can can_last tables loaded Told told_front
+            (group_units general_hashing query planned) (group_octets query planned) units_few octets_few S 2 N (omega arith) (omega arith) (omega arith) stoods stood
+
+        alike_flow : Alike (fed_over tables stoods cut.last) (flow (query_of parts) tables)
+        alike_flow = alike row_is value_is parts kept columns made are of cut folded some less_row widest_stored widest_low items_fit (omega arith) (omega arith) T at texts words g key values together last_is can can_last tables loaded Told told_front
+            (group_units general_hashing query planned) (group_octets query planned) units_few octets_few S 2 N (omega arith) (omega arith) (omega arith) stoods stood
+
+        -- ---- the rows that are put into the second table
+        abbrev W : List (List Val)
+        W = (walked_of (replaced query having items) (fed_over tables stoods cut.last).rows).rows
+
+        W_is : (behind_front query (record { rows = (fed_over tables stoods cut.last).rows; codes = [] })).rows ≡ W
+        W_is = ap (λ (f : Flow (List Val)). f.rows) (same_behind (record { rows = (fed_over tables stoods cut.last).rows; codes = [] }))
+
+        W_planned : IsPermutation W (rows_behind query (planned_rows (query_of parts) tables))
+        W_planned =
+            let same = order.behind_alike query (record { rows = rows; codes = [] }) (record { rows = planned; codes = [] }) (record { rows = by_planned; codes = IsPermutation-refl [] }) in
+            subst (λ (rs : List (List Val)). IsPermutation rs behind) W_is same.rows
+
+        W_long : AllByRecursion (λ (r : List Val). length r ≡ length query.items) W
+        W_long =
+            subst (λ (m : ℕ). AllByRecursion (λ (r : List Val). length r ≡ m) W) same_items
+            (made_long items (each (clauses.kept having) (grouped_table n kinds (record { rows = rows; codes = [] }))))
+
+        W_held : AllByRecursion (λ (row : List Val). AllZip (λ (e : Expression) (v : Val). IsHeld (widest (kind_of e)) false v) query.items row) W
+        W_held = subst (AllByRecursion (λ (row : List Val). AllZip (λ (e : Expression) (v : Val). IsHeld (widest (kind_of e)) false v) query.items row)) W_is (held rows of_flow)
+
+        -- ---- the walk whose rows go there
+        into_columns : into.columns ≡ length query.items
+        into_columns = together_again.many ∙ columns_many 0 query.items
+
+        width_into : group_width into ≡ distinct_size (length query.items)
+        width_into = ap₂ (λ (c m : ℕ). entry_size c 0 m) into_columns (ap (λ (fs : List SetFunctionKind). length fs) together_again.functions)
+
+        fits_into : group_width into + given_up_distinct ≤ page
+        fits_into = let width = width_into in let low = widest_low in fit (group_width into) (distinct_size (length query.items)) widest_stored width (omega arith) low
+          where
+            fit : (w d m : ℕ) → w ≡ d → d ≤ m → m ≤ 24216 → w + (page - m) ≤ page
+            fit w d m e a b = omega (arith, e, a, b)
+
+        no_function : 1 ≤ length into.functions → length W < 10 ^ 18
+        no_function some_function = absurd (let none = ap (λ (fs : List SetFunctionKind). length fs) together_again.functions in omega (arith, some_function, none))
+
+        -- of rows in any order
+        module _ (entered : List (List Val)) (from : IsPermutation entered (walked_of (replaced query having items) (fed_over tables stoods cut.last).rows).rows) where
+          entered_long : AllByRecursion (λ (r : List Val). length r ≡ length query.items) entered
+          entered_long = all_shuffled (λ (r : List Val). length r ≡ length query.items) W entered (IsPermutation-sym entered W from) W_long
+
+          entered_held : AllByRecursion (λ (row : List Val). AllZip (λ (e : Expression) (v : Val). IsHeld (widest (kind_of e)) false v) query.items row) entered
+          entered_held = all_shuffled (λ (row : List Val). AllZip (λ (e : Expression) (v : Val). IsHeld (widest (kind_of e)) false v) query.items row) W entered (IsPermutation-sym entered W from) W_held
+
+          entered_planned : IsPermutation entered (rows_behind query (planned_rows (query_of parts) tables))
+          entered_planned = IsPermutation-trans entered W behind from W_planned
+
+          keys_once : keys into.columns entered ≡ once entered
+          keys_once = ap (λ (c : ℕ). keys c entered) into_columns ∙ distinct_keys (length query.items) entered entered_long
+
+          once_many : length (once entered) ≡ length (once (rows_behind query (planned_rows (query_of parts) tables)))
+          once_many = sym (length_permutation (once entered) (once behind) (once_permuted entered behind entered_planned))
+
+          second_octets : 4096 + length (keys into.columns entered) * group_width into ≡ distinct_octets (length query.items) (rows_behind query (planned_rows (query_of parts) tables))
+          second_octets = ap₂ (λ (k w : ℕ). 4096 + k * w) (ap (λ (l : List (List Val)). length l) keys_once ∙ once_many) width_into
+
+          second_units : distinct_units general_hashing entered ≡ distinct_units general_hashing (rows_behind query (planned_rows (query_of parts) tables))
+          second_units = distinct_permuted general_hashing entered behind entered_planned
+
+          -- where the rows of the result stand behind both tables
+          both_paid : (octets : ℕ) → octets ≤ length (once (rows_behind query (planned_rows (query_of parts) tables))) * row_size (length query.items) →
+              groups_paid given_up_distinct into (groups_paid given_up_distinct g before rows) entered + octets + 2 * given_up_distinct < (M + 1) * given_up_distinct
+          both_paid octets few_octets =
+              turned before given_up_distinct (length (keys g.columns rows) * group_width g) (length (keys into.columns entered) * group_width into) octets ((M + 1) * given_up_distinct)
+              (paid_for (((4096 + length (keys g.columns rows) * group_width g) + (4096 + length (keys into.columns entered) * group_width into)) + octets)
+              (less (table_octets (kept_by spec) tables (placed spec)) (4096 + length (keys g.columns rows) * group_width g) (group_octets query planned) (4096 + length (keys into.columns entered) * group_width into) (distinct_octets (length query.items) behind) octets (length (once behind) * row_size (length query.items)) first_octets second_octets few_octets))
+            where
+              less : (j a p b d o r : ℕ) → a ≤ p → b ≡ d → o ≤ r → j + ((a + b) + o) ≤ ((j + p) + d) + r
+              less j a p b d o r e f h = omega (arith, e, f, h)
+
+              turned : (b u v w o m : ℕ) → b + 2 * u + (((4096 + v) + (4096 + w)) + o) + 2 * u < m → ((b + u + 4096 + v) + u + 4096 + w) + o + 2 * u < m
+              turned b u v w o m h = omega (arith, h)
+
+          -- ---- the walk over the second table
+          again_behind : walked_of (distinct_grouping (shown query)) entered ≡ record { rows = once entered; codes = [] }
+          again_behind = behind_once (shown query) whole.some_item entered entered_long
+
+          again_stored : AllByRecursion (λ (k : List Val). AreStored key_again k) (keys into.columns entered)
+          again_stored =
+              subst (AllByRecursion (λ (k : List Val). AreStored key_again k)) (sym keys_once)
+              (subst (λ (cs : List ReadColumn). AllByRecursion (λ (k : List Val). AreStored cs k) (once entered)) (sym key_again_is)
+              (all_more (λ (row : List Val). AllZip (λ (e : Expression) (v : Val). IsHeld (widest (kind_of e)) false v) query.items row) (λ (k : List Val). AreStored (key_from 0 (distinct_columns 0 query.items)) k) (once entered)
+              (λ k h. stored_row 0 0 query.items k h)
+              (all_once (λ (row : List Val). AllZip (λ (e : Expression) (v : Val). IsHeld (widest (kind_of e)) false v) query.items row) entered entered_held)))
+
+          again_typed : AllByRecursion (λ (k : List Val). (vs : List Val) → function_values (length key_again) (functions_of values_again) (members into.columns k entered) ≡ Ok vs → AreRead values_again vs) (keys into.columns entered)
+          again_typed =
+              subst (λ (cs : List ValueColumn). AllByRecursion (λ (k : List Val). (vs : List Val) → function_values (length key_again) (functions_of cs) (members into.columns k entered) ≡ Ok vs → AreRead cs vs) (keys into.columns entered)) (sym values_again_are) (each_one (keys into.columns entered))
+            where
+              each_one : (ks : List (List Val)) → AllByRecursion (λ (k : List Val). (vs : List Val) → function_values (length key_again) (functions_of []) (members into.columns k entered) ≡ Ok vs → AreRead [] vs) ks
+              each_one [] = tt
+              each_one (k ∷ ks) = (no_values, each_one ks)
+
+          again_cost : 1025 + spend (λ (k : List Val). most_read (functions_of values_again) + by_result (function_values (length key_again) (functions_of values_again) (members into.columns k entered)) (λ vs. cost [] (filter again.having ∷ []) (select again.items) (k ++ vs))) (keys into.columns entered) ≤ N
+          again_cost =
+              let m : ℕ = length (distinct_columns 0 query.items) in
+              let place : length key_again ≡ m = together_again.key_many ∙ together_again.many in
+              let functions : functions_of values_again ≡ [] = together_again.theirs ∙ together_again.functions in
+              let some_again : 1 ≤ m = (let many = columns_many 0 query.items in let has = whole.some_item in omega (arith, many, has)) in
+              let all = groups_within again entered some_again (most_read []) (read_less []) in
+              subst (λ (c : ℕ). 1025 + spend (λ (k : List Val). most_read (functions_of values_again) + by_result (function_values (length key_again) (functions_of values_again) (members c k entered)) (λ vs. cost [] (filter again.having ∷ []) (select again.items) (k ++ vs))) (keys c entered) ≤ N) (sym together_again.many)
+              (subst (λ (l : ℕ). 1025 + spend (λ (k : List Val). most_read (functions_of values_again) + by_result (function_values l (functions_of values_again) (members m k entered)) (λ vs. cost [] (filter again.having ∷ []) (select again.items) (k ++ vs))) (keys m entered) ≤ N) (sym place)
+              (subst (λ (fs : List SetFunctionKind). 1025 + spend (λ (k : List Val). most_read fs + by_result (function_values m fs (members m k entered)) (λ vs. cost [] (filter again.having ∷ []) (select again.items) (k ++ vs))) (keys m entered) ≤ N) (sym functions)
+              (more (spend (λ (k : List Val). most_read [] + by_result (function_values m [] (members m k entered)) (λ vs. cost [] (filter again.having ∷ []) (select again.items) (k ++ vs))) (keys m entered)) (group_units general_hashing again entered) (distinct_units general_hashing entered) (distinct_units general_hashing behind)
+              (units spec tables) (group_units general_hashing query planned) all (units_once (shown query) whole.some_item entered entered_long general_hashing) second_units)))
+            where
+              more : (s f d e u q : ℕ) → 1025 + s ≤ 1 + f → f ≡ d → d ≡ e → 1025 + s ≤ 1 + ((u + q) + e)
+              more s f d e u q a b c = omega (arith, a, b, c)
+
+          again_cells : length again.items ≡ length query.items
+          again_cells = length-map (distinct_columns 0 query.items) expression_of_column ∙ columns_many 0 query.items
+
+          again_fits : 8 + 16 * length again.items + given_up_distinct ≤ page
+          again_fits = let low = widest_low in fit (length again.items) (length query.items) widest_stored again_cells (omega arith) low
+            where
+              fit : (a q m : ℕ) → a ≡ q → 8 + 16 * q ≤ m → m ≤ 24216 → 8 + 16 * a + (page - m) ≤ page
+              fit a q m e b c = omega (arith, e, b, c)
+
+          again_octets : length (walked_of again entered).rows * (8 + 16 * length again.items) ≡ length (once (rows_behind query (planned_rows (query_of parts) tables))) * row_size (length query.items)
+          again_octets = ap₂ (λ (k w : ℕ). k * (8 + 16 * w)) (ap (λ (f : Flow (List Val)). length f.rows) again_behind ∙ once_many) again_cells
+
+          again_reach : WalkReach again into key_again values_again given_up_distinct M N entered (groups_paid given_up_distinct into (groups_paid given_up_distinct g before rows) entered)
+          again_reach = record {
+            stored = again_stored;
+            typed = again_typed;
+            cost = again_cost;
+            fits = again_fits;
+            enough = both_paid (length (walked_of again entered).rows * (8 + 16 * length again.items)) (let same = again_octets in omega (arith, same));
+          }
+
+          again_told : (raised : ℕ) → Tells (walked_of (distinct_grouping (shown query)) entered).codes raised → Told raised
+          again_told raised tells = refused_alone (whole_outcome (asked_distinct query) tables) raised (subst (λ (f : Flow (List Val)). Tells f.codes raised) again_behind tells)
+
+        -- ---- the walk into it
+        abbrev entries : List Val → ℕ
+        entries row = length (in_slot slot (slot (key_of into.columns row)) (keys into.columns (walked_of (replaced query having items) (fed_over tables stoods cut.last).rows).rows))
+
+        abbrev chosen : List Val → ℕ
+        chosen row = chosen_units into.columns into.functions (walked_of (replaced query having items) (fed_over tables stoods cut.last).rows).rows row
+
+        enter_cost : 1025 + spend (λ (k : List Val). most_read (functions_of values) + by_result (function_values (length key) (functions_of values) (members g.columns k rows)) (λ vs. cost_to into.values (turn_of into entries chosen) [] (filter having ∷ []) (k ++ vs))) (keys g.columns rows) ≤ N
+        enter_cost =
+            let place : length key ≡ n = together.key_many ∙ together.many in
+            let functions : functions_of values ≡ kinds = together.theirs ∙ together.functions in
+            let less = enters_less folded (turn_of into entries chosen) rows some (most_read kinds) in
+            let all = groups_within folded rows some (most_read kinds) (read_less kinds) in
+            let turns = turns_once (shown query) whole.some_item W W_long into.columns into.functions together_again.many together_again.functions in
+            subst (λ (c : ℕ). 1025 + spend (λ (k : List Val). most_read (functions_of values) + by_result (function_values (length key) (functions_of values) (members c k rows)) (λ vs. cost_to into.values (turn_of into entries chosen) [] (filter having ∷ []) (k ++ vs))) (keys c rows) ≤ N) (sym together.many)
+            (subst (λ (m : ℕ). 1025 + spend (λ (k : List Val). most_read (functions_of values) + by_result (function_values m (functions_of values) (members n k rows)) (λ vs. cost_to into.values (turn_of into entries chosen) [] (filter having ∷ []) (k ++ vs))) (keys n rows) ≤ N) (sym place)
+            (subst (λ (fs : List SetFunctionKind). 1025 + spend (λ (k : List Val). most_read fs + by_result (function_values n fs (members n k rows)) (λ vs. cost_to into.values (turn_of into entries chosen) [] (filter having ∷ []) (k ++ vs))) (keys n rows) ≤ N) (sym functions)
+            (subst (λ (es : List Expression). 1025 + spend (λ (k : List Val). most_read kinds + by_result (function_values n kinds (members n k rows)) (λ vs. cost_to es (turn_of into entries chosen) [] (filter having ∷ []) (k ++ vs))) (keys n rows) ≤ N) (sym into_values)
+            (summed (spend (λ (k : List Val). most_read kinds + by_result (function_values n kinds (members n k rows)) (λ vs. cost_to items (turn_of into entries chosen) [] (filter having ∷ []) (k ++ vs))) (keys n rows))
+            (spend (λ (k : List Val). most_read kinds + by_result (function_values n kinds (members n k rows)) (λ vs. cost [] (filter having ∷ []) (select items) (k ++ vs))) (keys n rows))
+            (total (turn_of into entries chosen) W) (group_units general_hashing folded rows) (group_units general_hashing query planned) (distinct_units general_hashing W) (distinct_units general_hashing behind) (units spec tables)
+            less all (units_few rows by_planned) turns (second_units W (IsPermutation-refl W))))))
+          where
+            summed : (a s t f q d e u : ℕ) → a ≤ s + t → 1025 + s ≤ 1 + f → f ≤ q → t ≤ d → d ≡ e → 1025 + a ≤ 1 + ((u + q) + e)
+            summed a s t f q d e u i h l m p = omega (arith, i, h, l, m, p)
+
+        enter_reach : EnterReach folded g key values into given_up_distinct M N rows (groups_paid given_up_distinct g before rows)
+        enter_reach = record {
+          stored = keys_there;
+          typed = values_there;
+          entries = entries;
+          chosen = chosen;
+          met = λ row. omega arith;
+          compared = λ row. compared_within into.columns into.functions W row (chosen row) (omega arith);
+          cost = enter_cost;
+          few = no_function;
+          fits = fits_into;
+          enough = (let paid = both_paid W (IsPermutation-refl W) 0 (omega arith) in omega (arith, paid));
+        }
+
+      -- ---- all of it
+      abbrev IsKept : (most N : ℕ) → Type 0
+      IsKept most_pages most_units = IsDistinctBounded T (literal_count texts words) columns texts words at (table_of (entries_of (query_of parts).sources)) cut.building cut.last (replaced query having items) g key values
+          (distinct_grouping (shown query)) into key_again values_again (λ raised. IsTold (whole_outcome (asked_distinct query) tables) raised) given_up_distinct most_pages most_units tables
+
+      bounded : IsKept M N
+      bounded = record {
+        some = omega arith;
+        u_low = omega arith;
+        budget = λ i. budget given_up_distinct tables cut.building i;
+        reached = reached_by;
+        told = told_by;
+        gathered = λ stoods stood. gathers stoods stood;
+        told_gathered = told_gather;
+        entered = λ stoods stood none. enter_reach stoods stood;
+        told_entered = λ stoods stood none raised tells. told_walk (fed_over tables stoods cut.last) (alike_flow stoods stood) none raised tells;
+        walked = λ stoods stood none over entered from. again_reach stoods stood entered from;
+        told_walked = λ stoods stood none over entered from raised tells. again_told stoods stood entered from raised tells;
+      }
+
+      pub once_kept : IsDistinctBounded T (literal_count texts words) columns texts words at (table_of (entries_of (query_of parts).sources)) cut.building cut.last (replaced query having items) g key values
+          (distinct_grouping (shown query)) into key_again values_again (λ raised. IsTold (whole_outcome (asked_distinct query) tables) raised) given_up_distinct (whole_pages (asked_distinct query) tables) (1 + whole_units (asked_distinct query) tables) tables
+      once_kept = subst (λ (m : ℕ). IsKept m (1 + whole_units (asked_distinct query) tables)) pages_are (subst (λ (w : ℕ). IsKept M w) units_are bounded)
+
+      -- the rows of the second walk are the query's
+      pub once_rows : (stoods : List Stood) → AreStood tables [] cut.building stoods → (fed_over tables stoods cut.last).codes ≡ [] → (walked_of (replaced query having items) (fed_over tables stoods cut.last).rows).codes ≡ [] →
+          (entered : List (List Val)) → IsPermutation entered (walked_of (replaced query having items) (fed_over tables stoods cut.last).rows).rows →
+          IsSameOutcome (whole_outcome (asked_distinct query) tables) (Rows (walked_of (distinct_grouping (shown query)) entered).rows)
+      once_rows stoods stood none over entered from =
+          let same = walked_rows row_is value_is parts kept columns made are of cut query whole front_is T at texts words g key values having items together last_is key_is values_are same_behind same_units same_items utf8 can can_last tables loaded few stoods stood none over in
+          subst (λ (f : Flow (List Val)). IsSameOutcome (whole_outcome (asked_distinct query) tables) (Rows f.rows)) (sym (again_behind stoods stood entered from))
+          (same_once (grouped_flow query tables).rows (W stoods stood) entered (grouped_flow query tables).codes same from)

@@ -56,6 +56,20 @@ pub record EmitsWalk (p : Places) (first table : ℕ) (key : List ReadColumn) (v
   pub own_is : own_new ≡ own_old ++ own
   pub is : IsGroupPipeline (literals_placed p) (directory table) (first + length own_old) key values behind.operators behind.sink walk own
 
+-- The blocks of pipelines that build tables of joins, and of the one behind them whose rows go into groups, and the types of their own locals. Where there is a
+-- local for it, rows are counted.
+pub record EmitsFront (guard : Option ℕ) (p : Places) (first : ℕ) (building : List Pipeline) (entry : ℕ) (operators : List Operator) (g : Group) (code : List LowStep) (own : List ValType) : Type 0 where
+  pub builds : List Course
+  pub gathers : Course
+  pub fields : List Field
+  pub builds_own : List ValType
+  pub gathers_own : List ValType
+  pub code_is : code ≡ steps_of (seq (builds_block p.tables 0 builds) (gather_block guard p.tables g.table gathers))
+  pub own_is : own ≡ builds_own ++ gathers_own
+  pub built : AreCourses (literals_placed p) p.readers.items first building builds builds_own
+  pub gathered : IsGatheringBy guard (literals_placed p) p.readers.items (first + length builds_own) (gathering_of entry operators g) g fields gathers gathers_own
+  pub field_kinds : kinds_of (sources_of fields) ≡ map kind_of g.values
+
 -- all of them, the last of which makes the result, in cells of these kinds
 pub record EmitsGrouped (guard : Option ℕ) (p : Places) (first : ℕ) (building : List Pipeline) (entry : ℕ) (operators : List Operator) (g : Group) (key : List ReadColumn) (values : List ValueColumn) (behind : Pipeline) (code : List LowStep) (own : List ValType) (kinds : List Kind) : Type 0 where
   pub builds : List Course

@@ -1,3 +1,9 @@
+pub mod DistinctLimits
+pub mod FinishedModule
+pub mod GroupedDistinctLimits
+pub mod DistinctMade
+pub mod DistinctOf
+pub mod DistinctPlaced
 pub mod DistinctStatements
 pub mod GroupColumns
 pub mod GroupedLimits
@@ -5,11 +11,12 @@ pub mod GroupedMade
 pub mod GroupedPlaced
 pub mod GroupedStatements
 pub mod GuardedStatements
+pub mod PlainDistinctOf
 pub mod SingleStatements
 pub mod StatementOf
 pub mod WholeDistinct
 pub mod WholeLimits
-pub mod WholeTaken
+pub mod ShortQueries
 pub mod WholeTexts
 pub mod WorkedSizes
 pub mod GuardedSingles

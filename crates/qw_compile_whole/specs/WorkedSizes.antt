@@ -1,8 +1,9 @@
--- The grouped queries of the worked cases of sizes and of texts, as the code has them.
+-- The queries of the worked cases of sizes and of texts, as the code has them.
 use Rattle.std.specs.Prelude.{ℕ, pos, List, [], replicate}
 use Rattle.qw_scalar.specs.declared.expression.Cond.{Cond}
 use Rattle.qw_scalar.specs.declared.expression.Expr.{Expr}
 use Rattle.qw_scalar.specs.declared.expression.Expr.TheVariants.{Number}
+use Rattle.qw_meaning.specs.Query.{QueryParts}
 use Rattle.qw_grouped.specs.Query.{GroupedParts}
 use Rattle.qw_grouped.specs.WorkedGroups.{by_label}
 use Rattle.qw_grouped.specs.declared.set_function.SetFunction.{SetFunction}
@@ -26,3 +27,7 @@ of_many_columns functions having items = record {
   having = having;
   items = items;
 }
+
+-- what isn't grouped
+abbrev pub plain_parts : (conjuncts : List Cond) → List Expr → QueryParts
+plain_parts conjuncts items = record { sources = []; conjuncts = conjuncts; items = items }

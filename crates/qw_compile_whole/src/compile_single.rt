@@ -15,10 +15,9 @@ ghost use Rattle.qw_whole.specs.WholePromises.{promise_of_whole};
 ghost use Rattle.qw_compile_whole.specs.WholeLimits.{IsShortGrouped};
 ghost use Rattle.qw_compile_whole.specs.WholeTexts.{texts_of_grouped};
 
+use crate::finish::finish;
 use crate::statement_of_single::statement_of_single;
-use qw_compile::compile::{CompileFault, Compiled, MOST_LOCALS, MOST_STEPS};
-use qw_compile::query_statement::QueryStatement;
-use qw_emit::module::module_of;
+use qw_compile::compile::{CompileFault, Compiled};
 use qw_grouped::query::GroupedQuery;
 use qw_types::value_order_laws::order_laws;
 use std::alloc::Global;
@@ -45,19 +44,5 @@ pub(crate) fn compile_single(alloc: Global, query: &GroupedQuery) -> Result<Comp
     // That a grouped query is typed within its limits is known where a part of it is taken.
     let _sources = query.sources();
     let made = statement_of_single(alloc, query)?;
-    let Some(
-        QueryStatement {
-            block,
-            locals,
-            layout,
-        },
-    ) = made
-    else {
-        return Err(CompileFault::TooLong);
-    };
-    if block.code.len() > MOST_STEPS || locals.len() > MOST_LOCALS {
-        return Err(CompileFault::TooLong);
-    }
-    let module = module_of(alloc, &block, &locals)?;
-    Ok(Compiled { module, layout })
+    finish(alloc, made)
 }

@@ -1,27 +1,23 @@
-//! From a query, grouped or not, to its module.
+//! From a query, grouped or not, with DISTINCT or without, to its module.
 
-ghost use Rattle.std.specs.Prelude.{◌≡◌, ◌≤◌, false, length, IfOk, IfErr};
+ghost use Rattle.std.specs.Prelude.{◌≡◌, ◌≤◌, length, IfOk, IfErr};
 ghost use Rattle.std.specs.List.{AllByRecursion, concat};
 ghost use Rattle.qw_types.specs.Value.{IsSized};
 ghost use Rattle.qw_types.specs.declared.schema.ColumnType as schema;
 ghost use Rattle.qw_meaning.specs.Select as specified;
 ghost use Rattle.qw_meaning.specs.Select.{entries_of};
-ghost use Rattle.qw_grouped.specs.Query.{grouped_of};
-ghost use Rattle.qw_grouped.specs.Whole as asked;
 ghost use Rattle.qw_grouped.specs.Whole.{sources_in};
 ghost use Rattle.qw_grouped.specs.WholeQuery.{body_of, whole_of};
 ghost use Rattle.qw_promise.specs.Compiled.{IsCompiled};
 ghost use Rattle.qw_emit.specs.Alike.{AreAlike};
 ghost use Rattle.qw_compile.specs.declared.compile.CompileFault.TheVariants as faults;
 ghost use Rattle.qw_whole.specs.WholePromises.{promise_of_whole};
-ghost use Rattle.qw_compile_whole.specs.WholeLimits.{IsShortBody, IsShortGrouped};
-ghost use Rattle.qw_compile_whole.specs.WholeTaken.{IsTaken};
-ghost use Rattle.qw_compile_whole.specs.WholeTexts.{texts_of_grouped, texts_of_whole};
+ghost use Rattle.qw_compile_whole.specs.ShortQueries.{IsShortWhole};
+ghost use Rattle.qw_compile_whole.specs.WholeTexts.{texts_of_whole};
 
-use crate::compile_grouped::compile_grouped;
-use crate::compile_single::compile_single;
-use qw_compile::compile::{CompileFault, Compiled, compile};
-use qw_grouped::query::GroupedQuery;
+use crate::compile_groups::compile_groups;
+use crate::compile_plain::compile_plain;
+use qw_compile::compile::{CompileFault, Compiled};
 use qw_grouped::whole::{Body, WholeQuery};
 use std::alloc::Global;
 
@@ -32,35 +28,18 @@ use std::alloc::Global;
 /// # Errors
 ///
 /// [`CompileFault::TooLong`] where more than 2^21 steps would be compiled, or as many locals, or the literals are too many or too long: never of a
-/// query whose trees have at most 4,012 nodes, a column of GROUP BY counted as three and a set function as two beside its argument, and whose text
-/// literals have at most 16,384 octets; [`CompileFault::NoMemory`] where memory does not suffice.
+/// query whose trees have at most 4,012 nodes, a column of GROUP BY counted as three, a set function as two beside its argument, and with DISTINCT each item
+/// besides as three, of a grouped query as two, and whose text literals have at most 16,384 octets; [`CompileFault::NoMemory`] where memory does not suffice.
 pub fn compile_whole(alloc: Global, query: &WholeQuery) -> Result<Compiled, CompileFault>
-    requires taken { IsTaken (whole_of query.now) }
     requires some { AllByRecursion (λ (e : specified.Entry). 1 ≤ length e.columns) (entries_of (sources_in (body_of query.now.body))) }
     requires sized { AllByRecursion (λ (e : specified.Entry). AllByRecursion (λ (c : schema.ColumnType). IsSized c.ty) e.columns) (entries_of (sources_in (body_of query.now.body))) }
     requires alike { AreAlike (entries_of (sources_in (body_of query.now.body))) }
     ensures compiled { IfOk result (λ compiled. IsCompiled (promise_of_whole (whole_of query.now)) compiled.layout compiled.module) }
     ensures texts { IfOk result (λ compiled. compiled.layout.literals ≡ concat (texts_of_whole query.now)) }
-    ensures short { IsShortBody query.now.body → IfErr result (λ fault. fault ≡ faults.NoMemory) }
+    ensures short { IsShortWhole query.now → IfErr result (λ fault. fault ≡ faults.NoMemory) }
 {
     match &query.body {
-        Body::Plain(plain) => compile(alloc, plain),
-        Body::Grouped(grouped) => compile_groups(alloc, grouped),
-    }
-}
-
-/// The module that runs a grouped query, with GROUP BY or without, and its layout.
-fn compile_groups(alloc: Global, query: &GroupedQuery) -> Result<Compiled, CompileFault>
-    requires some { AllByRecursion (λ (e : specified.Entry). 1 ≤ length e.columns) (entries_of (grouped_of query.now).sources) }
-    requires sized { AllByRecursion (λ (e : specified.Entry). AllByRecursion (λ (c : schema.ColumnType). IsSized c.ty) e.columns) (entries_of (grouped_of query.now).sources) }
-    requires alike { AreAlike (entries_of (grouped_of query.now).sources) }
-    ensures compiled { IfOk result (λ compiled. IsCompiled (promise_of_whole (record { body = asked.grouped (grouped_of query.now); distinct = false })) compiled.layout compiled.module) }
-    ensures texts { IfOk result (λ compiled. compiled.layout.literals ≡ concat (texts_of_grouped query.now)) }
-    ensures short { IsShortGrouped query.now → IfErr result (λ fault. fault ≡ faults.NoMemory) }
-{
-    if query.columns().is_empty() {
-        compile_single(alloc, query)
-    } else {
-        compile_grouped(alloc, query)
+        Body::Plain(plain) => compile_plain(alloc, plain, query.distinct),
+        Body::Grouped(grouped) => compile_groups(alloc, grouped, query.distinct),
     }
 }

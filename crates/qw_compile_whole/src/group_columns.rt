@@ -126,7 +126,7 @@ fn value_kind(function: SetFunctionKind, argument: Option<Kind>) -> Option<Kind>
 }
 
 /// The greatest type of a kind.
-fn widest(kind: Option<Kind>) -> Ty
+pub(crate) fn widest(kind: Option<Kind>) -> Ty
     ensures { result ≡ specified.widest kind }
 {
     match kind {

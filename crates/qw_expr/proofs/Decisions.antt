@@ -67,7 +67,7 @@ module _ (known : List Known) (next : ℕ) (low_known : AreBelow next known) (o 
   cell = record { value = m + 1; length = m + 1; null = null }
 
   module _ (body : Statement) (mine : List ValType)
-      (does : (pages fuel more : ℕ) (row : List Val) (x y : Val) (u t : LowState) → 1 + octets_in x y ≤ more → more ≤ fuel → HaveColumns (HoldsIn row) (comparison o a b) → value_of a (at_row row) ≡ Ok x → value_of b (at_row row) ≡ Ok y →
+      (does : (pages fuel more : ℕ) (row : List Val) (x y : Val) (u t : LowState) → 1 + octets_in o x y ≤ more → more ≤ fuel → HaveColumns (HoldsIn row) (comparison o a b) → value_of a (at_row row) ≡ Ok x → value_of b (at_row row) ≡ Ok y →
       Holds oa x u → Holds ob y u → (x ≡ val.Null → ⊥) → (y ≡ val.Null → ⊥) → Kept m u t → SaysValue t null → m + 2 + length mine ≤ length u.locals →
       Comes pages fuel more (λ v w. Kept m u w × HoldsTruth cell v w) (Ok (compared o x (scale_of a) y (scale_of b))) body t)
       (typed_body : (types : List ValType) → DeclaresValue types oa → DeclaresValue types ob → slice_get types (m + 1) ≡ Some I32 → Declares types (m + 2) mine → low.IsTyped types body) where
@@ -93,7 +93,7 @@ module _ (known : List Known) (next : ℕ) (low_known : AreBelow next known) (o 
         (λ y w is_y right.
         let r : Truth = compared o x (scale_of a) y (scale_of b) in
         let first : Holds oa x w = (value_kept (next + length owna) t w oa.cell x right.0 ca.below left.1.0, left.1.1) in
-        let octets : octets_of (value_of a env) (value_of b env) ≡ octets_in x y = ap₂ octets_of is_x is_y in
+        let octets : octets_of o (value_of a env) (value_of b env) ≡ octets_in o x y = ap₂ (octets_of o) is_x is_y in
         let wide : m + 2 + length mine ≤ length w.locals = omega (arith, room, long, left.0.many, right.0.many) in
         comes_weaker pages fuel more (λ v v'. Kept m w v' × HoldsTruth cell v v') (λ v v'. Kept next s v' × HoldsTruth cell v v') (Ok r) tail w
         (λ v z is kept. (Kept-then next m s w z (omega arith) (Kept-then next (next + length owna) s t w (omega arith) left.0 right.0) kept.0, kept.1))

@@ -9,6 +9,7 @@ mod Constants
 mod Copies
 pub mod Decisions
 mod Emitted
+mod Extents
 pub mod Junctions
 pub mod JunctionsDecide
 mod JunctionsEmitted

@@ -7,7 +7,7 @@ ghost use Rattle.qw_scalar.specs.Typing.{AreTyped, are_comparable, is_date, is_n
 ghost use Rattle.qw_expr.specs.Cells.{IsBelow};
 ghost use Rattle.qw_expr.specs.declared.emitter.Emitter.{Emitter};
 ghost use Rattle.qw_expr.specs.Computes.{Known, AreBelow};
-ghost use Rattle.qw_expr.specs.Emits.{Emits, EmitsTruth, extent, free_of};
+ghost use Rattle.qw_expr.specs.Emits.{Emits, EmitsTruth, comparing, extent, free_of};
 ghost use Rattle.qw_expr.specs.Inner.Operated.{AddsComparison};
 ghost use Rattle.qw_expr.specs.Inner.Truths.{before_zero};
 
@@ -127,7 +127,7 @@ impl Emitter {
         )
     }
 
-    /// Adds a comparison of two expressions that were emitted before, the left one first (ISO/IEC 9075:1992, 8.2).
+    /// Adds a comparison of two expressions that were emitted before, the left one first (ISO/IEC 9075:1992, 8.2), or LIKE (8.5).
     pub fn compare(
         &mut self,
         operator: Comparison,
@@ -139,7 +139,7 @@ impl Emitter {
         requires below { IsBelow (free_of self.old) left.cell × IsBelow (free_of self.old) right.cell }
         ensures emits { IfOk result (λ out. (known : List Known) (a b : Expression) (start mid : Emitter) → AreTyped (comparison operator a b) →
             AreBelow (free_of start) known → Emits known a start mid left → Emits known b mid self.old right → EmitsTruth known (comparison operator a b) start self.new out) }
-        ensures short { OnOk result (extent self.new ≤ extent self.old + 130) }
+        ensures short { OnOk result (extent self.new ≤ extent self.old + comparing operator) }
     {
         match left.kind {
             Some(Kind::Date) => self.compare_dates(operator, left, right),

@@ -89,7 +89,7 @@ impl Emitter {
         requires below { IsBelow (free_of self.old) left.cell × IsBelow (free_of self.old) right.cell }
         ensures emits { IfOk result (λ out. (known : List Known) (a b : Expression) (start mid : Emitter) → AreTyped (comparison operator a b) →
             AreBelow (free_of start) known → Emits known a start mid left → Emits known b mid self.old right → EmitsTest known (comparison operator a b) start self.new out) }
-        ensures short { OnOk result (extent self.new ≤ extent self.old + 130) }
+        ensures short { OnOk result (extent self.new ≤ extent self.old + 200) }
     {
         if is_one_relation(left, right) {
             return Ok(Test::Related(relation_of(operator), left.cell.value, right.cell.value));

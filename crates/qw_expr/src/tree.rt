@@ -9,7 +9,7 @@ ghost use Rattle.qw_scalar.specs.Tree.{choices_of, condition_of, expression_of, 
 ghost use Rattle.qw_scalar.specs.Typing.{AreTyped, IsTyped, kind_of};
 ghost use Rattle.qw_expr.specs.Cells.{IsBelow};
 ghost use Rattle.qw_expr.specs.Bindings.{IsServed, TakeKnown, TakesKnown, known_of};
-ghost use Rattle.qw_expr.specs.Emits.{Emits, EmitsTruth, extent, free_of};
+ghost use Rattle.qw_expr.specs.Emits.{Emits, EmitsTruth, comparing, extent, free_of};
 ghost use Rattle.qw_expr.specs.Inner.Choices.{Suits};
 ghost use Rattle.qw_expr.specs.Inner.Made.{Made, MadeTruth, StartsUnlessNull, with_operand};
 
@@ -251,7 +251,7 @@ fn against(
     requires known { TakeKnown (known_of known.now) (comparison operator (expression_of operand.now) (expression_of right.now)) }
     requires served { IsServed (free_of emitter.old) (with_operand (expression_of operand.now) x (known_of known.now)) }
     ensures emits { IfOk result (λ out. MadeTruth (with_operand (expression_of operand.now) x (known_of known.now)) (comparison operator (expression_of operand.now) (expression_of right.now)) emitter.old emitter.new out) }
-    ensures short { OnOk result (extent emitter.new ≤ extent emitter.old + (400 * nodes right.now + 130)) }
+    ensures short { OnOk result (extent emitter.new ≤ extent emitter.old + (400 * nodes right.now + comparing operator)) }
 {
     let y = expression(emitter, right, known)?;
     emitter.compare(operator, x, y)

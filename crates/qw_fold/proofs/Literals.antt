@@ -62,19 +62,19 @@ then_same : {A B : Type 0} (r : Result A Code) (f g : A → Result B Code) → (
 then_same (Ok x) f g h = h x
 then_same (Err code) f g h = refl
 
-no_octets_right : (r : Result Val Code) (v : ℤ) → octets_of r (Ok (val.Num v)) ≡ 0
-no_octets_right (Ok val.Null) v = refl
-no_octets_right (Ok (val.Num a)) v = refl
-no_octets_right (Ok (val.Date d)) v = refl
-no_octets_right (Ok (val.Text t)) v = refl
-no_octets_right (Err code) v = refl
+no_octets_right : (op : Comparison) (r : Result Val Code) (v : ℤ) → octets_of op r (Ok (val.Num v)) ≡ 0
+no_octets_right op (Ok val.Null) v = refl
+no_octets_right op (Ok (val.Num a)) v = refl
+no_octets_right op (Ok (val.Date d)) v = refl
+no_octets_right op (Ok (val.Text t)) v = refl
+no_octets_right op (Err code) v = refl
 
-no_octets_left : (r : Result Val Code) (v : ℤ) → octets_of (Ok (val.Num v)) r ≡ 0
-no_octets_left (Ok val.Null) v = refl
-no_octets_left (Ok (val.Num a)) v = refl
-no_octets_left (Ok (val.Date d)) v = refl
-no_octets_left (Ok (val.Text t)) v = refl
-no_octets_left (Err code) v = refl
+no_octets_left : (op : Comparison) (r : Result Val Code) (v : ℤ) → octets_of op (Ok (val.Num v)) r ≡ 0
+no_octets_left op (Ok val.Null) v = refl
+no_octets_left op (Ok (val.Num a)) v = refl
+no_octets_left op (Ok (val.Date d)) v = refl
+no_octets_left op (Ok (val.Text t)) v = refl
+no_octets_left op (Err code) v = refl
 
 -- ---- a literal in its place
 
@@ -95,7 +95,7 @@ right_compared : (op : Comparison) (a : Expression) (v w : ℤ) (t s : ℕ) → 
 right_compared op a v w t s up near h e = record {
   same = record {
     truth = λ env. then_same (value_of a env) _ _ (λ x. ap Ok (compared_right op x v w (scale_of a) t s up e));
-    units = λ env. rw (no_octets_right (value_of a env) v, no_octets_right (value_of a env) w) refl;
+    units = λ env. rw (no_octets_right op (value_of a env) v, no_octets_right op (value_of a env) w) refl;
   };
   typed = λ k. ((k.0.0, (h, near)), rw (comparable_right (kind_of a) t s) k.1);
   columns = λ columns k. (k.0, tt);
@@ -106,7 +106,7 @@ left_compared : (op : Comparison) (b : Expression) (v w : ℤ) (t s : ℕ) → t
 left_compared op b v w t s up near h e = record {
   same = record {
     truth = λ env. then_same (value_of b env) _ _ (λ y. ap Ok (compared_left op y v w (scale_of b) t s up e));
-    units = λ env. rw (no_octets_left (value_of b env) v) refl;
+    units = λ env. rw (no_octets_left op (value_of b env) v) refl;
   };
   typed = λ k. (((h, near), k.0.1), rw (comparable_left (kind_of b) t s) k.1);
   columns = λ columns k. (tt, k.1);

@@ -110,7 +110,7 @@ abbrev pub group_units : List ReadColumn → List ValueColumn → List Operator 
 group_units key values operators snk columns rows key_values =
     most_read (functions_of values) + by_result (function_values (length key) (functions_of values) (members columns key_values rows)) (λ vs. cost [] operators snk (key_values ++ vs))
 
--- its key is of its columns' types, the values of its set functions are of their kinds, as they are read, and its units few enough
+-- its key has values that the cells of its columns give back, the values of its set functions are of their kinds, as they are read, and its units few enough
 pub record IsGoodTo (key : List ReadColumn) (values : List ValueColumn) (units : List Val → ℕ) (fuel columns : ℕ) (rows : List (List Val)) (key_values : List Val) : Type 0 where
   pub stored : AreStored key key_values
   pub typed : (vs : List Val) → function_values (length key) (functions_of values) (members columns key_values rows) ≡ Ok vs → AreRead values vs

@@ -1,1 +1,2 @@
 mod Specified
+mod SpecifiedGroups

@@ -45,20 +45,20 @@ all_last P (y ∷ xs) x h p = (h.0, all_last P xs x h.1 p)
 pub all_pushed : {A B : Type 0} (P : B → Type 0) (f : A → B) (xs pushed : List A) (x : A) → pushed ≡ xs ++ (x ∷ []) → AllByRecursion P (map f xs) → P (f x) → AllByRecursion P (map f pushed)
 all_pushed P f xs pushed x is h p = subst (λ ys. AllByRecursion P ys) (sym (ap (map f) is ∙ map_last f xs x)) (all_last P (map f xs) (f x) h p)
 
-all_more : {A : Type 0} (P Q : A → Type 0) (xs : List A) → ((x : A) → P x → Q x) → AllByRecursion P xs → AllByRecursion Q xs
+pub all_more : {A : Type 0} (P Q : A → Type 0) (xs : List A) → ((x : A) → P x → Q x) → AllByRecursion P xs → AllByRecursion Q xs
 all_more P Q [] more h = h
 all_more P Q (x ∷ xs) more h = (more x h.0, all_more P Q xs more h.1)
 
-all_append : {A : Type 0} (P : A → Type 0) (xs ys : List A) → AllByRecursion P xs → AllByRecursion P ys → AllByRecursion P (xs ++ ys)
+pub all_append : {A : Type 0} (P : A → Type 0) (xs ys : List A) → AllByRecursion P xs → AllByRecursion P ys → AllByRecursion P (xs ++ ys)
 all_append P [] ys h g = g
 all_append P (x ∷ xs) ys h g = (h.0, all_append P xs ys h.1 g)
 
-mapped_many : {A B : Type 0} (f : A → B) (xs : List A) → length (map f xs) ≡ length xs
+pub mapped_many : {A B : Type 0} (f : A → B) (xs : List A) → length (map f xs) ≡ length xs
 mapped_many f [] = refl
 mapped_many f (x ∷ xs) = ap suc (mapped_many f xs)
 
 -- of one that is there
-all_there : {A : Type 0} (P : A → Type 0) (xs : List A) (k : ℕ) (x : A) → AllByRecursion P xs → slice_get xs k ≡ Some x → (k < length xs) × P x
+pub all_there : {A : Type 0} (P : A → Type 0) (xs : List A) (k : ℕ) (x : A) → AllByRecursion P xs → slice_get xs k ≡ Some x → (k < length xs) × P x
 all_there P [] k x h is = absurd cc
 all_there P (y ∷ xs) zero x h is = (omega arith, subst P (let same : y ≡ x = cc is in same) h.0)
 all_there P (y ∷ xs) (suc k) x h is = let rest = all_there P xs k x h.1 is in (omega (arith, rest.0), rest.1)
@@ -69,19 +69,19 @@ all_there P (y ∷ xs) (suc k) x h is = let rest = all_there P xs k x h.1 is in 
 pub place_there : (k : ℕ) (ty : Ty) → slice_get random_types k ≡ Some ty → (k < 6) × (type_scale ty ≤ 18)
 place_there k ty is = all_there (λ t. type_scale t ≤ 18) random_types k ty (omega arith, (omega arith, (omega arith, (omega arith, (omega arith, (omega arith, tt)))))) is
 
-kind_scaled : (ty : Ty) → IsTrue (is_number (Some (type_kind ty))) → type_kind ty ≡ Number (type_scale ty)
+pub kind_scaled : (ty : Ty) → IsTrue (is_number (Some (type_kind ty))) → type_kind ty ≡ Number (type_scale ty)
 kind_scaled Integer h = refl
 kind_scaled (Decimal p s) h = refl
 kind_scaled Date h = absurd cc
 kind_scaled (Varchar n) h = absurd cc
 
-scale_stays : (s : ℕ) (operator : Operator) (a b : Expression) → scale_of a ≡ s → scale_of b ≡ 0 → scale_after operator (scale_of a) (scale_of b) ≡ s
+pub scale_stays : (s : ℕ) (operator : Operator) (a b : Expression) → scale_of a ≡ s → scale_of b ≡ 0 → scale_after operator (scale_of a) (scale_of b) ≡ s
 scale_stays s Add a b h g = rw (h, g) (omega arith)
 scale_stays s Subtract a b h g = rw (h, g) (omega arith)
 scale_stays s Multiply a b h g = rw (h, g) (omega arith)
 scale_stays s Divide a b h g = h
 
-scale_allowed : (s : ℕ) (operator : Operator) (a b : Expression) → s ≤ 18 → scale_of a ≡ s → scale_of b ≡ 0 → ScalesAllowed operator (scale_of a) (scale_of b)
+pub scale_allowed : (s : ℕ) (operator : Operator) (a b : Expression) → s ≤ 18 → scale_of a ≡ s → scale_of b ≡ 0 → ScalesAllowed operator (scale_of a) (scale_of b)
 scale_allowed s Add a b few h g = tt
 scale_allowed s Subtract a b few h g = tt
 scale_allowed s Multiply a b few h g = omega (arith, few, h, g)
@@ -217,7 +217,7 @@ joins_few first next (j ∷ joins) h =
     let rest = joins_few first (next + 1) joins h.1 in
     omega (arith, count, rest, h.0.1.1)
 
-sources_few : (first : ℕ) (sources : List Source) → AreRandomSources first sources → length (conjuncts_on sources) ≤ 3 * length (entries_of sources)
+pub sources_few : (first : ℕ) (sources : List Source) → AreRandomSources first sources → length (conjuncts_on sources) ≤ 3 * length (entries_of sources)
 sources_few first [] h = omega arith
 sources_few first (source ∷ sources) h =
     let one = joins_few first (first + 1) source.joins h.0.1 in
@@ -232,15 +232,15 @@ some_of [] h = h
 some_of (source ∷ sources) h = omega arith
 
 pub specified : (sources : List Source) (conjuncts : List Condition) (items : List Expression) (total : ℕ) → AreRandomSources 0 sources → length (entries_of sources) ≡ total → 1 ≤ total → total ≤ 5
-    → AllByRecursion (IsTestOver 0 total) conjuncts → length conjuncts ≤ 2 → AllByRecursion (IsRandomItem 0 total) items → 1 ≤ length items → length items ≤ 3
+    → AllByRecursion (IsTestOver 0 total) conjuncts → length conjuncts ≤ 2 → AllByRecursion (IsRandomItem 0 total) items → 1 ≤ length items → length items ≤ 512
     → IsSpecification (record { sources = sources; conjuncts = conjuncts; items = items })
-specified sources conjuncts items total random entries some few tests short numbers one three = record {
+specified sources conjuncts items total random entries some few tests short numbers one many = record {
   some_source = some_of sources (omega (arith, entries, some));
   few_entries = omega (arith, entries, few);
   few_columns = all_more IsRandomEntry (λ (entry : Entry). length entry.columns ≤ 64) (entries_of sources) narrow (sources_random 0 sources random);
   few_conjuncts = let on = sources_few 0 sources random in omega (arith, on, entries, few, short);
   some_item = one;
-  few_items = omega (arith, three);
+  few_items = many;
   sources = sources_over (entries_of sources) 0 sources (omega arith) (sources_random 0 sources random) random;
   conjuncts = all_more (IsTestOver 0 total) (IsConditionOver (IsColumnOf (entries_of sources))) conjuncts (condition_over (entries_of sources) 0 total (omega (arith, entries)) (sources_random 0 sources random)) tests;
   items = all_more (IsRandomItem 0 total) (IsItemOver (IsColumnOf (entries_of sources))) items (item_over (entries_of sources) 0 total (omega (arith, entries)) (sources_random 0 sources random)) numbers;

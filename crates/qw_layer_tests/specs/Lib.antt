@@ -1,1 +1,2 @@
+pub mod RandomGroups
 pub mod RandomQueries

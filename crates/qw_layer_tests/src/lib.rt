@@ -21,6 +21,12 @@ mod linear_memory;
 #[cfg(test)]
 mod pipelines;
 #[cfg(test)]
+mod random_behind;
+#[cfg(test)]
+mod random_grouped_modules;
+#[cfg(test)]
+mod random_groups;
+#[cfg(test)]
 mod random_joins;
 #[cfg(test)]
 mod random_modules;

@@ -135,7 +135,8 @@ fn bench_of_three(
     bench_of(alloc, &loaded, (first, second, third))
 }
 
-fn bench_of(alloc: Global, loaded: &[Loaded], jobs: (Job, Job, Job)) -> Result<Bench, Fail>
+/// A bench of three jobs, each under limits that it doesn't meet, before its first turn.
+pub fn bench_of(alloc: Global, loaded: &[Loaded], jobs: (Job, Job, Job)) -> Result<Bench, Fail>
     requires tables { AllByRecursion HasRandomColumns loaded.now }
     requires many { length loaded.now ≡ 3 }
     requires first { AllByRecursion IsOfRandomTable jobs.0.layout.columns }
@@ -168,7 +169,7 @@ fn quantum(random: &mut Random) -> u64
 }
 
 /// Gives turns to one of three jobs and another until all have ended.
-fn turn_to_the_end(bench: &mut Bench, random: &mut Random) {
+pub fn turn_to_the_end(bench: &mut Bench, random: &mut Random) {
     for _ in 0..1_000_000 {
         if !runs(bench) {
             return;
@@ -219,7 +220,8 @@ fn count(rows: &[Row], values: &[Val]) -> usize {
         .count()
 }
 
-fn are_same(values: &[Val], others: &[Val]) -> bool {
+/// Whether rows have the same values.
+pub fn are_same(values: &[Val], others: &[Val]) -> bool {
     values.len() == others.len()
         && values
             .iter()

@@ -32,7 +32,11 @@ pub fn random_query(alloc: Global, random: &mut Random, most: usize) -> Result<Q
 }
 
 /// Sources of so many entries in all.
-fn random_sources(alloc: Global, random: &mut Random, total: usize) -> Result<Vec<Source>, NoMemory>
+pub fn random_sources(
+    alloc: Global,
+    random: &mut Random,
+    total: usize,
+) -> Result<Vec<Source>, NoMemory>
     requires { (1 ≤ total) × (total ≤ 5) }
     ensures sources { IfOk result (λ sources. AreRandomSources 0 (map source_of sources.items)) }
     ensures entries { IfOk result (λ sources. length (entries_of (map source_of sources.items)) ≡ total) }
@@ -153,7 +157,7 @@ fn random_on(
 }
 
 /// At most two tests over the entries from number `first` on and before number `next`.
-fn tests(
+pub fn tests(
     alloc: Global,
     random: &mut Random,
     first: usize,
@@ -225,7 +229,8 @@ fn comparison(
     compared(alloc, op, left, right)
 }
 
-fn comparison_operator(random: &mut Random) -> Comparison {
+/// One of the six comparisons.
+pub fn comparison_operator(random: &mut Random) -> Comparison {
     match random.below(6) {
         0 => Comparison::NotEqual,
         1 => Comparison::Less,
@@ -309,7 +314,7 @@ fn item(alloc: Global, random: &mut Random, first: usize, next: usize) -> Result
 }
 
 /// A value of the type of a column: the column, a literal, or, of a DECIMAL, an operator on the column and a number.
-fn value(
+pub fn value(
     alloc: Global,
     random: &mut Random,
     place: (usize, Ty),
@@ -387,7 +392,8 @@ fn number(
     arithmetic(alloc, operator, left, right)
 }
 
-fn operator(random: &mut Random) -> Operator {
+/// An operator, which divides in two of five cases.
+pub fn operator(random: &mut Random) -> Operator {
     match random.below(5) {
         0 => Operator::Add,
         1 => Operator::Subtract,
@@ -396,7 +402,13 @@ fn operator(random: &mut Random) -> Operator {
     }
 }
 
-fn arithmetic(alloc: Global, operator: Operator, left: Expr, right: Expr) -> Result<Expr, NoMemory>
+/// `left operator right`
+pub fn arithmetic(
+    alloc: Global,
+    operator: Operator,
+    left: Expr,
+    right: Expr,
+) -> Result<Expr, NoMemory>
     ensures { IfOk result (λ made. expression_of made ≡ tree.arithmetic operator (expression_of left) (expression_of right)) }
 {
     Ok(Expr::Arithmetic(operator, Box::new(alloc, left)?, Box::new(alloc, right)?))

@@ -12,11 +12,13 @@ use std::process::Abort;
 use std::test::Fail;
 
 // Scripts of one statement, and what it says.
-const SELECTS: [(&str, &str); 83] = [
+const SELECTS: [(&str, &str); 89] = [
     ("SELECT * FROM t", "* FROM t"),
     ("select ALL * from T;", "* FROM T"),
     ("SELECT a FROM t", "a FROM t"),
     ("SELECT ALL a FROM t", "a FROM t"),
+    ("SELECT DISTINCT a, b FROM t", "DISTINCT a; b FROM t"),
+    ("select distinct * from T", "DISTINCT * FROM T"),
     ("SELECT t.a, \"b\" FROM t", "t.a; \"b\" FROM t"),
     (
         "SELECT \"x y\".\"a\"\"b\" FROM t AS \"x y\"",
@@ -167,6 +169,22 @@ const SELECTS: [(&str, &str); 83] = [
         "a FROM t WHERE (1 + a) >= (b * 2)",
     ),
     (
+        "SELECT a FROM t WHERE a LIKE 'x%'",
+        "a FROM t WHERE a LIKE 'x%'",
+    ),
+    (
+        "SELECT a FROM t WHERE a not like '' AND b = 3",
+        "a FROM t WHERE (a NOT LIKE '' AND b = 3)",
+    ),
+    (
+        "SELECT a FROM t WHERE 'x' LIKE '_' IS NOT TRUE",
+        "a FROM t WHERE ('x' LIKE '_' IS NOT TRUE)",
+    ),
+    (
+        "SELECT a FROM t WHERE NULLIF(a, b) LIKE 'it''s'",
+        "a FROM t WHERE NULLIF(a, b) LIKE 'it''s'",
+    ),
+    (
         "SELECT a FROM t WHERE a BETWEEN 1 AND 2",
         "a FROM t WHERE a BETWEEN 1 .. 2",
     ),
@@ -265,7 +283,7 @@ const SELECTS: [(&str, &str); 83] = [
 ];
 
 // Texts of one statement that is no query.
-const NO_SELECTS: [&str; 91] = [
+const NO_SELECTS: [&str; 97] = [
     "",
     ";",
     "SELECT",
@@ -277,7 +295,9 @@ const NO_SELECTS: [&str; 91] = [
     "SELECT , a FROM t",
     "SELECT * , a FROM t",
     "SELECT ALL FROM t",
-    "SELECT DISTINCT a FROM t",
+    "SELECT DISTINCT FROM t",
+    "SELECT DISTINCT ALL a FROM t",
+    "SELECT a, DISTINCT b FROM t",
     "SELECT a FROM \"t\"",
     "SELECT a FROM s.t",
     "SELECT a FROM t,",
@@ -314,7 +334,11 @@ const NO_SELECTS: [&str; 91] = [
     "SELECT a FROM t WHERE a IN 1",
     "SELECT a FROM t WHERE a IS 1",
     "SELECT a FROM t WHERE a IS TRUE",
-    "SELECT a FROM t WHERE a LIKE 'x'",
+    "SELECT a FROM t WHERE a LIKE b",
+    "SELECT a FROM t WHERE a LIKE ('x')",
+    "SELECT a FROM t WHERE a LIKE 'x' ESCAPE 'y'",
+    "SELECT a FROM t WHERE LIKE 'x'",
+    "SELECT a LIKE 'x' FROM t",
     "SELECT a FROM t WHERE a = NULL",
     "SELECT NULL FROM t",
     "SELECT a = 1 FROM t",

@@ -58,7 +58,7 @@ module _ (row other : List Val) where
 
     pub condition_units_agree : (c : Condition) → HaveColumns Agrees c → units_of c (at_row other) ≡ units_of c (at_row row)
     condition_units_agree (comparison op a b) h =
-        ap₂ (λ (x y : ℕ). max x y) (ap₂ (λ (x y : ℕ). max x y) (units_agree a h.0) (units_agree b h.1)) (ap₂ (λ (p q : Result Val Code). octets_of p q) (values_agree a h.0) (values_agree b h.1))
+        ap₂ (λ (x y : ℕ). max x y) (ap₂ (λ (x y : ℕ). max x y) (units_agree a h.0) (units_agree b h.1)) (ap₂ (λ (p q : Result Val Code). octets_of op p q) (values_agree a h.0) (values_agree b h.1))
     condition_units_agree (is_null a) h = units_agree a h
     condition_units_agree (both c d) h = ap₂ (λ (x y : ℕ). max x y) (condition_units_agree c h.0) (condition_units_agree d h.1)
     condition_units_agree (either c d) h = ap₂ (λ (x y : ℕ). max x y) (condition_units_agree c h.0) (condition_units_agree d h.1)

@@ -2,8 +2,7 @@
 use Rattle.std.proofs.Common.{◌≡◌, ℕ, zero, suc, ◌+◌, ◌*◌, ◌<◌, ◌≤◌, ◌^◌, ◌≤ℤ◌, ℤ, pos, negsuc, unsigned_abs, not, if◌then◌else◌, Bool, true, false, Option, Some, None, List, [], ◌∷◌, ◌++◌, drop, length, length-append, map, Ok, Result, slice_get, refl, sym, ap, ◌∙◌, subst, arith}
 use Rattle.std.proofs.lemmas.Int.{ints}
 use Rattle.qw_types.specs.Kind.{type_kind}
-use Rattle.qw_types.specs.Value.{IsOfTypeOrNull, type_scale}
-use Rattle.qw_types.proofs.KindLemmas.{stored_of_kind}
+use Rattle.qw_types.specs.Value.{type_scale}
 use Rattle.qw_types.specs.declared.code.Code.{Code}
 use Rattle.qw_types.specs.declared.kind.Kind.{Kind}
 use Rattle.qw_types.specs.declared.kind.Kind.TheVariants as kind
@@ -36,7 +35,7 @@ use Rattle.qw_table.specs.Entries.{HoldsValue, LeadsWhere, MayBe, Stands, cell_f
 use Rattle.qw_physical.specs.declared.pipeline.ReadColumn.{ReadColumn}
 use Rattle.qw_operator.specs.Carries.{ReadsEntry, entry_types, known_entry}
 use Rattle.qw_operator.specs.Takes.{AreSized, anywhere}
-use Rattle.qw_operator.proofs.PairRows.{AreAt, AreStored}
+use Rattle.qw_operator.proofs.PairRows.{AreAt, AreStored, IsHeld, held_kind}
 use Rattle.qw_operator.proofs.Promised.{AreOwn, first_own_types, rest_own_types}
 use Rattle.qw_operator.proofs.Seen.{AreWithin, StandsIn, held_later, less_kept, lies_later, longer_kept, stands_later, stands_more}
 use Rattle.qw_operator.proofs.Stood.{cell_map, cells_map}
@@ -46,7 +45,7 @@ integer_small : (z : ℤ) → negsuc 2147483647 ≤ℤ z → z ≤ℤ pos 214748
 integer_small (pos m) least greatest = omega (arith, ints, greatest)
 integer_small (negsuc m) least greatest = omega (arith, ints, least)
 
-within_most : (type : Ty) (b : Bool) (v : Val) → IsOfTypeOrNull type b v → IsWithin (most_of type) v
+within_most : (type : Ty) (b : Bool) (v : Val) → IsHeld type b v → IsWithin (most_of type) v
 within_most type b val.Null is = tt
 within_most ty.Integer b (val.Num z) is = integer_small z is.0 is.1
 within_most (ty.Decimal precision scale) b (val.Num z) is = omega (arith, is)
@@ -55,7 +54,7 @@ within_most (ty.Varchar limit) b (val.Num z) is = absurd is
 within_most type b (val.Date d) is = tt
 within_most type b (val.Text octets) is = tt
 
-may_be : (type : Ty) (b : Bool) (v : Val) → IsOfTypeOrNull type b v → MayBe (not b) v
+may_be : (type : Ty) (b : Bool) (v : Val) → IsHeld type b v → MayBe (not b) v
 may_be type b val.Null is = ap not is
 may_be type b (val.Num z) is = tt
 may_be type b (val.Date d) is = tt
@@ -139,7 +138,7 @@ module _ (c : Cells) (row : List Val) (most fuel : ℕ) where
       let further : o + at + 16 ≡ o + (at + 16) = omega arith in
       subst (λ (b : Statement). Ends (size b) Post Never (λ code. ⊥) (meaning most fuel b t)) (sym reads.2)
       (Ends-then Post Never (λ code. ⊥) (size reads.0) (size reads.1) Mid (meaning most fuel reads.0 t) (meaning most fuel reads.1)
-      (reads.3.runs most fuel t k o v (stored_of_kind d.ty d.not_null v sized.0 stored.0) (may_be d.ty d.not_null v stored.0) leads
+      (reads.3.runs most fuel t k o v (held_kind d.ty d.not_null v sized.0 stored.0) (may_be d.ty d.not_null v stored.0) leads
       (cell_map (StandsIn c t) (Stands t) t.cells k (o + at) v (λ p i octets. stands_more c t p i octets less) has.0) (omega (arith, room)))
       (λ u mid.
       Ends-weaker (size reads.1) (size reads.1) (λ w. Kept (free + 3) u w × computes.AreHeld (known_entry (free + 3) columns) row (seen c w)) Post Never Never (λ code. ⊥) (λ code. ⊥) (meaning most fuel reads.1 u) (omega arith)

@@ -23,7 +23,7 @@ use Rattle.qw_physical.proofs.ServedBy.{AreServedBy, KeepParts}
 use Rattle.qw_operator.specs.Takes.{anywhere}
 use Rattle.qw_operator.proofs.BuiltServes.{IsStoredEntry, serves_built}
 use Rattle.qw_leaves.proofs.Agreement.{value_at}
-use Rattle.qw_operator.proofs.PairRows.{AreApart, AreDistinct, AreNew, AreStored, IsNullAt}
+use Rattle.qw_operator.proofs.PairRows.{AreApart, AreDistinct, AreNew, AreStored, IsNullAt, held_typed}
 use Rattle.qw_operator.proofs.Fronts.{all_more}
 use Rattle.qw_leaves.proofs.LeafLists.{all_back, all_front}
 use Rattle.qw_operator.proofs.Served.{AreServed}
@@ -194,7 +194,7 @@ zip_stored : (columns : List ReadColumn) (values : List Val) → AllZip (λ (c :
 zip_stored [] [] zip = tt
 zip_stored [] (v ∷ values) zip = absurd zip
 zip_stored (c ∷ columns) [] zip = absurd zip
-zip_stored (c ∷ columns) (v ∷ values) zip = (zip.0, zip_stored columns values zip.1)
+zip_stored (c ∷ columns) (v ∷ values) zip = (held_typed c.ty c.not_null v zip.0, zip_stored columns values zip.1)
 
 zip_long : (es fs : List Expression) → AllZip IsSame es fs → length es ≡ length fs
 zip_long [] [] zip = refl

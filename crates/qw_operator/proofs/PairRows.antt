@@ -1,10 +1,12 @@
 -- The row that is made of a row and a table's entry: the row's values where it has any, and those of kept columns at their places.
-use Rattle.std.proofs.Common.{◌≡◌, ◌≢◌, ℕ, zero, suc, Bool, List, [], ◌∷◌, ◌++◌, length, map, drop, replicate, refl, sym, ap, ap₂, ◌∙◌, subst}
+use Rattle.std.proofs.Common.{◌≡◌, ◌≢◌, ℕ, zero, suc, Bool, false, List, [], ◌∷◌, ◌++◌, length, map, drop, replicate, IsUtf8, refl, sym, ap, ap₂, ◌∙◌, subst}
 use Rattle.std.specs.List.{AllByRecursion}
 use Rattle.std.proofs.lemmas.List.{append_assoc}
 use Rattle.qw_types.specs.Kind.{IsOfKind, type_kind}
-use Rattle.qw_types.specs.Value.{IsOfTypeOrNull}
-use Rattle.qw_types.proofs.KindLemmas.{stored_of_kind}
+use Rattle.qw_types.specs.Value.{IsOfType, IsOfTypeOrNull, IsSized}
+use Rattle.qw_types.proofs.KindLemmas.{typed_of_kind}
+use Rattle.qw_types.specs.declared.kind.Kind.{Kind}
+use Rattle.qw_types.specs.declared.kind.Kind.TheVariants as kind
 use Rattle.qw_types.specs.declared.value.Ty.{Ty}
 use Rattle.qw_types.specs.declared.value.Ty.TheVariants as ty
 use Rattle.qw_types.specs.declared.value.Val.{Val}
@@ -58,10 +60,17 @@ IsNullAt row [] = Unit {0}
 IsNullAt row (filter cs ∷ operators) = IsNullAt row operators
 IsNullAt row (probe p ∷ operators) = AllByRecursion (λ (c : ReadColumn). value_at row c.number ≡ val.Null) p.kept × IsNullAt row operators
 
+-- A value that a cell gives back: one of the type, or null where it may be, but a text of any length, as a literal is one.
+abbrev pub IsHeld : Ty → (not_null : Bool) → Val → Type 0
+IsHeld type not_null val.Null = not_null ≡ false
+IsHeld type not_null (val.Num z) = IsOfType type (val.Num z)
+IsHeld type not_null (val.Date d) = IsOfType type (val.Date d)
+IsHeld type not_null (val.Text octets) = (type_kind type ≡ kind.Text) × IsUtf8 octets
+
 -- values of columns, in their order
 abbrev pub AreStored : List ReadColumn → List Val → Type 0
 AreStored [] [] = Unit {0}
-AreStored (c ∷ columns) (v ∷ values) = IsOfTypeOrNull c.ty c.not_null v × AreStored columns values
+AreStored (c ∷ columns) (v ∷ values) = IsHeld c.ty c.not_null v × AreStored columns values
 AreStored _ _ = ⊥
 
 -- ---- places
@@ -184,21 +193,38 @@ module _ (p : Probe) (row entry : List Val) where
   pair_null known operators apart nulls = null_later operators (avoids [] known operators apart) nulls
 
 -- ---- of kept columns
+-- of values that cells give back
+pub held_typed : (t : Ty) (b : Bool) (v : Val) → IsOfTypeOrNull t b v → IsHeld t b v
+held_typed t b val.Null of = of
+held_typed t b (val.Num v) of = of
+held_typed t b (val.Date d) of = of
+held_typed ty.Integer b (val.Text x) of = absurd of
+held_typed (ty.Decimal precision scale) b (val.Text x) of = absurd of
+held_typed ty.Date b (val.Text x) of = absurd of
+held_typed (ty.Varchar limit) b (val.Text x) of = (refl, of.utf8)
+
+pub held_kind : (t : Ty) (b : Bool) (v : Val) → IsSized t → IsHeld t b v → IsOfKind (type_kind t) v
+held_kind t b val.Null sized held = tt
+held_kind t b (val.Num v) sized held = typed_of_kind t (val.Num v) sized held
+held_kind t b (val.Date d) sized held = typed_of_kind t (val.Date d) sized held
+held_kind t b (val.Text x) sized held = subst (λ (k : Kind). IsOfKind k (val.Text x)) (sym held.0) tt
+
+pub held_utf8 : (t : Ty) (b : Bool) (v : Val) → IsHeld t b v → IsUtf8Value v
+held_utf8 t b val.Null held = tt
+held_utf8 t b (val.Num v) held = tt
+held_utf8 t b (val.Date d) held = tt
+held_utf8 t b (val.Text x) held = held.1
+
+-- and of typed ones
 pub stored_utf8 : (t : Ty) (b : Bool) (v : Val) → IsOfTypeOrNull t b v → IsUtf8Value v
-stored_utf8 t b val.Null of = tt
-stored_utf8 t b (val.Num v) of = tt
-stored_utf8 t b (val.Date d) of = tt
-stored_utf8 ty.Integer b (val.Text x) of = absurd of
-stored_utf8 (ty.Decimal precision scale) b (val.Text x) of = absurd of
-stored_utf8 ty.Date b (val.Text x) of = absurd of
-stored_utf8 (ty.Varchar limit) b (val.Text x) of = of.utf8
+stored_utf8 t b v of = held_utf8 t b v (held_typed t b v of)
 
 -- a row fits columns whose values it has
 pub kept_fit : (row : List Val) (columns : List ReadColumn) (values : List Val) → AreSized columns → AreStored columns values → AreAt row columns values → AreFit row (map anywhere columns)
 kept_fit row [] values sized stored at = tt
 kept_fit row (c ∷ columns) [] sized stored at = absurd at
 kept_fit row (c ∷ columns) (v ∷ values) sized stored at = (
-  (subst (IsOfKind (type_kind c.ty)) (sym at.0) (stored_of_kind c.ty c.not_null v sized.0 stored.0), subst IsUtf8Value (sym at.0) (stored_utf8 c.ty c.not_null v stored.0)),
+  (subst (IsOfKind (type_kind c.ty)) (sym at.0) (held_kind c.ty c.not_null v sized.0 stored.0), subst IsUtf8Value (sym at.0) (held_utf8 c.ty c.not_null v stored.0)),
   kept_fit row columns values sized.1 stored.1 at.1,
 )
 

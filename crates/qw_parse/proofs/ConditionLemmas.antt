@@ -8,11 +8,11 @@ use Rattle.qw_token.specs.Token.{Lexeme}
 use Rattle.qw_token.specs.declared.token.Kind.TheVariants.{Word}
 use Rattle.qw_scalar.specs.declared.comparison.Comparison.{Comparison}
 use Rattle.qw_ast.specs.Grammar.{folded}
-use Rattle.qw_ast.specs.Syntax.{Expression, Condition, comparison, between, among, is_null, both, either, negation_of, is, bracketed, Clause, condition, expression}
-use Rattle.qw_ast.specs.ScriptGrammar.{is_word, is_symbol, comparison_of, truth_of, first, IsOperator, operator, AreFurther, IsExpressionOf, arguments, IsOptionalNot, not_absent, not_there, IsValueExpression, IsPredicate, a_comparison, a_between, an_in, a_null_test, IsBooleanPrimary, predicate, condition_brackets, IsBooleanTest, no_test, a_test, IsBooleanFactor, no_negation, a_negation, is_and, is_or, IsBooleanTerm, IsSearchCondition, IsClause, IsNested}
-use Rattle.qw_parse.specs.Inner.Readers.{token_at, word_at, symbol_at, further_at, not_at, expression_at, condition_at, the_expression, the_condition, sum_at, between_at, in_at, compare_at, null_test_at, condition_clause, ranged_at, tail_at, predicate_at, truth_test_at, test_at, boolean_factor_at, join_and, join_or, boolean_term_at, clause_at, nested_at}
+use Rattle.qw_ast.specs.Syntax.{Expression, text, Condition, comparison, between, among, is_null, both, either, negation_of, is, bracketed, Clause, condition, expression}
+use Rattle.qw_ast.specs.ScriptGrammar.{is_word, is_symbol, is_string, comparison_of, truth_of, likeness, first, IsOperator, operator, AreFurther, IsExpressionOf, arguments, IsOptionalNot, not_absent, not_there, IsValueExpression, IsPredicate, a_comparison, a_between, an_in, a_like, a_null_test, IsBooleanPrimary, predicate, condition_brackets, IsBooleanTest, no_test, a_test, IsBooleanFactor, no_negation, a_negation, is_and, is_or, IsBooleanTerm, IsSearchCondition, IsClause, IsNested}
+use Rattle.qw_parse.specs.Inner.Readers.{token_at, word_at, symbol_at, octets_if, further_at, not_at, expression_at, condition_at, the_expression, the_condition, sum_at, between_at, in_at, like_at, compare_at, null_test_at, condition_clause, ranged_at, tail_at, predicate_at, truth_test_at, test_at, boolean_factor_at, join_and, join_or, boolean_term_at, clause_at, nested_at}
 use Rattle.qw_parse.proofs.LoopLemmas.{bind_some, some_same, cases_option}
-use Rattle.qw_parse.proofs.TokenLemmas.{word_is, Front, front, one_takes, one_is, one_not, Found, found, token_takes, token_is, strength, Stops, stops_at, stops_weaker, stops_one, stops_token, strong_symbol, strong_word}
+use Rattle.qw_parse.proofs.TokenLemmas.{word_is, Front, front, one_takes, one_is, one_not, Found, found, token_takes, token_is, octets_found, octets_are, strength, Stops, stops_at, stops_weaker, stops_one, stops_token, strong_symbol, strong_word}
 use Rattle.qw_parse.proofs.ExactLemmas.{Starts, starts_at, Exact, no_comma, further_takes, further_is, further_stops, other_word, not_takes, not_is, not_shorter}
 use Rattle.qw_parse.proofs.PrimaryLemmas.{the_expression_is, Of, IsBracketed, between_brackets, expression_takes, expression_is, expression_exact, closing_ends, further_down}
 use Rattle.qw_parse.proofs.SumLemmas.{sum_exact, expression_no_not, bracketed_no_not}
@@ -59,7 +59,7 @@ truth_no_not t v rest e =
       | inr h ↦ one_not (is_word (codes "NOT")) t rest h
     ]
 
--- what stands in front of BETWEEN and IN
+-- what stands in front of BETWEEN, IN and LIKE
 ranged_front : (w : List ℕ) → strength (record { kind = Word; octets = w }) ≡ 3 → folded w ≡ w → is_word (codes "IS") (record { kind = Word; octets = w }) ≡ false
     → (negated : Bool) (ts : List Lexeme) (t : Lexeme) (rest : List Lexeme) → IsOptionalNot negated ts (t ∷ rest) → IsTrue (is_word w t) → Stops 4 ts × (word_at (codes "IS") ts ≡ None)
 ranged_front w e f no_is negated ts t rest h i = of_not negated ts (t ∷ rest) h (word_weak w 3 4 t rest e f (omega arith) i, other_word w (codes "IS") t rest f no_is i)
@@ -183,6 +183,18 @@ module _ (Inner : Clause → List Lexeme → List Lexeme → Type 0) (inner : Li
       subst (λ (y : Condition × List Lexeme). IsPredicate Inner y.0 front_ts y.1) (some_same (among negated x (arguments a.0.0 es.0.0), c.0) z c.2)
       (in_made x a.0.0 es.0.0 negated front_ts ts us vs o.0 a.0.1 es.0.1 c.0 h n f (one_takes (is_symbol (codes "(")) vs o.0 o.1) (expression_takes Inner inner reads o.0 a.0 a.1) (further_takes (expression_exact Inner inner reads) a.0.1 es.0 es.1) (one_takes (is_symbol (codes ")")) es.0.1 c.0 c.1))
 
+  like_made : (x : Expression) (p : List ℕ) (negated : Bool) (front_ts ts us vs rest : List Lexeme) → IsValueExpression Inner x front_ts ts → IsOptionalNot negated ts us → Front (is_word (codes "LIKE")) us vs → Found (octets_if is_string) p vs rest → IsPredicate Inner (comparison (likeness negated) x (text p)) front_ts rest
+  like_made x _ negated front_ts ts _ _ rest h n (front w _ f) (found p t _ g) =
+      let o = octets_found is_string t p g in
+      subst (λ octets. IsPredicate Inner (comparison (likeness negated) x (text octets)) front_ts rest) o.1 (a_like x negated w t front_ts ts rest h n f o.0)
+
+  like_takes : (x : Expression) (negated : Bool) (front_ts ts us vs : List Lexeme) → IsValueExpression Inner x front_ts ts → IsOptionalNot negated ts us → Front (is_word (codes "LIKE")) us vs → (z : Condition × List Lexeme) → like_at negated x vs ≡ Some z → IsPredicate Inner z.0 front_ts z.1
+  unfolding like_at
+  like_takes x negated front_ts ts us vs h n f z e =
+      let p = bind_some (token_at (octets_if is_string) vs) _ z e in
+      subst (λ (y : Condition × List Lexeme). IsPredicate Inner y.0 front_ts y.1) (some_same (comparison (likeness negated) x (text p.0.0), p.0.1) z p.2)
+      (like_made x p.0.0 negated front_ts ts us vs p.0.1 h n f (token_takes (octets_if is_string) vs p.0 p.1))
+
   ranged_takes : (x : Expression) (negated : Bool) (front_ts ts us : List Lexeme) → IsValueExpression Inner x front_ts ts → IsOptionalNot negated ts us → (read : Option (Condition × List Lexeme)) (z : Condition × List Lexeme) → ranged_at inner negated x us ≡ Some read → read ≡ Some z → IsPredicate Inner z.0 front_ts z.1
   unfolding ranged_at
   ranged_takes x negated front_ts ts us h n read z e is_some =
@@ -190,7 +202,10 @@ module _ (Inner : Clause → List Lexeme → List Lexeme → Type 0) (inner : Li
         | inr vs ↦ between_takes x negated front_ts ts us vs.0 h n (one_takes (is_word (codes "BETWEEN")) us vs.0 vs.1) z (some_same (between_at inner negated x vs.0) read (rw vs.1 at e) ∙ is_some)
         | inl none ↦ elim (cases_option (word_at (codes "IN") us)) [
           | inr vs ↦ in_takes x negated front_ts ts us vs.0 h n (one_takes (is_word (codes "IN")) us vs.0 vs.1) z (some_same (in_at inner negated x vs.0) read (rw (none, vs.1) at e) ∙ is_some)
-          | inl none' ↦ absurd (let no : None ≡ Some read = rw (none, none') at e in cc)
+          | inl none' ↦ elim (cases_option (word_at (codes "LIKE") us)) [
+            | inr vs ↦ like_takes x negated front_ts ts us vs.0 h n (one_takes (is_word (codes "LIKE")) us vs.0 vs.1) z (some_same (like_at negated x vs.0) read (rw (none, none', vs.1) at e) ∙ is_some)
+            | inl none'' ↦ absurd (let no : None ≡ Some read = rw (none, none', none'') at e in cc)
+          ]
         ]
       ]
 
@@ -268,6 +283,10 @@ module _ (Inner : Clause → List Lexeme → List Lexeme → Type 0) (inner : Li
         one_is (is_symbol (codes ")")) c rest g,
       ) refl
 
+  like_is : (x : Expression) (negated : Bool) (t : Lexeme) (rest : List Lexeme) → IsTrue (is_string t) → like_at negated x (t ∷ rest) ≡ Some (comparison (likeness negated) x (text t.octets), rest)
+  unfolding like_at
+  like_is x negated t rest h = rw (token_is (octets_if is_string) t rest t.octets (octets_are is_string t h)) refl
+
   ranged_between : (x : Expression) (negated : Bool) (t : Lexeme) (vs : List Lexeme) → IsTrue (is_word (codes "BETWEEN") t) → ranged_at inner negated x (t ∷ vs) ≡ Some (between_at inner negated x vs)
   unfolding ranged_at
   ranged_between x negated t vs h = rw (one_is (is_word (codes "BETWEEN")) t vs h) refl
@@ -275,6 +294,10 @@ module _ (Inner : Clause → List Lexeme → List Lexeme → Type 0) (inner : Li
   ranged_in : (x : Expression) (negated : Bool) (t : Lexeme) (vs : List Lexeme) → IsTrue (is_word (codes "IN") t) → ranged_at inner negated x (t ∷ vs) ≡ Some (in_at inner negated x vs)
   unfolding ranged_at
   ranged_in x negated t vs h = rw (other_word (codes "IN") (codes "BETWEEN") t vs refl refl h, one_is (is_word (codes "IN")) t vs h) refl
+
+  ranged_like : (x : Expression) (negated : Bool) (t : Lexeme) (vs : List Lexeme) → IsTrue (is_word (codes "LIKE") t) → ranged_at inner negated x (t ∷ vs) ≡ Some (like_at negated x vs)
+  unfolding ranged_at
+  ranged_like x negated t vs h = rw (other_word (codes "LIKE") (codes "BETWEEN") t vs refl refl h, other_word (codes "LIKE") (codes "IN") t vs refl refl h, one_is (is_word (codes "LIKE")) t vs h) refl
 
   compare_is : (x b : Expression) (op : Comparison) (us rest : List Lexeme) → IsValueExpression Inner b us rest → Stops 5 rest → compare_at inner op x us ≡ Some (comparison op x b, rest)
   unfolding compare_at
@@ -298,6 +321,11 @@ module _ (Inner : Clause → List Lexeme → List Lexeme → Type 0) (inner : Li
       begun x ts us h (stops_weaker 4 5 us (omega arith) fronts.0)
       ∙ tail_ranges x negated us (word ∷ o ∷ vs) (in_at inner negated x (o ∷ vs)) fronts.0 fronts.1 (not_is negated us (word ∷ o ∷ vs) n (other_word (codes "IN") (codes "NOT") word (o ∷ vs) refl refl f)) (ranged_in x negated word (o ∷ vs) f)
       ∙ condition_clause_is (in_at inner negated x (o ∷ vs)) (among negated x (arguments e es)) rest (in_is x e es negated o c vs ws rest g i j k)
+  predicate_is _ _ _ (a_like x negated word t ts us rest h n f g) ends =
+      let fronts = ranged_front (codes "LIKE") refl refl refl negated us word (t ∷ rest) n f in
+      begun x ts us h (stops_weaker 4 5 us (omega arith) fronts.0)
+      ∙ tail_ranges x negated us (word ∷ t ∷ rest) (like_at negated x (t ∷ rest)) fronts.0 fronts.1 (not_is negated us (word ∷ t ∷ rest) n (other_word (codes "LIKE") (codes "NOT") word (t ∷ rest) refl refl f)) (ranged_like x negated word (t ∷ rest) f)
+      ∙ condition_clause_is (like_at negated x (t ∷ rest)) (comparison (likeness negated) x (text t.octets)) rest (like_is x negated t rest g)
   predicate_is _ _ _ (a_null_test x negated w v ts us rest h f n g) ends =
       begun x ts (w ∷ us) h (word_weak (codes "IS") 3 5 w us refl refl (omega arith) f) ∙ tail_tests x w us f ∙ condition_clause_is (null_test_at x us) (is_null negated x) rest (null_is x negated v us rest n g)
 
@@ -318,6 +346,7 @@ module _ (Inner : Clause → List Lexeme → List Lexeme → Type 0) (inner : Li
         not_is false ts ts (not_absent ts) (no_strong_word (codes "NOT") 3 refl refl ts ends),
         no_strong_word (codes "BETWEEN") 3 refl refl ts ends,
         no_strong_word (codes "IN") 3 refl refl ts ends,
+        no_strong_word (codes "LIKE") 3 refl refl ts ends,
       ) refl
 
   alone_is : (x : Expression) (ts rest : List Lexeme) → IsValueExpression Inner x ts rest → Stops 3 rest → predicate_at inner ts ≡ Some (expression x, rest)
@@ -340,6 +369,10 @@ module _ (Inner : Clause → List Lexeme → List Lexeme → Type 0) (inner : Li
       let q = reads.shorter (expression e) vs ws i in
       let r = further_down Inner inner reads es ws (c ∷ rest) j in
       omega (arith, p, m, q, r)
+  primary_shorter _ _ _ (predicate _ _ _ (a_like x negated word t ts us rest h n f g)) =
+      let p = sum_shorter x ts us h in
+      let m = not_shorter negated us (word ∷ t ∷ rest) n in
+      omega (arith, p, m)
   primary_shorter _ _ _ (predicate _ _ _ (a_null_test x negated w v ts us rest h f n g)) =
       let p = sum_shorter x ts (w ∷ us) h in
       let m = not_shorter negated us (v ∷ rest) n in
@@ -350,6 +383,7 @@ module _ (Inner : Clause → List Lexeme → List Lexeme → Type 0) (inner : Li
   primary_begins _ _ _ (predicate _ _ _ (a_comparison a b op t ts us rest h f i)) = sum_begins a ts (t ∷ us) h
   primary_begins _ _ _ (predicate _ _ _ (a_between x a b negated word t ts us vs ws rest h n f i g j)) = sum_begins x ts us h
   primary_begins _ _ _ (predicate _ _ _ (an_in x e es negated word o c ts us vs ws rest h n f g i j k)) = sum_begins x ts us h
+  primary_begins _ _ _ (predicate _ _ _ (a_like x negated word t ts us rest h n f g)) = sum_begins x ts us h
   primary_begins _ _ _ (predicate _ _ _ (a_null_test x negated w v ts us rest h f n g)) = sum_begins x ts (w ∷ us) h
   primary_begins _ _ _ (condition_brackets c o k ts rest f h g) = (sum_exact Inner inner reads).begins (condition (bracketed c)) (o ∷ ts) rest (between_brackets c o k ts rest f h g)
 
@@ -357,6 +391,7 @@ module _ (Inner : Clause → List Lexeme → List Lexeme → Type 0) (inner : Li
   primary_no_not _ _ _ (predicate _ _ _ (a_comparison a b op t ts us rest h f i)) = expression_no_not Inner inner reads a ts (t ∷ us) h
   primary_no_not _ _ _ (predicate _ _ _ (a_between x a b negated word t ts us vs ws rest h n f i g j)) = expression_no_not Inner inner reads x ts us h
   primary_no_not _ _ _ (predicate _ _ _ (an_in x e es negated word o c ts us vs ws rest h n f g i j k)) = expression_no_not Inner inner reads x ts us h
+  primary_no_not _ _ _ (predicate _ _ _ (a_like x negated word t ts us rest h n f g)) = expression_no_not Inner inner reads x ts us h
   primary_no_not _ _ _ (predicate _ _ _ (a_null_test x negated w v ts us rest h f n g)) = expression_no_not Inner inner reads x ts (w ∷ us) h
   primary_no_not _ _ _ (condition_brackets c o k ts rest f h g) = bracketed_no_not Inner inner reads (bracketed c) (o ∷ ts) rest (between_brackets c o k ts rest f h g)
 

@@ -1,18 +1,43 @@
 -- Queries are read exactly, where expressions and conditions are; so tokens are one query at most.
-use Rattle.std.proofs.Common.{◌≡◌, ◌<◌, ◌≤◌, List, [], ◌∷◌, length, Option, Some, None, refl, sym, ap, subst, ◌∙◌, arith, inl, inr}
+use Rattle.std.proofs.Common.{◌≡◌, ◌<◌, ◌≤◌, Bool, true, false, List, [], ◌∷◌, length, Option, Some, None, refl, sym, ap, subst, ◌∙◌, arith, inl, inr}
 use Rattle.std.specs.Prelude.{codes, IsTrue}
 use Rattle.qw_token.specs.Token.{Lexeme}
 use Rattle.qw_ast.specs.Syntax.{Condition, Clause, condition, expression, SelectItem, Selected, all_columns, items, Entry, Joined, Source, Reference, SortSpecification, Select}
-use Rattle.qw_ast.specs.ScriptGrammar.{is_word, is_symbol, is_comma, appended, first, more, IsNothing, nothing, AreFurther, IsNested, IsItem, item, IsSelectList, asterisk, some_items, IsOptionalAll, IsFilter, unfiltered, filtered, IsEntry, IsJoin, IsJoined, a_joined, AreJoins, IsSource, a_source, AreSources, some_sources, IsGrouping, IsHaving, no_having, a_having, IsOrder, IsSelect, a_select, IsSelectOf}
-use Rattle.qw_parse.specs.Inner.Readers.{token_at, word_at, symbol_at, given, append, further_at, expression_at, condition_at, the_condition, nested_at, naming_at, item_at, select_list_at, behind_all, filter_at, entry_at, join_at, joined_at, joins_at, source_at, sources_at, grouping_at, having_at, order_at, select_at, whole, select_of}
+use Rattle.qw_ast.specs.ScriptGrammar.{is_word, is_symbol, is_comma, appended, first, more, IsNothing, nothing, AreFurther, IsNested, IsItem, item, IsSelectList, asterisk, some_items, IsQuantifier, no_quantifier, all_rows, distinct_rows, IsFilter, unfiltered, filtered, IsEntry, IsJoin, IsJoined, a_joined, AreJoins, IsSource, a_source, AreSources, some_sources, IsGrouping, IsHaving, no_having, a_having, IsOrder, IsSelect, a_select, IsSelectOf}
+use Rattle.qw_parse.specs.Inner.Readers.{token_at, word_at, symbol_at, given, append, further_at, expression_at, condition_at, the_condition, nested_at, naming_at, item_at, select_list_at, quantifier_at, filter_at, entry_at, join_at, joined_at, joins_at, source_at, sources_at, grouping_at, having_at, order_at, select_at, whole, select_of}
 use Rattle.qw_parse.proofs.LoopLemmas.{Shortens, bind_some, cases_option, series_holds, series_is, some_same}
 use Rattle.qw_parse.proofs.TokenLemmas.{word_is, Front, front, one_takes, one_is, token_not, Stops}
-use Rattle.qw_parse.proofs.ExactLemmas.{Starts, starts_not, starts_no_asterisk, Exact, all_takes, all_is, series_front, list_takes, list_is, no_word, other_word, word_stops}
+use Rattle.qw_parse.proofs.ExactLemmas.{Starts, starts_not, starts_no_asterisk, Exact, series_front, list_takes, list_is, no_word, other_word, word_stops}
 use Rattle.qw_parse.proofs.PrimaryLemmas.{expression_takes, expression_is}
 use Rattle.qw_parse.proofs.ConditionLemmas.{nested_exact, the_condition_is}
 use Rattle.qw_parse.proofs.NameLemmas.{EndsName, EndsItem, EndsSource, EndsFilter, comma_ends, from_ends, word_ends, naming_takes, naming_is, naming_shorter, naming_stops, entry_takes, entry_is, entry_shorter, entry_begins, join_takes, join_is, join_shorter, join_shortens, join_ends, no_join_word, comma_source, word_filter}
 use Rattle.qw_parse.proofs.OrderLemmas.{word_no_point, order_takes, order_is}
 use Rattle.qw_parse.proofs.GroupLemmas.{EndsGrouping, EndsHaving, grouping_takes, grouping_is, grouping_next, order_next}
+
+-- ---- ALL and DISTINCT
+
+all_rows_made : (ts rest : List Lexeme) → Front (is_word (codes "ALL")) ts rest → IsQuantifier false ts rest
+all_rows_made _ _ (front t rest h) = all_rows t rest h
+
+distinct_rows_made : (ts rest : List Lexeme) → Front (is_word (codes "DISTINCT")) ts rest → IsQuantifier true ts rest
+distinct_rows_made _ _ (front t rest h) = distinct_rows t rest h
+
+quantifier_takes : (ts : List Lexeme) → IsQuantifier (quantifier_at ts).0 ts (quantifier_at ts).1
+unfolding quantifier_at
+quantifier_takes ts =
+    elim (cases_option (word_at (codes "DISTINCT") ts)) [
+      | inr us ↦ rw us.1 (distinct_rows_made ts us.0 (one_takes (is_word (codes "DISTINCT")) ts us.0 us.1))
+      | inl no_distinct ↦ elim (cases_option (word_at (codes "ALL") ts)) [
+        | inr us ↦ rw (no_distinct, us.1) (all_rows_made ts us.0 (one_takes (is_word (codes "ALL")) ts us.0 us.1))
+        | inl no_all ↦ rw (no_distinct, no_all) (no_quantifier ts)
+      ]
+    ]
+
+quantifier_is : (distinct : Bool) (ts rest : List Lexeme) → IsQuantifier distinct ts rest → word_at (codes "DISTINCT") rest ≡ None → word_at (codes "ALL") rest ≡ None → quantifier_at ts ≡ (distinct, rest)
+unfolding quantifier_at
+quantifier_is _ _ _ (no_quantifier rest) no_distinct no_all = rw (no_distinct, no_all) refl
+quantifier_is _ _ _ (all_rows t rest h) no_distinct no_all = rw (other_word (codes "ALL") (codes "DISTINCT") t rest refl refl h, one_is (is_word (codes "ALL")) t rest h) refl
+quantifier_is _ _ _ (distinct_rows t rest h) no_distinct no_all = rw (one_is (is_word (codes "DISTINCT")) t rest h) refl
 
 module _ (Inner : Clause → List Lexeme → List Lexeme → Type 0) (inner : List Lexeme → Option (Clause × List Lexeme)) (reads : Exact Inner (Stops 1) inner) where
   -- ---- a select list
@@ -80,6 +105,10 @@ module _ (Inner : Clause → List Lexeme → List Lexeme → Type 0) (inner : Li
   select_list_no_all : (l : Selected) (ts rest : List Lexeme) → IsSelectList Inner l ts rest → word_at (codes "ALL") ts ≡ None
   select_list_no_all _ _ _ (asterisk t rest h) = no_word (codes "*") (codes "ALL") t rest h
   select_list_no_all _ _ _ (some_items i xs ts us rest h are) = starts_not (codes "ALL") refl refl ts (item_begins i ts us h)
+
+  select_list_no_distinct : (l : Selected) (ts rest : List Lexeme) → IsSelectList Inner l ts rest → word_at (codes "DISTINCT") ts ≡ None
+  select_list_no_distinct _ _ _ (asterisk t rest h) = no_word (codes "*") (codes "DISTINCT") t rest h
+  select_list_no_distinct _ _ _ (some_items i xs ts us rest h are) = starts_not (codes "DISTINCT") refl refl ts (item_begins i ts us h)
 
   -- ---- WHERE and HAVING
 
@@ -260,24 +289,24 @@ module _ (Inner : Clause → List Lexeme → List Lexeme → Type 0) (inner : Li
 
   -- ---- a query
 
-  select_made : (l : Selected) (ss : List Source) (f : Option Condition) (g : List Reference) (h : Option Condition) (order : List SortSpecification) (ts us vs ws xs ys zs gs hs rest : List Lexeme) → Front (is_word (codes "SELECT")) ts us → IsOptionalAll us vs
+  select_made : (distinct : Bool) (l : Selected) (ss : List Source) (f : Option Condition) (g : List Reference) (h : Option Condition) (order : List SortSpecification) (ts us vs ws xs ys zs gs hs rest : List Lexeme) → Front (is_word (codes "SELECT")) ts us → IsQuantifier distinct us vs
       → IsSelectList Inner l vs ws → Front (is_word (codes "FROM")) ws xs → AreSources Inner ss xs ys → IsFilter Inner f ys zs → IsGrouping g zs gs → IsHaving Inner h gs hs → IsOrder order hs rest
-      → IsSelect Inner (record { selected = l; sources = ss; filter = f; grouping = g; having = h; order = order }) ts rest
-  select_made l ss f g h order _ us vs _ xs ys zs gs hs rest (front w _ a) all i (front v _ b) j k m n o = a_select l ss f g h order w v us vs xs ys zs gs hs rest a all i b j k m n o
+      → IsSelect Inner (record { distinct = distinct; selected = l; sources = ss; filter = f; grouping = g; having = h; order = order }) ts rest
+  select_made distinct l ss f g h order _ us vs _ xs ys zs gs hs rest (front w _ a) all i (front v _ b) j k m n o = a_select distinct l ss f g h order w v us vs xs ys zs gs hs rest a all i b j k m n o
 
   pub select_takes : (ts : List Lexeme) (x : Select × List Lexeme) → select_at inner ts ≡ Some x → IsSelect Inner x.0 ts x.1
   unfolding select_at
   select_takes ts x e =
       let us = bind_some (word_at (codes "SELECT") ts) _ x e in
-      let l = bind_some (select_list_at inner (behind_all us.0)) _ x us.2 in
+      let l = bind_some (select_list_at inner (quantifier_at us.0).1) _ x us.2 in
       let vs = bind_some (word_at (codes "FROM") l.0.1) _ x l.2 in
       let ss = bind_some (sources_at inner vs.0) _ x vs.2 in
       let f = bind_some (filter_at inner ss.0.1) _ x ss.2 in
       let g = bind_some (grouping_at f.0.1) _ x f.2 in
       let h = bind_some (having_at inner g.0.1) _ x g.2 in
       let o = bind_some (order_at h.0.1) _ x h.2 in
-      subst (λ (y : Select × List Lexeme). IsSelect Inner y.0 ts y.1) (some_same (record { selected = l.0.0; sources = ss.0.0; filter = f.0.0; grouping = g.0.0; having = h.0.0; order = o.0.0 }, o.0.1) x o.2)
-      (select_made l.0.0 ss.0.0 f.0.0 g.0.0 h.0.0 o.0.0 ts us.0 (behind_all us.0) l.0.1 vs.0 ss.0.1 f.0.1 g.0.1 h.0.1 o.0.1 (one_takes (is_word (codes "SELECT")) ts us.0 us.1) (all_takes us.0) (select_list_takes (behind_all us.0) l.0 l.1)
+      subst (λ (y : Select × List Lexeme). IsSelect Inner y.0 ts y.1) (some_same (record { distinct = (quantifier_at us.0).0; selected = l.0.0; sources = ss.0.0; filter = f.0.0; grouping = g.0.0; having = h.0.0; order = o.0.0 }, o.0.1) x o.2)
+      (select_made (quantifier_at us.0).0 l.0.0 ss.0.0 f.0.0 g.0.0 h.0.0 o.0.0 ts us.0 (quantifier_at us.0).1 l.0.1 vs.0 ss.0.1 f.0.1 g.0.1 h.0.1 o.0.1 (one_takes (is_word (codes "SELECT")) ts us.0 us.1) (quantifier_takes us.0) (select_list_takes (quantifier_at us.0).1 l.0 l.1)
       (one_takes (is_word (codes "FROM")) l.0.1 vs.0 vs.1) (sources_take vs.0 ss.0 ss.1) (filter_takes ss.0.1 f.0 f.1) (grouping_takes f.0.1 g.0 g.1) (having_takes g.0.1 h.0 h.1) (order_takes h.0.1 o.0 o.1))
 
   from_no_comma : (t : Lexeme) (rest : List Lexeme) → IsTrue (is_word (codes "FROM") t) → token_at is_comma (t ∷ rest) ≡ None
@@ -285,14 +314,14 @@ module _ (Inner : Clause → List Lexeme → List Lexeme → Type 0) (inner : Li
 
   pub select_is : (s : Select) (ts rest : List Lexeme) → IsSelect Inner s ts rest → rest ≡ [] → select_at inner ts ≡ Some (s, rest)
   unfolding select_at
-  select_is _ _ _ (a_select l ss f g h order w v ts us vs ws xs ys zs rest a all i b j k m n o) end =
+  select_is _ _ _ (a_select distinct l ss f g h order w v ts us vs ws xs ys zs rest a all i b j k m n o) end =
       let behind_having = order_next order zs rest o end in
       let behind_grouping = having_next h ys zs n behind_having in
       let behind_filter = grouping_next g xs ys m behind_grouping in
       let behind_sources = filter_next f ws xs k behind_filter in
       rw (
         one_is (is_word (codes "SELECT")) w ts a,
-        all_is ts us all (select_list_no_all l us (v ∷ vs) i),
+        quantifier_is distinct ts us all (select_list_no_distinct l us (v ∷ vs) i) (select_list_no_all l us (v ∷ vs) i),
         select_list_is l us (v ∷ vs) i (from_ends v vs b) (from_no_comma v vs b),
         one_is (is_word (codes "FROM")) v vs b,
         sources_are ss vs ws j behind_sources.0 behind_sources.1,

@@ -123,7 +123,7 @@ strength t =
     else (if is_symbol (codes "*") t || is_symbol (codes "/") t then 6
     else (if is_symbol (codes "+") t || is_symbol (codes "-") t then 5
     else (if (is_symbol (codes "=") t || is_symbol (codes "<>") t) || ((is_symbol (codes "<") t || is_symbol (codes "<=") t) || (is_symbol (codes ">") t || is_symbol (codes ">=") t)) then 4
-    else (if (is_word (codes "IS") t || is_word (codes "NOT") t) || (is_word (codes "BETWEEN") t || is_word (codes "IN") t) then 3
+    else (if (is_word (codes "IS") t || is_word (codes "NOT") t) || (is_word (codes "BETWEEN") t || (is_word (codes "IN") t || is_word (codes "LIKE") t)) then 3
     else (if is_word (codes "AND") t then 2
     else (if is_word (codes "OR") t then 1
     else 0)))))))

@@ -1,9 +1,9 @@
 -- Token lists of worked cases, and what they say.
-use Rattle.std.specs.Prelude.{ℕ, List, [], ◌∷◌, false, Option, None, codes}
+use Rattle.std.specs.Prelude.{ℕ, Bool, List, [], ◌∷◌, ◌++◌, false, Option, None, codes}
 use Rattle.qw_scalar.specs.declared.comparison.Comparison.TheVariants.{Equal}
-use Rattle.qw_token.specs.declared.token.Kind.TheVariants.{Word, Number, Symbol}
+use Rattle.qw_token.specs.declared.token.Kind.TheVariants.{Word, CharacterString, Number, Symbol}
 use Rattle.qw_token.specs.Token.{Lexeme}
-use Rattle.qw_ast.specs.Syntax.{Expression, number, column, Condition, comparison, Clause, Entry, Joined, Source, Reference, Key, result_column, SortSpecification, Select, all_columns}
+use Rattle.qw_ast.specs.Syntax.{Expression, number, column, Condition, comparison, Clause, Entry, Joined, Source, Reference, Key, result_column, SortSpecification, Select, all_columns, items}
 use Rattle.qw_ast.specs.ScriptGrammar.{IsNested}
 
 -- a word, an unsigned number and a symbol as they stand in a text
@@ -15,6 +15,10 @@ n octets = record { kind = Number; octets = octets }
 
 abbrev pub s : List ℕ → Lexeme
 s octets = record { kind = Symbol; octets = octets }
+
+-- a character string, with its quotes
+abbrev pub quoted : List ℕ → Lexeme
+quoted octets = record { kind = CharacterString; octets = octets }
 
 -- a column of this name
 abbrev pub the_column : List ℕ → Expression
@@ -29,15 +33,19 @@ abbrev pub from : List Lexeme → List Lexeme
 from tokens = w (codes "SELECT") ∷ s (codes "*") ∷ w (codes "FROM") ∷ tokens
 
 abbrev pub all_from : List Source → Select
-all_from sources = record { selected = all_columns; sources = sources; filter = None; grouping = []; having = None; order = [] }
+all_from sources = record { distinct = false; selected = all_columns; sources = sources; filter = None; grouping = []; having = None; order = [] }
+
+-- SELECT * FROM a, with DISTINCT or without
+abbrev pub all_of_a : Bool → Select
+all_of_a distinct = record { distinct = distinct; selected = all_columns; sources = record { first = record { table = codes "a"; alias = None }; joins = [] } ∷ []; filter = None; grouping = []; having = None; order = [] }
 
 -- SELECT * FROM a, with this order
 abbrev pub all_in_order : List SortSpecification → Select
-all_in_order order = record { selected = all_columns; sources = record { first = record { table = codes "a"; alias = None }; joins = [] } ∷ []; filter = None; grouping = []; having = None; order = order }
+all_in_order order = record { distinct = false; selected = all_columns; sources = record { first = record { table = codes "a"; alias = None }; joins = [] } ∷ []; filter = None; grouping = []; having = None; order = order }
 
 -- SELECT * FROM a, with these columns of GROUP BY, this condition of HAVING and this order
 abbrev pub all_grouped : List Reference → Option Condition → List SortSpecification → Select
-all_grouped grouping having order = record { selected = all_columns; sources = record { first = record { table = codes "a"; alias = None }; joins = [] } ∷ []; filter = None; grouping = grouping; having = having; order = order }
+all_grouped grouping having order = record { distinct = false; selected = all_columns; sources = record { first = record { table = codes "a"; alias = None }; joins = [] } ∷ []; filter = None; grouping = grouping; having = having; order = order }
 
 -- a column of GROUP BY by its name, without a qualifier
 abbrev pub reference_named : List ℕ → Reference
@@ -57,6 +65,14 @@ the_table name = record { table = name; alias = None }
 
 abbrev pub alone : Entry → Source
 alone entry = record { first = entry; joins = [] }
+
+-- SELECT, these tokens and FROM t
+abbrev pub of_t : List Lexeme → List Lexeme
+of_t tokens = w (codes "SELECT") ∷ (tokens ++ w (codes "FROM") ∷ w (codes "t") ∷ [])
+
+-- SELECT a FROM t, with DISTINCT or without
+abbrev pub a_of_t : Bool → Select
+a_of_t distinct = record { distinct = distinct; selected = items (record { value = the_column (codes "a"); name = None } ∷ []); sources = alone (the_table (codes "t")) ∷ []; filter = None; grouping = []; having = None; order = [] }
 
 -- JOIN entry ON column = number
 abbrev pub joined : Entry → List ℕ → List ℕ → Joined

@@ -2,17 +2,17 @@
 
 ghost use Rattle.std.specs.Prelude.{◌≡◌, ℕ, List, [], ◌∷◌, None, Some, codes, false, true};
 ghost use Rattle.qw_scalar.specs.declared.expression.Operator.TheVariants.{Add, Multiply, Subtract};
-ghost use Rattle.qw_scalar.specs.declared.comparison.Comparison.TheVariants.{Equal, Greater};
+ghost use Rattle.qw_scalar.specs.declared.comparison.Comparison.TheVariants.{Equal, Greater, Like, NotLike};
 ghost use Rattle.qw_token.specs.Token.{Lexeme};
 ghost use Rattle.qw_ast.specs.declared.script.Sign.TheVariants.{Minus};
 ghost use Rattle.qw_ast.specs.declared.script.SetFunction.TheVariants.{Avg, Count, Max, Min, Sum};
 ghost use Rattle.qw_ast.specs.Syntax.{Clause, Select, arithmetic, between, both, bracketed, column, comparison, condition, count_rows, date, either, expression, items, negation_of, null, number, ordinal, otherwise, result_column, searched_case, set_function, signed, text, when};
 ghost use Rattle.qw_ast.specs.ScriptGrammar.{IsSelectOf};
 ghost use Rattle.qw_parse.specs.declared.fault.ParseFault.{ParseFault};
-ghost use Rattle.qw_ast.specs.Limits.{nodes, nodes_condition, octets, query_nodes};
+ghost use Rattle.qw_ast.specs.Limits.{nodes, nodes_condition, octets, octets_condition, query_nodes};
 ghost use Rattle.qw_parse.specs.declared.fault.Count.TheVariants.{FromEntries, GroupColumns, LiteralOctets, Nodes, SelectItems, SortKeys};
 ghost use Rattle.qw_parse.specs.Script.{IsPassedFirst, IsScriptRefused, Limit, ReadsScript, limits};
-ghost use Rattle.qw_parse.specs.Worked.{Says, all_from, all_grouped, all_in_order, alone, by_name, equals, from, joined, key_named, n, reference_named, s, the_column, the_table, w};
+ghost use Rattle.qw_parse.specs.Worked.{Says, a_of_t, all_from, all_of_a, all_grouped, all_in_order, alone, by_name, equals, from, joined, key_named, n, of_t, quoted, reference_named, s, the_column, the_table, w};
 
 /// Tokens are one query at most.
 pub fn one_query_specification()
@@ -49,13 +49,15 @@ pub fn worked_brackets()
 {}
 
 /// Nodes and literal octets: NULL as a result is no node, two quotes in a string are one octet, and a date has none. A set function is a
-/// node beside its argument, and so is each column of GROUP BY.
+/// node beside its argument, and so is each column of GROUP BY. `*` is none, and behind DISTINCT 512.
 pub fn worked_sizes()
     ensures condition { nodes_condition (both (equals (codes "a") (codes "1")) (negation_of (between false (the_column (codes "x")) (number (codes "1")) (number (codes "2"))))) ≡ 9 }
     ensures case { nodes (searched_case (when (condition (equals (codes "a") (codes "1"))) null (otherwise (text (codes "'x'"))))) ≡ 5 }
     ensures string { octets (text (codes "'it''s'")) ≡ 4 }
+    ensures pattern { (nodes_condition (comparison Like (the_column (codes "x")) (text (codes "'a%'"))) ≡ 3) × (octets_condition (comparison NotLike (the_column (codes "x")) (text (codes "'a%'"))) ≡ 2) }
     ensures set_function { (nodes (count_rows 0) ≡ 1) × (nodes (set_function 0 Sum (the_column (codes "x"))) ≡ 2) }
     ensures groups { query_nodes (all_grouped (reference_named (codes "k") ∷ reference_named (codes "j") ∷ []) (Some (comparison Greater (count_rows 0) (number (codes "1")))) []) ≡ 5 }
+    ensures asterisk { (query_nodes (all_of_a true) ≡ 512) × (query_nodes (all_of_a false) ≡ 0) × (query_nodes (a_of_t true) ≡ 1) }
     ensures date { (nodes (date (codes "'2024-01-31'") []) ≡ 1) × (octets (date (codes "'2024-01-31'") []) ≡ 0) }
 {}
 
@@ -118,7 +120,7 @@ pub fn worked_set_functions()
 
 /// Two set functions of a query have two places, also where they are the same in words.
 pub fn worked_places()
-    ensures { IsSelectOf (w (codes "SELECT") ∷ w (codes "COUNT") ∷ s (codes "(") ∷ s (codes "*") ∷ s (codes ")") ∷ s (codes ",") ∷ w (codes "COUNT") ∷ s (codes "(") ∷ s (codes "*") ∷ s (codes ")") ∷ w (codes "FROM") ∷ w (codes "a") ∷ []) (record { selected = items (record { value = count_rows 7; name = None } ∷ record { value = count_rows 2; name = None } ∷ []); sources = alone (the_table (codes "a")) ∷ []; filter = None; grouping = []; having = None; order = [] }) }
+    ensures { IsSelectOf (w (codes "SELECT") ∷ w (codes "COUNT") ∷ s (codes "(") ∷ s (codes "*") ∷ s (codes ")") ∷ s (codes ",") ∷ w (codes "COUNT") ∷ s (codes "(") ∷ s (codes "*") ∷ s (codes ")") ∷ w (codes "FROM") ∷ w (codes "a") ∷ []) (record { distinct = false; selected = items (record { value = count_rows 7; name = None } ∷ record { value = count_rows 2; name = None } ∷ []); sources = alone (the_table (codes "a")) ∷ []; filter = None; grouping = []; having = None; order = [] }) }
 {}
 
 /// GROUP BY stands behind FROM and WHERE, then HAVING, then ORDER BY, each or none of them (ISO/IEC 9075:1992, 7.7, 7.8, 13.1). The columns of
@@ -134,4 +136,29 @@ pub fn worked_groups()
     ensures expression { (query : Select) → IsSelectOf (from (w (codes "a") ∷ w (codes "GROUP") ∷ w (codes "BY") ∷ w (codes "k") ∷ s (codes "+") ∷ n (codes "1") ∷ [])) query → ⊥ }
     ensures set_function { (query : Select) → IsSelectOf (from (w (codes "a") ∷ w (codes "GROUP") ∷ w (codes "BY") ∷ w (codes "COUNT") ∷ s (codes "(") ∷ s (codes "*") ∷ s (codes ")") ∷ [])) query → ⊥ }
     ensures no_column { (query : Select) → IsSelectOf (from (w (codes "a") ∷ w (codes "GROUP") ∷ w (codes "BY") ∷ [])) query → ⊥ }
+{}
+
+/// Behind SELECT stands DISTINCT, or ALL, which says no more than neither of them does (ISO/IEC 9075:1992, 7.9 "set quantifier"). There is
+/// one at most, and none before a later item.
+pub fn worked_quantifiers()
+    ensures distinct { IsSelectOf (of_t (w (codes "DISTINCT") ∷ w (codes "a") ∷ [])) (a_of_t true) }
+    ensures small { IsSelectOf (of_t (w (codes "distinct") ∷ w (codes "a") ∷ [])) (a_of_t true) }
+    ensures all { IsSelectOf (of_t (w (codes "ALL") ∷ w (codes "a") ∷ [])) (a_of_t false) }
+    ensures neither { IsSelectOf (of_t (w (codes "a") ∷ [])) (a_of_t false) }
+    ensures both { (query : Select) → IsSelectOf (of_t (w (codes "ALL") ∷ w (codes "DISTINCT") ∷ w (codes "a") ∷ [])) query → ⊥ }
+    ensures twice { (query : Select) → IsSelectOf (of_t (w (codes "DISTINCT") ∷ w (codes "DISTINCT") ∷ w (codes "a") ∷ [])) query → ⊥ }
+    ensures second { (query : Select) → IsSelectOf (of_t (w (codes "a") ∷ s (codes ",") ∷ w (codes "DISTINCT") ∷ w (codes "a") ∷ [])) query → ⊥ }
+{}
+
+/// Behind LIKE, before which NOT may stand, there is a character string, the pattern (ISO/IEC 9075:1992, 8.5); so it has the rank of a comparison,
+/// and NOT before the whole predicate is another. No column and no expression is a pattern, and there is no ESCAPE.
+pub fn worked_patterns()
+    ensures like { Says (w (codes "x") ∷ w (codes "LIKE") ∷ quoted (codes "'a%'") ∷ []) (condition (comparison Like (the_column (codes "x")) (text (codes "'a%'")))) }
+    ensures not_like { Says (w (codes "x") ∷ w (codes "not") ∷ w (codes "like") ∷ quoted (codes "'a%'") ∷ []) (condition (comparison NotLike (the_column (codes "x")) (text (codes "'a%'")))) }
+    ensures both { Says (w (codes "NOT") ∷ w (codes "x") ∷ w (codes "LIKE") ∷ quoted (codes "'a'") ∷ w (codes "AND") ∷ w (codes "y") ∷ w (codes "LIKE") ∷ quoted (codes "'b'") ∷ [])
+        (condition (both (negation_of (comparison Like (the_column (codes "x")) (text (codes "'a'")))) (comparison Like (the_column (codes "y")) (text (codes "'b'"))))) }
+    ensures column { (query : Select) → IsSelectOf (from (w (codes "a") ∷ w (codes "WHERE") ∷ w (codes "x") ∷ w (codes "LIKE") ∷ w (codes "y") ∷ [])) query → ⊥ }
+    ensures expression { (query : Select) → IsSelectOf (from (w (codes "a") ∷ w (codes "WHERE") ∷ w (codes "x") ∷ w (codes "LIKE") ∷ quoted (codes "'a'") ∷ s (codes "+") ∷ n (codes "1") ∷ [])) query → ⊥ }
+    ensures escape { (query : Select) → IsSelectOf (from (w (codes "a") ∷ w (codes "WHERE") ∷ w (codes "x") ∷ w (codes "LIKE") ∷ quoted (codes "'a'") ∷ w (codes "ESCAPE") ∷ quoted (codes "'b'") ∷ [])) query → ⊥ }
+    ensures nothing { (query : Select) → IsSelectOf (from (w (codes "a") ∷ w (codes "WHERE") ∷ w (codes "x") ∷ w (codes "NOT") ∷ w (codes "LIKE") ∷ [])) query → ⊥ }
 {}

@@ -2,7 +2,7 @@
 
 ghost use Rattle.std.specs.Prelude.{◌≡◌, length, map, option_map};
 ghost use Rattle.qw_ast.specs.SyntaxTree.{branching_of, clause_of, condition_of, expression_of, expressions_of, item_of, joined_of, select_of, selected_of, source_of};
-ghost use Rattle.qw_ast.specs.Limits.{items_of, nodes, nodes_all, nodes_branches, nodes_clause, nodes_condition, octets, octets_all, octets_branches, octets_clause, octets_condition, over_filter, over_items, over_joins, over_sources, query_nodes, query_octets, string_value, undoubled};
+ghost use Rattle.qw_ast.specs.Limits.{items_of, nodes, nodes_all, nodes_branches, nodes_clause, nodes_condition, octets, octets_all, octets_branches, octets_clause, octets_condition, over_filter, over_items, over_joins, over_sources, query_nodes, query_octets, starred_nodes, string_value, undoubled};
 ghost use Rattle.qw_parse.specs.Inner.Sizes.{Counts, behind_octet, counted};
 
 use qw_ast::script::{
@@ -238,6 +238,19 @@ impl Size {
     }
 }
 
+/// The nodes of `*` behind DISTINCT.
+const STARRED_NODES: usize = 512;
+
+/// How many nodes a `*` of the query is.
+fn starred_nodes(query: &Statement<'_>) -> usize
+    ensures { result ≡ starred_nodes query.now.distinct (selected_of query.now.list) }
+{
+    match query.list {
+        SelectList::All if query.distinct => STARRED_NODES,
+        _ => 0,
+    }
+}
+
 /// How large the query is.
 pub(crate) fn size_of(query: &Statement<'_>) -> Size
     ensures nodes { result.nodes ≡ counted (query_nodes (select_of query.now)) }
@@ -247,7 +260,8 @@ pub(crate) fn size_of(query: &Statement<'_>) -> Size
         nodes: 0,
         octets: 0,
     };
-    none.select_list(&query.list)
+    none.with(starred_nodes(query), 0)
+        .select_list(&query.list)
         .sources(query.sources.as_slice())
         .filter(&query.condition)
         .with(query.grouping.len(), 0)

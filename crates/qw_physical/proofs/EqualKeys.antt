@@ -16,7 +16,7 @@ use Rattle.qw_types.specs.declared.code.Code.{Code}
 use Rattle.qw_types.specs.declared.value.Val.{Val}
 use Rattle.qw_types.specs.declared.value.Val.TheVariants.{Null, Num, Date, Text}
 use Rattle.qw_scalar.specs.declared.comparison.Comparison.{Comparison}
-use Rattle.qw_scalar.specs.declared.comparison.Comparison.TheVariants.{Equal, NotEqual, Less, LessOrEqual, Greater, GreaterOrEqual}
+use Rattle.qw_scalar.specs.declared.comparison.Comparison.TheVariants.{Equal, NotEqual, Less, LessOrEqual, Greater, GreaterOrEqual, Like, NotLike}
 use Rattle.qw_scalar.specs.Evaluation.{Environment, at_row, compared, truth_if, value_of}
 use Rattle.qw_scalar.specs.Expression.{Expression, Condition, null, comparison, scale_of}
 use Rattle.qw_scalar.specs.Typing.{IsValueOf, kind_of}
@@ -237,6 +237,8 @@ module _ (tl tr : ℕ → Bool) (apart : (i : ℕ) → tl i ≡ true → tr i �
   comparison_divided LessOrEqual x y h scale = absurd cc
   comparison_divided Greater x y h scale = absurd cc
   comparison_divided GreaterOrEqual x y h scale = absurd cc
+  comparison_divided Like x y h scale = absurd cc
+  comparison_divided NotLike x y h scale = absurd cc
 
   pub divided : (c : Condition) → is_eligible tl tr c ≡ true → HasOneScale c → IsDivided tl tr c
   divided = by_compared (λ c o. are_eligible tl tr o ≡ true → OfCompared (λ op a b. scale_of a ≡ scale_of b) o → IsDivided tl tr c) comparison_divided (λ c h scale. absurd cc)

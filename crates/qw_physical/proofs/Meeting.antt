@@ -12,7 +12,7 @@ use Rattle.qw_types.specs.declared.truth.Truth.TheVariants.{True}
 use Rattle.qw_types.specs.declared.value.Val.{Val}
 use Rattle.qw_types.specs.declared.value.Val.TheVariants.{Null, Num, Date, Text}
 use Rattle.qw_scalar.specs.declared.comparison.Comparison.{Comparison}
-use Rattle.qw_scalar.specs.declared.comparison.Comparison.TheVariants.{Equal, NotEqual, Less, LessOrEqual, Greater, GreaterOrEqual}
+use Rattle.qw_scalar.specs.declared.comparison.Comparison.TheVariants.{Equal, NotEqual, Less, LessOrEqual, Greater, GreaterOrEqual, Like, NotLike}
 use Rattle.qw_scalar.specs.Conjuncts.{passes}
 use Rattle.qw_scalar.specs.Evaluation.{at_row, chosen, compared, truth_if, truth_of, value_of}
 use Rattle.qw_scalar.specs.Expression.{Expression, Condition, comparison, scale_of}
@@ -154,6 +154,8 @@ module _ (same_value : (a : Val) → value_order a a ≡ ordering.Equal) where
     comparison_pair LessOrEqual x y v more h scaled el er has = absurd cc
     comparison_pair Greater x y v more h scaled el er has = absurd cc
     comparison_pair GreaterOrEqual x y v more h scaled el er has = absurd cc
+    comparison_pair Like x y v more h scaled el er has = absurd cc
+    comparison_pair NotLike x y v more h scaled el er has = absurd cc
 
     key_pair : (c : Condition) (v : Val) (more : List Val) → is_eligible tl tr c ≡ true → IsScaled c → value_of (operand_of (λ i. not (tr i)) c) (at_row l) ≡ Ok v
         → value_of (operand_of tr c) (at_row r) ≡ Ok v → have_values (v ∷ more) ≡ true → Met c

@@ -7,7 +7,7 @@ use Rattle.qw_types.specs.declared.truth.Truth.{Truth}
 use Rattle.qw_types.specs.declared.truth.Truth.TheVariants.{True, False, Unknown}
 use Rattle.qw_types.specs.declared.value.Val.{Val}
 use Rattle.qw_scalar.specs.declared.comparison.Comparison.{Comparison}
-use Rattle.qw_scalar.specs.declared.comparison.Comparison.TheVariants.{Equal, NotEqual, Less, LessOrEqual, Greater, GreaterOrEqual}
+use Rattle.qw_scalar.specs.declared.comparison.Comparison.TheVariants.{Equal, NotEqual, Less, LessOrEqual, Greater, GreaterOrEqual, Like, NotLike}
 use Rattle.qw_scalar.specs.Conjuncts.{passes}
 use Rattle.qw_scalar.specs.Evaluation.{at_row, chosen, compared, truth_of, value_of}
 use Rattle.qw_scalar.specs.Expression.{Expression, Condition, comparison, scale_of}
@@ -75,6 +75,8 @@ module _ (tl tr : ℕ → Bool) (l r : List Val) (nulls_left : IsNullAt tr l) (n
   comparison_at LessOrEqual x y t next told h = absurd cc
   comparison_at Greater x y t next told h = absurd cc
   comparison_at GreaterOrEqual x y t next told h = absurd cc
+  comparison_at Like x y t next told h = absurd cc
+  comparison_at NotLike x y t next told h = absurd cc
 
   key_at : (c : Condition) → Meets c
   key_at = by_compared (λ c o. (t : Truth) (next : Result Bool Code) → truth_of c (at_row (merged l r)) ≡ Ok t → are_eligible tl tr o ≡ true

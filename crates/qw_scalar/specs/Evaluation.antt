@@ -1,9 +1,10 @@
 -- The value of an expression and the truth of a condition at a row, or the exception that they raise (ISO/IEC 9075:1992, 6.11, 6.12, 8.2,
--- 8.12, 22.1). Operands go from left to right, and the first exception is the result.
+-- 8.5, 8.12, 22.1). Operands go from left to right, and the first exception is the result.
 use Rattle.std.specs.Prelude.{◌≡◌, ◌⊎◌, ℕ, ℤ, pos, neg_ℤ, int_div, int_rem, Bool, true, false, not, List, Option, Some, None, slice_get, Result, Ok, Err}
 use Rattle.std.specs.Ordering.{int_cmp, is_eq, is_lt, is_le, is_gt, is_ge}
 use Rattle.std.specs.declared.cmp.Ordering.{Ordering}
 use Rattle.qw_types.specs.Arithmetic.{◌>>=◌, bring, difference_of, fits, order_of, product_of, quotient_of, sum_of}
+use Rattle.qw_types.specs.Like.{fits_pattern}
 use Rattle.qw_types.specs.TextOrder.{text_order}
 use Rattle.qw_types.specs.Truth.{conjunction, disjunction, negation}
 use Rattle.qw_types.specs.declared.code.Code.{Code}
@@ -16,7 +17,7 @@ use Rattle.qw_scalar.specs.declared.expression.Operator.TheVariants.{Add, Subtra
 use Rattle.qw_scalar.specs.declared.expression.Field.{Field}
 use Rattle.qw_scalar.specs.declared.expression.Field.TheVariants.{Year, Month, Day}
 use Rattle.qw_scalar.specs.declared.comparison.Comparison.{Comparison}
-use Rattle.qw_scalar.specs.declared.comparison.Comparison.TheVariants.{Equal, NotEqual, Less, LessOrEqual, Greater, GreaterOrEqual}
+use Rattle.qw_scalar.specs.declared.comparison.Comparison.TheVariants.{Equal, NotEqual, Less, LessOrEqual, Greater, GreaterOrEqual, Like, NotLike}
 use Rattle.qw_scalar.specs.Expression.{Expression, Condition, Expressions, last, more, null, number, date, text, column, arithmetic, negative, extract, brought, choice, comparison, is_null, both, either, negation_of, is, scale_of}
 
 -- what an expression is evaluated in
@@ -86,7 +87,7 @@ raised (Num a) from to = as_number (bring a from to)
 raised (Date d) from to = Ok (Date d)
 raised (Text t) from to = Ok (Text t)
 
--- whether an order answers a comparison (8.2)
+-- whether an order answers a comparison (8.2); LIKE is asked of texts alone, for which the answer is below
 abbrev pub answers : Comparison → Ordering → Bool
 answers Equal order = is_eq order
 answers NotEqual order = not (is_eq order)
@@ -94,12 +95,25 @@ answers Less order = is_lt order
 answers LessOrEqual order = is_le order
 answers Greater order = is_gt order
 answers GreaterOrEqual order = is_ge order
+answers Like order = is_eq order
+answers NotLike order = not (is_eq order)
+
+-- whether two texts answer it: compared by octets, or the second as a pattern (8.5)
+abbrev pub answers_texts : Comparison → List ℕ → List ℕ → Bool
+answers_texts Equal a b = answers Equal (text_order a b)
+answers_texts NotEqual a b = answers NotEqual (text_order a b)
+answers_texts Less a b = answers Less (text_order a b)
+answers_texts LessOrEqual a b = answers LessOrEqual (text_order a b)
+answers_texts Greater a b = answers Greater (text_order a b)
+answers_texts GreaterOrEqual a b = answers GreaterOrEqual (text_order a b)
+answers_texts Like a b = fits_pattern b a
+answers_texts NotLike a b = not (fits_pattern b a)
 
 abbrev pub truth_if : Bool → Truth
 truth_if true = True
 truth_if false = False
 
--- a comparison with null is unknown; numbers compare by exact value, dates as they follow one another, texts by octets (8.2)
+-- a comparison with null is unknown, and so is LIKE; numbers compare by exact value, dates as they follow one another, texts by octets (8.2, 8.5)
 abbrev pub compared : Comparison → Val → ℕ → Val → ℕ → Truth
 compared op Null sa b sb = Unknown
 compared op (Num a) sa Null sb = Unknown
@@ -113,7 +127,7 @@ compared op (Date a) sa (Text b) sb = Unknown
 compared op (Text a) sa Null sb = Unknown
 compared op (Text a) sa (Num b) sb = Unknown
 compared op (Text a) sa (Date b) sb = Unknown
-compared op (Text a) sa (Text b) sb = truth_if (answers op (text_order a b))
+compared op (Text a) sa (Text b) sb = truth_if (answers_texts op a b)
 
 abbrev pub tested_null : Val → Truth
 tested_null Null = True

@@ -1,22 +1,30 @@
 -- The units by which the instructions of an expression are bounded at a row: the octets of the texts of the comparison, among all that it
--- makes, that compares most. It is the greatest and not the sum, since no piece of code takes more at a row than its own size times one
--- more than what it compares, and each comparison is a piece of its own; so an operand counts once however often an abbreviation names it
--- (ISO/IEC 9075:1992, 6.9, 8.3, 8.4).
-use Rattle.std.specs.Prelude.{ℕ, ◌+◌, max, List, [], ◌∷◌, length, Result, Ok}
+-- makes, that compares most; of LIKE it is the product of the places of its texts. It is the greatest and not the sum, since no piece of
+-- code takes more at a row than its own size times one more than what it compares, and each comparison is a piece of its own; so an operand
+-- counts once however often an abbreviation names it (ISO/IEC 9075:1992, 6.9, 8.3 to 8.5).
+use Rattle.std.specs.Prelude.{ℕ, ◌+◌, ◌*◌, max, List, [], ◌∷◌, length, Result, Ok}
 use Rattle.qw_types.specs.declared.code.Code.{Code}
 use Rattle.qw_types.specs.declared.value.Val.{Val}
 use Rattle.qw_types.specs.declared.value.Val.TheVariants as val
+use Rattle.qw_scalar.specs.declared.comparison.Comparison.{Comparison}
+use Rattle.qw_scalar.specs.declared.comparison.Comparison.TheVariants.{Like, NotLike}
 use Rattle.qw_scalar.specs.Expression.{Expression, Condition, null, number, date, text, column, arithmetic, negative, extract, brought, choice, comparison, is_null, both, either, negation_of, is}
 use Rattle.qw_scalar.specs.Evaluation.{Environment, value_of}
 
--- the octets of two texts; of values that aren't both texts none are compared
-abbrev pub octets_in : Val → Val → ℕ
-octets_in (val.Text a) (val.Text b) = length a + length b
-octets_in _ _ = 0
+-- what two texts take: their octets; under LIKE, each place of the text, its end too, may be tried with each of the pattern
+abbrev pub octets_for : Comparison → List ℕ → List ℕ → ℕ
+octets_for Like a b = (length a + 1) * (length b + 1)
+octets_for NotLike a b = (length a + 1) * (length b + 1)
+octets_for _ a b = length a + length b
 
-abbrev pub octets_of : Result Val Code → Result Val Code → ℕ
-octets_of (Ok a) (Ok b) = octets_in a b
-octets_of _ _ = 0
+-- of values that aren't both texts none are compared
+abbrev pub octets_in : Comparison → Val → Val → ℕ
+octets_in op (val.Text a) (val.Text b) = octets_for op a b
+octets_in _ _ _ = 0
+
+abbrev pub octets_of : Comparison → Result Val Code → Result Val Code → ℕ
+octets_of op (Ok a) (Ok b) = octets_in op a b
+octets_of _ _ _ = 0
 
 abbrev mutual
   pub units : Expression → Environment → ℕ
@@ -32,7 +40,7 @@ abbrev mutual
   units (choice c a b) env = max (units_of c env) (max (units a env) (units b env))
 
   pub units_of : Condition → Environment → ℕ
-  units_of (comparison op a b) env = max (max (units a env) (units b env)) (octets_of (value_of a env) (value_of b env))
+  units_of (comparison op a b) env = max (max (units a env) (units b env)) (octets_of op (value_of a env) (value_of b env))
   units_of (is_null a) env = units a env
   units_of (both c d) env = max (units_of c env) (units_of d env)
   units_of (either c d) env = max (units_of c env) (units_of d env)

@@ -7,7 +7,7 @@ ghost use Rattle.qw_types.specs.declared.value.Val.TheVariants.{Null};
 ghost use Rattle.qw_scalar.specs.declared.comparison.Comparison.TheVariants.{GreaterOrEqual, LessOrEqual};
 ghost use Rattle.qw_scalar.specs.Columns.{HasColumns, HaveColumns, HoldsIn};
 ghost use Rattle.qw_scalar.specs.Expression.{among, cases, coalesced, largest_result, scale_of};
-ghost use Rattle.qw_scalar.specs.Evaluation.{answers, applied, cell_of, chosen, combined, compared, extracted, field_of, negated, raised, same_truth, tested_null, truth_of, value_fits, value_of, at_row};
+ghost use Rattle.qw_scalar.specs.Evaluation.{answers, answers_texts, applied, cell_of, chosen, combined, compared, extracted, field_of, negated, raised, same_truth, tested_null, truth_of, value_fits, value_of, at_row};
 ghost use Rattle.qw_scalar.specs.Tree.{choices_of, condition_of, expression_of, expressions_of, matches_of};
 ghost use Rattle.qw_scalar.specs.Typing.{AreResultsTyped, AreTyped, IsTyped, ScalesAllowed};
 ghost use Rattle.qw_scalar.specs.Value.{val_of, valued};
@@ -15,7 +15,8 @@ ghost use Rattle.qw_scalar.specs.Value.{val_of, valued};
 use crate::comparison::Comparison;
 use crate::expression::{Branches, Cond, Expr, Exprs, Field, Matches, Operator};
 use crate::value::{Value, lent};
-use qw_types::{Code, Truth, Ty, Val, arithmetic, text_order, truth};
+use qw_types::like::is_like;
+use qw_types::{Code, Text, Truth, Ty, Val, arithmetic, text_order, truth};
 use std::cmp::Ordering;
 
 /// The value of an expression at a row, or the first exception that it raises.
@@ -403,7 +404,7 @@ fn compare(comparison: Comparison, x: Value<'_>, sx: u8, y: Value<'_>, sy: u8) -
             arithmetic::compare(a, sx, b, sy),
         )),
         (Value::Date(a), Value::Date(b)) => truth_if(answer(comparison, a.cmp(&b))),
-        (Value::Text(a), Value::Text(b)) => truth_if(answer(comparison, text_order::compare(a, b))),
+        (Value::Text(a), Value::Text(b)) => truth_if(answer_texts(comparison, a, b)),
         _ => Truth::Unknown,
     }
 }
@@ -431,12 +432,28 @@ fn answer(comparison: Comparison, order: Ordering) -> bool
     ensures { result ≡ answers comparison order }
 {
     match comparison {
-        Comparison::Equal => order.is_eq(),
-        Comparison::NotEqual => order.is_ne(),
+        Comparison::Equal | Comparison::Like => order.is_eq(),
+        Comparison::NotEqual | Comparison::NotLike => order.is_ne(),
         Comparison::Less => order.is_lt(),
         Comparison::LessOrEqual => order.is_le(),
         Comparison::Greater => order.is_gt(),
         Comparison::GreaterOrEqual => order.is_ge(),
+    }
+}
+
+/// Whether two texts answer a comparison, the second as a pattern where it is LIKE.
+fn answer_texts(comparison: Comparison, a: &Text, b: &Text) -> bool
+    ensures { result ≡ answers_texts comparison a.now b.now }
+{
+    match comparison {
+        Comparison::Like => is_like(a.as_str().as_bytes(), b.as_str().as_bytes()),
+        Comparison::NotLike => !is_like(a.as_str().as_bytes(), b.as_str().as_bytes()),
+        Comparison::Equal
+        | Comparison::NotEqual
+        | Comparison::Less
+        | Comparison::LessOrEqual
+        | Comparison::Greater
+        | Comparison::GreaterOrEqual => answer(comparison, text_order::compare(a, b)),
     }
 }
 

@@ -1,7 +1,7 @@
 //! What holds of every expression and condition, and worked cases whose values were found by hand. No function here
 //! computes anything.
 
-ghost use Rattle.std.specs.Prelude.{◌≡◌, ◌≢◌, ℕ, ℤ, pos, neg_ℤ, [], ◌∷◌, Ok, Err};
+ghost use Rattle.std.specs.Prelude.{◌≡◌, ◌≢◌, ℕ, ℤ, pos, neg_ℤ, codes, [], ◌∷◌, Ok, Err};
 ghost use Rattle.qw_types.specs.declared.code.Code.{Code};
 ghost use Rattle.qw_types.specs.declared.code.Code.TheVariants.{DivZero, OutOfRange};
 ghost use Rattle.qw_types.specs.declared.truth.Truth.{Truth};
@@ -9,7 +9,7 @@ ghost use Rattle.qw_types.specs.declared.truth.Truth.TheVariants.{True, False, U
 ghost use Rattle.qw_scalar.specs.declared.expression.Operator.{Operator};
 ghost use Rattle.qw_scalar.specs.declared.expression.Operator.TheVariants.{Add, Subtract, Multiply, Divide};
 ghost use Rattle.qw_scalar.specs.declared.expression.Field.TheVariants.{Year, Month, Day};
-ghost use Rattle.qw_scalar.specs.declared.comparison.Comparison.TheVariants.{Equal, NotEqual, Less, LessOrEqual, Greater, GreaterOrEqual};
+ghost use Rattle.qw_scalar.specs.declared.comparison.Comparison.TheVariants.{Equal, NotEqual, Less, LessOrEqual, Greater, GreaterOrEqual, Like, NotLike};
 ghost use Rattle.qw_types.specs.declared.value.Ty.TheVariants.{Integer, Decimal, Varchar};
 ghost use Rattle.qw_types.specs.declared.value.Ty.TheVariants as type;
 ghost use Rattle.qw_types.specs.declared.value.Val.{Val};
@@ -143,4 +143,21 @@ pub fn worked_texts()
         × (value_of (null_if (column 3 (Varchar 20)) (text pen)) second_item ≡ Ok (Text ink))
         × (value_of (null_if (column 3 (Varchar 20)) (text pen)) third_item ≡ Ok Null)
         × (truth_of (is_null (column 3 (Varchar 20))) first_item ≡ Ok False) }
+{}
+
+/// LIKE: LABEL, 'pen' and 'ink', against patterns; `x NOT LIKE p` and `NOT (x LIKE p)`; a null of either side is unknown; `_` takes `é`, of two octets.
+pub fn worked_likes()
+    ensures { (truth_of (comparison Like (column 3 (Varchar 20)) (text (codes "%n"))) first_item ≡ Ok True)
+        × (truth_of (comparison Like (column 3 (Varchar 20)) (text (codes "%n"))) second_item ≡ Ok False)
+        × (truth_of (comparison Like (column 3 (Varchar 20)) (text (codes "_n%"))) second_item ≡ Ok True)
+        × (truth_of (comparison Like (column 3 (Varchar 20)) (text (codes "pe"))) first_item ≡ Ok False)
+        × (truth_of (comparison Like (text (codes "%n")) (column 3 (Varchar 20))) first_item ≡ Ok False)
+        × (truth_of (comparison NotLike (column 3 (Varchar 20)) (text (codes "%n"))) first_item ≡ Ok False)
+        × (truth_of (comparison NotLike (column 3 (Varchar 20)) (text (codes "%n"))) second_item ≡ Ok True)
+        × (truth_of (negation_of (comparison Like (column 3 (Varchar 20)) (text (codes "%n")))) second_item ≡ Ok True)
+        × (truth_of (comparison Like null (text (codes "%"))) first_item ≡ Ok Unknown)
+        × (truth_of (comparison NotLike null (text (codes "%"))) first_item ≡ Ok Unknown)
+        × (truth_of (comparison Like (text pen) null) first_item ≡ Ok Unknown)
+        × (truth_of (comparison Like (text (195 ∷ 169 ∷ [])) (text (codes "_"))) first_item ≡ Ok True)
+        × (truth_of (comparison Like (text (195 ∷ 169 ∷ [])) (text (codes "__"))) first_item ≡ Ok False) }
 {}

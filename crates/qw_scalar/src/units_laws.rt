@@ -2,10 +2,10 @@
 
 ghost use Rattle.std.specs.Prelude.{◌≡◌, ◌≤◌, ℕ, max, pos, [], ◌∷◌, List};
 ghost use Rattle.qw_types.specs.declared.value.Ty.TheVariants as type;
-ghost use Rattle.qw_scalar.specs.declared.comparison.Comparison.TheVariants.{Equal, Less};
+ghost use Rattle.qw_scalar.specs.declared.comparison.Comparison.TheVariants.{Equal, Less, Like, NotLike};
 ghost use Rattle.qw_scalar.specs.declared.expression.Operator.TheVariants.{Divide};
 ghost use Rattle.qw_scalar.specs.Evaluation.{Environment};
-ghost use Rattle.qw_scalar.specs.Expression.{Expression, among, arithmetic, between, case, coalesced, column, comparison, last, more, null_if, number, otherwise, text, when};
+ghost use Rattle.qw_scalar.specs.Expression.{Expression, among, arithmetic, between, case, coalesced, column, comparison, last, more, null, null_if, number, otherwise, text, when};
 ghost use Rattle.qw_scalar.specs.Units.{units, units_of, units_of_all, units_of_items};
 ghost use Rattle.qw_scalar.specs.WorkedRows.{first_item, ink, nested_coalesce, pen, second_item};
 
@@ -19,7 +19,8 @@ pub fn coalesce()
 
 /// `'pen' = 'ink'` compares 6 octets, 3 of each text, and `LABEL = 'pen'` the same where LABEL is 'ink'; numbers compare none, nor does a
 /// comparison with null or with what raises. `LABEL IN ('pen', 'ink', '')` and `LABEL BETWEEN '' AND 'pen'` compare 6, the most of each
-/// comparison, and `NULLIF(LABEL, 'penpen')` 9; of a list the most counts too, and 0 of none.
+/// comparison, and `NULLIF(LABEL, 'penpen')` 9. `LABEL LIKE 'p%'` takes (3 + 1) * (2 + 1), and `'' NOT LIKE 'pen'` 1 * 4. Of a list the most
+/// counts too, and 0 of none.
 pub fn worked_units()
     ensures { (units_of (comparison Equal (text pen) (text ink)) first_item ≡ 6)
         × (units_of (comparison Less (column 3 (type.Varchar 20)) (text pen)) second_item ≡ 6)
@@ -33,6 +34,9 @@ pub fn worked_units()
         × (units (case (when (comparison Equal (text pen) (text ink)) (null_if (text []) (text pen)) (otherwise (text pen)))) first_item ≡ 6)
         × (units_of_all (comparison Equal (text pen) (text []) ∷ comparison Equal (text pen) (text ink) ∷ comparison Equal (text []) (text pen) ∷ []) first_item ≡ 6)
         × (units_of_items (null_if (text pen) (text ink) ∷ text pen ∷ []) first_item ≡ 6)
+        × (units_of (comparison Like (column 3 (type.Varchar 20)) (text (112 ∷ 37 ∷ []))) first_item ≡ 12)
+        × (units_of (comparison NotLike (text []) (text pen)) first_item ≡ 4)
+        × (units_of (comparison Like null (text pen)) first_item ≡ 0)
         × (units_of_all [] first_item ≡ 0)
         × (units_of_items [] first_item ≡ 0) }
 {}

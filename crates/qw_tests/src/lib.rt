@@ -9,6 +9,8 @@ mod expressions;
 #[cfg(test)]
 mod first_pages;
 #[cfg(test)]
+mod generated_input;
+#[cfg(test)]
 mod many_statements;
 #[cfg(test)]
 mod noted_lines;

@@ -44,6 +44,8 @@ fn symbol_of(comparison: Comparison) -> &'static str {
         Comparison::LessOrEqual => "<=",
         Comparison::Greater => ">",
         Comparison::GreaterOrEqual => ">=",
+        Comparison::Like => "LIKE",
+        Comparison::NotLike => "NOT LIKE",
     }
 }
 
@@ -76,6 +78,8 @@ fn compares(comparison: Comparison, number: i64, literal: i64) -> bool {
         Comparison::LessOrEqual => number <= literal,
         Comparison::Greater => number > literal,
         Comparison::GreaterOrEqual => number >= literal,
+        // Asked of texts.
+        Comparison::Like | Comparison::NotLike => false,
     }
 }
 

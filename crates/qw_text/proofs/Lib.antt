@@ -1,6 +1,11 @@
 mod BlocksCompare
 mod EqualityEnds
 mod HashEnds
+mod LikeCounts
+mod LikeOwned
+mod LikeRuns
+mod LikeSearch
+mod LikeTurns
 mod OrderEnds
 mod OwnLocals
 mod TextFacts

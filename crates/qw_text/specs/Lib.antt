@@ -1,2 +1,3 @@
+pub mod Likes
 pub mod Texts
 pub mod Inner

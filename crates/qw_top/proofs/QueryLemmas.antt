@@ -19,13 +19,12 @@ use Rattle.qw_token.specs.Token.{Lexeme}
 use Rattle.qw_ast.specs.Syntax.{Select}
 use Rattle.qw_parse.specs.Script.{AreAccepted, ReadsScript}
 use Rattle.qw_typer.specs.Meanings.{AreMeant}
-use Rattle.qw_typer.specs.Sizes.{AreSmall, IsSmallBody}
+use Rattle.qw_typer.specs.Sizes.{AreSmall, IsSmallWhole}
 use Rattle.qw_typer.specs.Typed.{Means}
 use Rattle.qw_typer.specs.declared.query.TypedQuery.{TypedQuery}
 use Rattle.qw_typer.proofs.MeansLemmas as typed
-use Rattle.qw_typer.proofs.MeansLemmas.{IsOfTable, entries_there, items_have_kinds, many_names, not_distinct}
+use Rattle.qw_typer.proofs.MeansLemmas.{IsOfTable, entries_there, items_have_kinds, many_names}
 use Rattle.qw_whole.specs.WholePromises.{items_in}
-use Rattle.qw_compile_whole.specs.WholeTaken.{IsTaken}
 use Rattle.qw_sink.specs.declared.sink.Head.{Head}
 use Rattle.qw_top.specs.Top.{AreAsked, AsksFor, IsHeader}
 use Rattle.qw_top.specs.Inner.Queries.{IsEntryOver, IsOver, asked_of, head_of, heads_of}
@@ -65,16 +64,10 @@ entries_over : (schema : List Table) (entries : List Entry) → AllByRecursion (
 entries_over schema [] all = tt
 entries_over schema (e ∷ entries) all = (record { table = all.0.table; there = all.0.there; columns_are = all.0.columns_are }, entries_over schema entries all.1)
 
--- what a query means is compiled
-is_taken : (schema : List Table) (s : Select) (whole : Whole) (names : List (List ℕ)) (keys : List SortKey) → Means schema s whole names keys → IsTaken whole
-is_taken schema s whole names keys means =
-    record { not_distinct = not_distinct schema s whole names keys means }
-
-is_over : (schema : List Table) (s : Select) (t : TypedQuery) → Means schema s (whole_of t.query) t.names.items t.keys.items → IsSmallBody t.query.body → IsOver schema t
+is_over : (schema : List Table) (s : Select) (t : TypedQuery) → Means schema s (whole_of t.query) t.names.items t.keys.items → IsSmallWhole t.query → IsOver schema t
 is_over schema s t means small = record {
   entries = entries_over schema (entries_of (sources_in (body_of t.query.body))) (entries_there schema s (whole_of t.query) t.names.items t.keys.items means);
-  taken = is_taken schema s (whole_of t.query) t.names.items t.keys.items means;
-  short = is_short t.query.body small;
+  short = is_short t.query small;
 }
 
 pub all_over : (schema : List Table) (script : List Select) (typed : List TypedQuery) → AreMeant schema script typed → AreSmall typed → AllByRecursion (IsOver schema) typed

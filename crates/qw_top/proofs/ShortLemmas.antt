@@ -1,5 +1,5 @@
 -- What is typed small is never too long to be compiled: its text literals, each as heavy as its octets, weigh the octets of all of them.
-use Rattle.std.proofs.Common.{◌≡◌, ℕ, ◌≤◌, List, [], ◌∷◌, ◌++◌, length, sum_by, refl, arith}
+use Rattle.std.proofs.Common.{◌≡◌, Bool, true, false, ℕ, ◌≤◌, List, [], ◌∷◌, ◌++◌, length, sum_by, refl, arith}
 use Rattle.std.specs.List.{flat_map}
 use Rattle.std.proofs.lemmas.List.Sums.{sum_by-append, sum_by-cons, sum_by-le-sum_by}
 use Rattle.qw_scalar.specs.declared.expression.Expr.{Expr}
@@ -16,14 +16,16 @@ use Rattle.qw_fold.specs.Texts.{texts_in, texts_of_all, texts_of_branches, texts
 use Rattle.qw_meaning.specs.Query.{QueryParts}
 use Rattle.qw_grouped.specs.Query.{GroupedParts}
 use Rattle.qw_grouped.specs.declared.set_function.SetFunction.{SetFunction}
+use Rattle.qw_grouped.specs.declared.whole.WholeQuery.{WholeQuery}
 use Rattle.qw_grouped.specs.declared.whole.Body.{Body}
 use Rattle.qw_grouped.specs.declared.whole.Body.TheVariants.{Plain, Grouped}
 use Rattle.qw_algebra.specs.Sizes.{tests_on}
 use Rattle.qw_physical.specs.Sizes.{weight_in, weight_within}
-use Rattle.qw_typer.specs.Sizes.{IsSmall, IsSmallBody, IsSmallGrouped, text_octets, text_octets_of, text_octets_of_all, text_octets_of_branches, text_octets_of_matches}
+use Rattle.qw_typer.specs.Sizes.{HasRoom, IsSmall, IsSmallBody, IsSmallGrouped, IsSmallWhole, text_octets, text_octets_of, text_octets_of_all, text_octets_of_branches, text_octets_of_matches}
 use Rattle.qw_compile.specs.Limits.{IsShort}
 use Rattle.qw_compile.proofs.TextsFew.{octets_are}
-use Rattle.qw_compile_whole.specs.WholeLimits.{IsShortBody, IsShortGrouped}
+use Rattle.qw_compile_whole.specs.ShortQueries.{IsShortAsked, IsShortWhole}
+use Rattle.qw_compile_whole.specs.WholeLimits.{IsShortGrouped}
 use Rattle.qw_compile_whole.specs.WholeTexts.{argument_texts, front_texts, texts_of_grouped}
 
 -- ---- the octets of a tree's texts
@@ -109,6 +111,11 @@ short_grouped parts small =
     let few_octets = small.few_octets in
     record { few_nodes = small.few_nodes; few_octets = omega (arith, all, apart, front, tested, behind, tests, conjuncts, arguments, having, items, few_octets) }
 
-pub is_short : (body : Body) → IsSmallBody body → IsShortBody body
-is_short (Plain parts) small = short_plain parts small
-is_short (Grouped parts) small = short_grouped parts small
+short_asked : (distinct : Bool) (body : Body) → IsSmallBody body → (distinct ≡ true → HasRoom body) → IsShortAsked body distinct
+short_asked false (Plain parts) small room = short_plain parts small
+short_asked true (Plain parts) small room = record { short = short_plain parts small; few_keys = room refl }
+short_asked false (Grouped parts) small room = short_grouped parts small
+short_asked true (Grouped parts) small room = let short = short_grouped parts small in record { few_nodes = room refl; few_octets = short.few_octets }
+
+pub is_short : (query : WholeQuery) → IsSmallWhole query → IsShortWhole query
+is_short query small = short_asked query.distinct query.body small.body small.room

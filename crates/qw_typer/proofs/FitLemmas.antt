@@ -1,12 +1,15 @@
 -- Trees of at most so many nodes and octets of text literals, put together; and the queries of a script.
-use Rattle.std.proofs.Common.{◌≡◌, ℕ, ◌+◌, ◌-◌, ◌≤◌, ◌<◌, List, [], ◌∷◌, ◌++◌, suc, map, length, take, drop, sum_by, refl, ap, ◌∙◌, arith}
+use Rattle.std.proofs.Common.{◌≡◌, Bool, true, ℕ, ◌+◌, ◌-◌, ◌≤◌, ◌<◌, List, [], ◌∷◌, ◌++◌, suc, map, length, take, drop, sum_by, refl, sym, ap, ◌∙◌, arith}
 use Rattle.std.specs.Prelude.{IfOk, Result}
 use Rattle.std.proofs.lemmas.List.Sums.{sum_by-cons, sum_by_push}
 use Rattle.qw_types.specs.Octets.{single_quote}
 use Rattle.qw_token.specs.Token.{Lexeme}
 use Rattle.qw_types.specs.declared.schema.Column.{Column}
+use Rattle.qw_types.specs.declared.schema.Table.{Table}
 use Rattle.qw_types.specs.declared.value.Ty.{Ty}
 use Rattle.qw_meaning.specs.Query.{QueryParts}
+use Rattle.qw_grouped.specs.Whole.{Whole}
+use Rattle.qw_grouped.specs.WholeQuery.{whole_of}
 use Rattle.qw_grouped.specs.declared.whole.Body.{Body}
 use Rattle.qw_grouped.specs.declared.whole.Body.TheVariants.{Plain, Grouped}
 use Rattle.qw_ast.proofs.StatementLemmas.{drop_next}
@@ -29,10 +32,11 @@ use Rattle.qw_typer.specs.declared.tree.Results.{Results}
 use Rattle.qw_typer.specs.declared.tree.Typed.{Typed}
 use Rattle.qw_typer.specs.declared.tree.Values.{Values}
 use Rattle.qw_typer.specs.Literal.{string_value, undoubled}
-use Rattle.qw_typer.specs.Sizes.{AreSmall, IsSmallBody, tests_on, text_octets, text_octets_of}
+use Rattle.qw_typer.specs.Sizes.{AreSmall, HasRoom, IsSmallBody, IsSmallWhole, tests_on, text_octets, text_octets_of}
 use Rattle.qw_typer.specs.Meant.{Entry}
+use Rattle.qw_typer.specs.Typed.{Means}
 use Rattle.qw_typer.specs.Inner.Typing.{as_entries, as_entry}
-use Rattle.qw_typer.specs.Inner.Sizes.{ColumnsPushed, Fits, FitsAll, FitsBranches, FitsCondition, FitsItems, FitsMatches, FitsQuery, FitsTests, column_count, nodes, nodes_condition, octets, octets_condition, query_octets, selected_nodes}
+use Rattle.qw_typer.specs.Inner.Sizes.{ColumnsPushed, Fits, FitsAll, FitsBranches, FitsCondition, FitsItems, FitsMatches, FitsQuery, FitsTests, column_count, most_items, nodes, nodes_condition, octets, octets_condition, selected_nodes}
 use Rattle.qw_typer.specs.Functions.{functions_in}
 use Rattle.qw_typer.specs.Inner.Grouping.{FitsBody, listed_nodes}
 use Rattle.qw_typer.proofs.ScriptSizes.{few_of_query}
@@ -181,7 +185,7 @@ listed_group all_columns = omega arith
 listed_group (items list) = omega arith
 
 -- one that a script takes is typed small
-pub is_small : (s : Select) (body : Body) (tokens : List Lexeme) → FitsBody body s → IsAccepted tokens s → IsSmallBody body
+is_small : (s : Select) (body : Body) (tokens : List Lexeme) → FitsBody body s → IsAccepted tokens s → IsSmallBody body
 is_small s (Grouped parts) tokens fits accepted =
     let most = few_of_query tokens s accepted.query in
     let in_items = most.in_items in
@@ -190,9 +194,9 @@ is_small s (Grouped parts) tokens fits accepted =
     let in_having = most.in_having in
     let few_nodes = accepted.few_nodes in
     let few_octets = accepted.few_octets in
-    let n = fits.nodes_fit in
-    let k = fits.octets_fit in
-    let f = fits.few_functions in
+    let n = fits.0.nodes_fit in
+    let k = fits.0.octets_fit in
+    let f = fits.0.few_functions in
     let star = listed_group s.selected in
     let within = inner_is s in
     let arguments = few_arguments (functions_in s) in
@@ -213,8 +217,8 @@ is_small s (Plain parts) tokens fits accepted =
     let in_filter = most.in_filter in
     let few_nodes = accepted.few_nodes in
     let few_octets = accepted.few_octets in
-    let n = fits.nodes_fit in
-    let k = fits.octets_fit in
+    let n = fits.0.nodes_fit in
+    let k = fits.0.octets_fit in
     let star = listed s.selected in
     let items = nodes_in_items (items_of s.selected) in
     let sources = nodes_in_sources s.sources in
@@ -227,11 +231,65 @@ is_small s (Plain parts) tokens fits accepted =
       few_octets = omega (arith, few_octets, k, item_octets, source_octets, filter_octets);
     }
 
+-- what `*` counts for behind DISTINCT is room for its columns
+starred_most : (selected : Selected) → script.starred_nodes true selected ≤ 512
+starred_most all_columns = omega arith
+starred_most (items list) = omega arith
+
+starred_items : (selected : Selected) → most_items selected ≤ script.starred_nodes true selected + length (items_of selected)
+starred_items all_columns = omega arith
+starred_items (items list) = omega arith
+
+starred_selected : (selected : Selected) → selected_nodes selected ≤ script.starred_nodes true selected + over_items nodes (items_of selected)
+starred_selected all_columns = omega arith
+starred_selected (items list) = omega arith
+
+has_room : (s : Select) (body : Body) (tokens : List Lexeme) → FitsBody body s → IsAccepted tokens s → s.distinct ≡ true → HasRoom body
+has_room s (Grouped parts) tokens fits accepted distinct =
+    let starred : script.starred_nodes s.distinct s.selected ≡ script.starred_nodes true s.selected = ap (λ (b : Bool). script.starred_nodes b s.selected) distinct in
+    let room = starred_items s.selected in
+    let room_most = starred_most s.selected in
+    let items = fits.1 in
+    let few_items = accepted.few_items in
+    let most = few_of_query tokens s accepted.query in
+    let in_items = most.in_items in
+    let in_sources = most.in_sources in
+    let in_filter = most.in_filter in
+    let in_having = most.in_having in
+    let few_nodes = accepted.few_nodes in
+    let n = fits.0.nodes_fit in
+    let f = fits.0.few_functions in
+    let star = listed_group s.selected in
+    let within = inner_is s in
+    let arguments = few_arguments (functions_in s) in
+    let sources = nodes_in_sources s.sources in
+    let filter = nodes_in_filter s.filter in
+    omega (arith, starred, room, room_most, items, few_items, in_items, in_sources, in_filter, in_having, few_nodes, n, f, star, within, arguments, sources, filter)
+has_room s (Plain parts) tokens fits accepted distinct =
+    let starred : script.starred_nodes s.distinct s.selected ≡ script.starred_nodes true s.selected = ap (λ (b : Bool). script.starred_nodes b s.selected) distinct in
+    let room = starred_items s.selected in
+    let room_most = starred_most s.selected in
+    let items = fits.1 in
+    let few_items = accepted.few_items in
+    let most = few_of_query tokens s accepted.query in
+    let in_items = most.in_items in
+    let in_sources = most.in_sources in
+    let in_filter = most.in_filter in
+    let few_nodes = accepted.few_nodes in
+    let n = fits.0.nodes_fit in
+    let star = starred_selected s.selected in
+    let item_nodes = nodes_in_items (items_of s.selected) in
+    let sources = nodes_in_sources s.sources in
+    let filter = nodes_in_filter s.filter in
+    omega (arith, starred, room, room_most, items, few_items, in_items, in_sources, in_filter, few_nodes, n, star, item_nodes, sources, filter)
+
 -- ---- a script, query by query
 
-small_push : (made : List TypedQuery) (t : TypedQuery) → AreSmall made → IsSmallBody t.query.body → AreSmall (made ++ t ∷ [])
+small_push : (made : List TypedQuery) (t : TypedQuery) → AreSmall made → IsSmallWhole t.query → AreSmall (made ++ t ∷ [])
 small_push [] t small one = (one, tt)
 small_push (u ∷ made) t small one = (small.0, small_push made t small.1 one)
 
-pub small_kept : (s : Select) (made made' : List TypedQuery) (t : TypedQuery) → made' ≡ made ++ t ∷ [] → IsQuery s → FitsBody t.query.body s → AreSmall made → AreSmall made'
-small_kept s made made' t more query fits small = rw more (small_push made t small (is_small s t.query.body query.0 fits query.1))
+pub small_kept : (schema : List Table) (s : Select) (made made' : List TypedQuery) (t : TypedQuery) → made' ≡ made ++ t ∷ [] → IsQuery s → Means schema s (whole_of t.query) t.names.items t.keys.items → FitsBody t.query.body s → AreSmall made → AreSmall made'
+small_kept schema s made made' t more query means fits small =
+    let same : t.query.distinct ≡ s.distinct = ap (λ (w : Whole). w.distinct) means.whole_is in
+    rw more (small_push made t small (record { body = is_small s t.query.body query.0 fits query.1; room = λ distinct. has_room s t.query.body query.0 fits query.1 (sym same ∙ distinct) }))

@@ -1,6 +1,6 @@
 -- A grouped query over the entries of its FROM: checking clause by clause gives what is meant where there is no fault, and the first fault else. And
 -- what isn't grouped has none of its own.
-use Rattle.std.proofs.Common.{◌≡◌, ℕ, ◌==◌, ◌&&◌, Bool, true, false, not, List, [], ◌∷◌, ◌++◌, map, length, Option, Some, None, is_none, option_map, Result, Ok, Err, refl, sym, ap, ◌∙◌, arith}
+use Rattle.std.proofs.Common.{◌≡◌, ◌==◌, ◌&&◌, Bool, true, false, not, List, [], ◌∷◌, ◌++◌, map, length, Option, Some, None, is_none, option_map, Result, Ok, refl, ap, ◌∙◌, arith}
 use Rattle.std.specs.Prelude.{if◌then◌else◌}
 use Rattle.std.specs.Option.{option_map_or}
 use Rattle.std.proofs.lemmas.Bool.Decides.{nat_tests}
@@ -10,19 +10,18 @@ use Rattle.qw_types.specs.declared.schema.Table.{Table}
 use Rattle.qw_scalar.specs.Expression as meaning
 use Rattle.qw_meaning.specs.Select as specified
 use Rattle.qw_grouped.specs.Grouped as group
-use Rattle.qw_grouped.specs.Grouped.{type_of_function}
-use Rattle.qw_grouped.specs.Whole.{Body, Whole, grouped, plain}
+use Rattle.qw_grouped.specs.Whole.{Whole, grouped, plain}
 use Rattle.qw_grouped.specs.declared.query.GroupedColumn.{GroupedColumn}
 use Rattle.qw_ast.specs.Grammar.{name_of}
 use Rattle.qw_ast.specs.Syntax.{Condition, column, Reference, Select}
 use Rattle.qw_typer.specs.Faults.{Fault, argument_faults, condition_faults, faults, first_token, or_own, reference_faults}
 use Rattle.qw_typer.specs.Functions.{Written, counted, applied, functions_in}
-use Rattle.qw_typer.specs.Grouping.{as_grouped, columns_faults, columns_grouped, function_column, function_faults, function_of, functions_faults, grouping_faults, grouping_of, is_grouped, kind_of_function, many_faults, or_rows}
+use Rattle.qw_typer.specs.Grouping.{as_grouped, columns_faults, columns_grouped, function_column, function_faults, function_of, functions_faults, grouping_faults, grouping_of, is_grouped, kind_of_function, many_faults}
 use Rattle.qw_typer.specs.Keys.{keys_faults}
-use Rattle.qw_typer.specs.Meant.{Entry, FunctionColumn, Grouping, Scope, condition_meant, first_of, meant, referred, ungrouped}
+use Rattle.qw_typer.specs.Meant.{Entry, Grouping, Scope, condition_meant, first_of, meant, referred, ungrouped}
 use Rattle.qw_typer.specs.Typed.{conjuncts, conjuncts_having, entries_named, filter_faults, grouped_meant, having_faults, items_meant, order_faults, over_faults, result_names, scope_of, scope_over, selected_faults, sources_faults, sources_meant, specification_meant, whole_meant}
-use Rattle.qw_typer.specs.Inner.Grouping.{Behind, Functions, Groups, column_for, over_group, table_of, typed_behind, typed_column, typed_columns, typed_function, typed_functions, typed_groups}
-use Rattle.qw_typer.specs.Inner.Typing.{◌>>=◌, outcome, reference_outcome}
+use Rattle.qw_typer.specs.Inner.Grouping.{Behind, Functions, Groups, column_for, over_group, typed_behind, typed_column, typed_columns, typed_function, typed_functions, typed_groups}
+use Rattle.qw_typer.specs.Inner.Typing.{◌>>=◌, outcome}
 use Rattle.qw_typer.proofs.FaultLemmas.{filter_is, list_is, one, plain_faults, plain_two, sources_is, typed_is}
 
 -- ---- what isn't grouped
@@ -68,9 +67,9 @@ pub plain_keys : (schema : List Table) (s : Select) → is_grouped s ≡ false �
 plain_keys schema s h = ap (λ (sc : Scope). keys_faults sc (result_names sc s.selected) (items_meant sc s.selected) s.order) (plain_scope schema s h)
 
 abbrev body_if : List Table → Select → Bool → Whole
-body_if schema s b = record { body = if b then grouped (grouped_meant schema s) else plain (specification_meant schema s); distinct = false }
+body_if schema s b = record { body = if b then grouped (grouped_meant schema s) else plain (specification_meant schema s); distinct = s.distinct }
 
-pub plain_meant : (schema : List Table) (s : Select) → is_grouped s ≡ false → whole_meant schema s ≡ record { body = plain (specification_meant schema s); distinct = false }
+pub plain_meant : (schema : List Table) (s : Select) → is_grouped s ≡ false → whole_meant schema s ≡ record { body = plain (specification_meant schema s); distinct = s.distinct }
 plain_meant schema s h = ap (body_if schema s) h
 
 -- ---- what is
@@ -78,7 +77,7 @@ plain_meant schema s h = ap (body_if schema s) h
 pub group_scope : (schema : List Table) (s : Select) → is_grouped s ≡ true → scope_over schema s ≡ over_group (entries_named schema s) (grouping_of (entries_named schema s) s)
 group_scope schema s h = ap (scope_if (entries_named schema s) s) h
 
-pub group_meant : (schema : List Table) (s : Select) → is_grouped s ≡ true → whole_meant schema s ≡ record { body = grouped (grouped_meant schema s); distinct = false }
+pub group_meant : (schema : List Table) (s : Select) → is_grouped s ≡ true → whole_meant schema s ≡ record { body = grouped (grouped_meant schema s); distinct = s.distinct }
 group_meant schema s h = ap (body_if schema s) h
 
 -- ---- GROUP BY and the set functions

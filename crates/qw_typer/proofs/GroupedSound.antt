@@ -1,5 +1,5 @@
 -- A grouped query that has no fault is typed: GROUP BY and the arguments over the columns of FROM, HAVING and the select list over the grouped table.
-use Rattle.std.proofs.Common.{◌≡◌, ℕ, zero, suc, ◌+◌, ◌*◌, ◌≤◌, ◌==◌, Bool, true, false, IsTrue, nat_le, pos, not, List, [], ◌∷◌, ◌++◌, map, length, position, Option, Some, None, is_none, unwrap_or, option_map, slice_get, refl, sym, ap, ◌∙◌, arith, subst, inl, inr}
+use Rattle.std.proofs.Common.{◌≡◌, ℕ, suc, ◌+◌, ◌*◌, ◌≤◌, ◌==◌, Bool, true, false, nat_le, not, List, [], ◌∷◌, ◌++◌, map, length, position, Option, Some, None, is_none, unwrap_or, option_map, slice_get, refl, sym, ap, ◌∙◌, arith, subst, inl, inr}
 use Rattle.std.specs.Prelude.{if◌then◌else◌}
 use Rattle.std.specs.List.{AllByRecursion}
 use Rattle.std.specs.Option.{option_and_then}
@@ -15,28 +15,27 @@ use Rattle.qw_types.specs.declared.value.Ty.{Ty}
 use Rattle.qw_scalar.specs.Expression as meaning
 use Rattle.qw_scalar.specs.Typing.{has_kind, is_number, kind_of}
 use Rattle.qw_meaning.specs.Select as specified
-use Rattle.qw_meaning.specs.Select.{IsColumnOf, IsConditionOver, IsItemOver, IsSpecification}
+use Rattle.qw_meaning.specs.Select.{IsColumnOf, IsConditionOver, IsItemOver}
 use Rattle.qw_grouped.specs.Grouped as group
-use Rattle.qw_grouped.specs.Grouped.{Grouped, HasAverage, IsGroupColumn, IsGrouped, Takes, arguments_of, expression_of_column, finer, type_of_function, value_kind, widest}
+use Rattle.qw_grouped.specs.Grouped.{Grouped, HasAverage, IsGroupColumn, IsGrouped, Takes, arguments_of, expression_of_column, finer, type_of_function, widest}
 use Rattle.qw_grouped.specs.declared.query.GroupedColumn.{GroupedColumn}
 use Rattle.qw_ast.specs.declared.script.SetFunction.{SetFunction}
 use Rattle.qw_ast.specs.declared.script.SetFunction.TheVariants.{Count, Sum, Avg, Min, Max}
 use Rattle.qw_ast.specs.Grammar.{name_of}
 use Rattle.qw_ast.specs.Limits.{entries_of}
-use Rattle.qw_ast.specs.Syntax.{column, Reference, Select, SelectItem, Selected, all_columns, items}
+use Rattle.qw_ast.specs.Syntax.{column, Reference, Select, Selected, all_columns, items}
 use Rattle.qw_typer.specs.declared.fault.FaultKind.TheVariants.{NotGrouped}
 use Rattle.qw_typer.specs.Faults.{Fault, argument_faults, counted_faults, fault_where, faults, first_token, group_faults, has_scale, or_own, reference_faults, takes}
 use Rattle.qw_typer.specs.Functions.{Written, counted, applied, functions_in}
 use Rattle.qw_typer.specs.Grouping.{as_grouped, columns_faults, columns_grouped, columns_ungrouped, function_column, function_faults, function_of, functions_faults, grouping_faults, grouping_of, is_grouped, kind_of_function, many_faults, or_rows, rows_counted, starred, starred_faults}
 use Rattle.qw_typer.specs.Meant.{Entry, FunctionColumn, Grouping, Scope, column_grouped, column_named, condition_meant, first_of, is_qualified, listed, meant, referred, ungrouped}
-use Rattle.qw_typer.specs.Typed.{IsWithin, columns_from, columns_meant, conjuncts, conjuncts_having, entries_named, entry_meant, filter_faults, grouped_meant, having_faults, items_meant, over_faults, scope_of, scope_over, selected_faults, sources_faults, sources_meant}
+use Rattle.qw_typer.specs.Typed.{IsWithin, columns_from, columns_meant, conjuncts, conjuncts_having, entries_named, entry_meant, filter_faults, grouped_meant, having_faults, items_meant, over_faults, scope_of, selected_faults, sources_faults, sources_meant}
 use Rattle.qw_typer.specs.Inner.Grouping.{over_group}
 use Rattle.qw_typer.specs.Inner.Queries.{HaveTables}
 use Rattle.qw_typer.specs.Inner.Typing.{kind_scale}
-use Rattle.qw_typer.proofs.FaultLemmas.{meaning_of}
 use Rattle.qw_typer.proofs.GroupedLemmas.{behind_faults, group_scope, grouped_over}
 use Rattle.qw_typer.proofs.LawLemmas.{condition_more, conjuncts_of_sources, entries_meant, filter_over, in_scope_of, item_more, length_map, length_scope, list_over, ones_from, sized_ones, some_entry, some_items, specified_query}
-use Rattle.qw_typer.proofs.SoundLemmas.{AreSized, HasSized, HasSizedTypes, IsAt, IsGood, IsIn, Reaches, all_both, all_more, good, grouped_good, no_both, no_own, not_where, sized_type, tested, types_in, types_of}
+use Rattle.qw_typer.proofs.SoundLemmas.{AreSized, HasSized, HasSizedTypes, IsAt, IsGood, Reaches, all_both, all_more, good, grouped_good, no_both, no_own, not_where, sized_type, tested, types_of}
 
 -- ---- columns of GROUP BY
 
@@ -295,7 +294,7 @@ reaching (c ∷ cs) fs few_columns few_functions =
 
 -- with nothing but FROM and WHERE
 abbrev plainer : Select → Select
-plainer s = record { selected = all_columns; sources = s.sources; filter = s.filter; grouping = []; having = None; order = [] }
+plainer s = record { distinct = s.distinct; selected = all_columns; sources = s.sources; filter = s.filter; grouping = []; having = None; order = [] }
 
 none_both : (fs gs : List Fault) → fs ≡ [] → gs ≡ [] → fs ++ gs ≡ []
 none_both fs gs h k = ap (λ (xs : List Fault). xs ++ gs) h ∙ k

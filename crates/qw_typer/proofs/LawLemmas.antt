@@ -30,6 +30,7 @@ use Rattle.qw_typer.specs.Grouping.{starred}
 use Rattle.qw_typer.specs.Meant.{Entry, Grouping, Scope, condition_meant, meant, ungrouped}
 use Rattle.qw_typer.specs.Typed.{HasFewItems, IsWithin, Means, columns_from, columns_meant, columns_of, conjuncts, conjuncts_of, entries_faults, entries_from, entry_meant, entry_name, filter_faults, in_scope, items_meant, joins_faults, joins_meant, list_faults, place_of, query_faults, result_names, scope_of, selected_faults, sources_faults, sources_meant, whole_meant, scope_over}
 use Rattle.qw_typer.specs.Inner.Queries.{HaveTables}
+use Rattle.qw_typer.specs.Inner.Sizes.{most_items}
 use Rattle.qw_typer.proofs.FaultLemmas.{meaning_of, plain_faults}
 use Rattle.qw_typer.proofs.SoundLemmas.{AreSized, HasColumn, HasSized, IsAt, IsIn, IsSizedScope, all_both, all_more, column_good, condition_good, good, no_both, no_own, not_where, tested, types_of}
 
@@ -322,6 +323,14 @@ some_items scope (items list) tables some few h =
     let most = h.1 in
     let l = length_map (λ (i : SelectItem). meant scope i.value) list in
     (omega (arith, l, one), omega (arith, l, most))
+
+-- a select list has as many items as it is written, and `*` as the entries have columns
+pub few_meant : (scope : Scope) (selected : Selected) → HaveTables scope.entries → length scope.entries ≤ 8 → length (items_meant scope selected) ≤ most_items selected
+few_meant scope all_columns tables few =
+    let most = few_of_scope scope.entries tables in
+    let same = starred_length scope.grouping (columns_meant scope.entries) in
+    omega (arith, most, few, same)
+few_meant scope (items list) tables few = let l = length_map (λ (i : SelectItem). meant scope i.value) list in omega (arith, l)
 
 pub some_entry : (ss : List Source) → 1 ≤ length ss → 1 ≤ length (entries_of ss)
 some_entry [] some = absurd (omega (arith, some))

@@ -1,20 +1,17 @@
 -- A grouped query over a schema: what it means where it has no fault, and one of its faults else.
-use Rattle.std.proofs.Common.{◌≡◌, ℕ, false, true, List, [], ◌∷◌, Ok, refl, sym, ap, ◌∙◌, subst}
+use Rattle.std.proofs.Common.{◌≡◌, Bool, ℕ, true, List, [], Ok, refl, sym, ap, ◌∙◌, subst}
 use Rattle.qw_types.specs.declared.schema.Table.{Table}
-use Rattle.qw_scalar.specs.Expression as meaning
-use Rattle.qw_meaning.specs.Select.{Specification}
 use Rattle.qw_grouped.specs.Grouped as group
 use Rattle.qw_grouped.specs.Grouped.{Grouped, IsGrouped}
 use Rattle.qw_grouped.specs.Whole.{Whole, grouped}
 use Rattle.qw_order.specs.declared.sort_key.SortKey.{SortKey}
-use Rattle.qw_ast.specs.Limits.{entries_of}
 use Rattle.qw_ast.specs.Syntax.{Select}
 use Rattle.qw_typer.specs.declared.refusal.Refusal.{Refusal}
 use Rattle.qw_typer.specs.Faults.{Fault, or_own}
 use Rattle.qw_typer.specs.Grouping.{grouping_faults, grouping_of, is_grouped, or_rows}
 use Rattle.qw_typer.specs.Keys.{keys_faults, keys_meant}
 use Rattle.qw_typer.specs.Meant.{Entry, Grouping, Scope, condition_meant}
-use Rattle.qw_typer.specs.Typed.{IsWithin, Means, conjuncts_having, entries_faults, entries_named, grouped_meant, items_meant, order_faults, over_faults, query_faults, result_names, scope_over, whole_meant}
+use Rattle.qw_typer.specs.Typed.{IsWithin, Means, conjuncts_having, entries_named, grouped_meant, items_meant, order_faults, over_faults, query_faults, result_names, scope_over}
 use Rattle.qw_typer.specs.Inner.Grouping.{Behind, Groups, over_group, table_of, typed_behind, typed_groups}
 use Rattle.qw_typer.specs.Inner.Queries.{HaveTables, IsFrom, IsOneOf}
 use Rattle.qw_typer.specs.Inner.Typing.{Refuses}
@@ -86,7 +83,7 @@ pub record IsMade (schema : List Table) (s : Select) (entries : List Entry) (gro
 no_over : (schema : List Table) (s : Select) (entries : List Entry) (groups : Groups) (behind : Behind) (functions : List group.SetFunction) → IsMade schema s entries groups behind functions → over_faults schema s ≡ []
 no_over schema s entries groups behind functions m = over_behind schema s entries groups m.from m.is m.groups_given ∙ (behind_none schema s entries groups behind m.from m.groups_given m.behind_given).0
 
-made_is : (schema : List Table) (s : Select) (entries : List Entry) (groups : Groups) (behind : Behind) (functions : List group.SetFunction) → IsMade schema s entries groups behind functions → made_of groups behind functions ≡ grouped_meant schema s
+pub made_is : (schema : List Table) (s : Select) (entries : List Entry) (groups : Groups) (behind : Behind) (functions : List group.SetFunction) → IsMade schema s entries groups behind functions → made_of groups behind functions ≡ grouped_meant schema s
 made_is schema s entries groups behind functions m =
     let es = entries_named schema s in
     let one = (groups_none schema s entries groups m.from m.groups_given).1 in
@@ -133,12 +130,12 @@ group_keys_refused schema s entries groups behind functions names r m named h =
     subst (λ (fs : List Fault). IsOneOf r (or_own fs (or_own (over_faults schema s) (order_faults schema s)))) (sym m.from.faultless)
     (subst (λ (fs : List Fault). IsOneOf r (or_own fs (order_faults schema s))) (sym (no_over schema s entries groups behind functions m)) order)
 
-abbrev pub grouped_whole : Grouped → Whole
-grouped_whole query = record { body = grouped query; distinct = false }
+abbrev pub grouped_whole : Bool → Grouped → Whole
+grouped_whole distinct query = record { body = grouped query; distinct = distinct }
 
 pub grouped_means : (schema : List Table) (s : Select) (entries : List Entry) (groups : Groups) (behind : Behind) (functions : List group.SetFunction) (names : List (List ℕ)) (keys : List SortKey) → IsMade schema s entries groups behind functions
     → names ≡ result_names (over_group entries (table_of groups)) s.selected
-    → (keys_faults (over_group entries (table_of groups)) names behind.items s.order ≡ []) × (keys ≡ keys_meant (over_group entries (table_of groups)) names behind.items s.order) → Means schema s (grouped_whole (made_of groups behind functions)) names keys
+    → (keys_faults (over_group entries (table_of groups)) names behind.items s.order ≡ []) × (keys ≡ keys_meant (over_group entries (table_of groups)) names behind.items s.order) → Means schema s (grouped_whole s.distinct (made_of groups behind functions)) names keys
 grouped_means schema s entries groups behind functions names keys m named found =
     let scope : over_group entries (table_of groups) ≡ scope_over schema s =
     ap (λ (es : List Entry). over_group es (table_of groups)) m.from.are ∙ ap (over_group (entries_named schema s)) (table_is schema s entries groups m.from m.groups_given) ∙ sym (group_scope schema s m.is) in
@@ -149,7 +146,7 @@ grouped_means schema s entries groups behind functions names keys m named found 
     let order : order_faults schema s ≡ [] = sym (order_is schema s entries groups behind functions names m named) ∙ found.0 in
     record {
       faultless = ap (λ (fs : List Fault). or_own fs (or_own (over_faults schema s) (order_faults schema s))) m.from.faultless ∙ ap (λ (fs : List Fault). or_own fs (order_faults schema s)) none ∙ order;
-      whole_is = ap grouped_whole is ∙ sym (group_meant schema s m.is);
+      whole_is = ap (grouped_whole s.distinct) is ∙ sym (group_meant schema s m.is);
       names_are = names_are;
       keys_are = found.1 ∙ rw (scope, names_are, items) refl;
     }

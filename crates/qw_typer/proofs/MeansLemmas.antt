@@ -39,9 +39,6 @@ abbrev pub items_in : Body → List meaning.Expression
 items_in (plain specification) = specification.items
 items_in (grouped query) = query.items
 
-pub not_distinct : (schema : List Table) (s : Select) (whole : Whole) (names : List (List ℕ)) (keys : List SortKey) → Means schema s whole names keys → whole.distinct ≡ false
-not_distinct schema s whole names keys means = ap (λ (w : Whole). w.distinct) means.whole_is
-
 body_items : (schema : List Table) (s : Select) (b : Bool) → is_grouped s ≡ b → items_in (if b then grouped (grouped_meant schema s) else plain (specification_meant schema s)) ≡ items_meant (scope_over schema s) s.selected
 body_items schema s true e = refl
 body_items schema s false e = ap (λ (sc : Scope). items_meant sc s.selected) (sym (plain_scope schema s e))

@@ -1,9 +1,11 @@
 -- A query over the entries of its FROM, and over a schema.
-use Rattle.std.proofs.Common.{◌≡◌, false, ℕ, ◌*◌, ◌≤◌, List, [], ◌∷◌, length, Ok, refl, sym, ap, ◌∙◌, arith, subst}
+use Rattle.std.proofs.Common.{◌≡◌, Bool, false, ℕ, ◌*◌, ◌≤◌, List, [], ◌∷◌, length, map, Ok, refl, sym, ap, ◌∙◌, arith, subst}
 use Rattle.std.specs.Prelude.{Contains}
 use Rattle.std.proofs.lemmas.List.{length-map}
 use Rattle.std.proofs.lemmas.List.Sums.{sum_by-cons}
 use Rattle.qw_types.specs.declared.schema.Table.{Table}
+use Rattle.qw_scalar.specs.Expression as meaning
+use Rattle.qw_scalar.specs.Tree.{expression_of}
 use Rattle.qw_meaning.specs.Query.{QueryParts, query_of}
 use Rattle.qw_meaning.specs.Select.{IsSpecification, Specification}
 use Rattle.qw_grouped.specs.Whole.{Whole, plain}
@@ -22,11 +24,11 @@ use Rattle.qw_typer.specs.Keys.{keys_faults, keys_meant}
 use Rattle.qw_typer.specs.Meant.{Entry, Scope, ungrouped}
 use Rattle.qw_typer.specs.Typed.{IsWithin, Means, entries_faults, entries_from, items_meant, order_faults, over_faults, query_faults, result_names, scope_of}
 use Rattle.qw_typer.specs.Inner.Queries.{HaveTables, IsFrom, IsOneOf}
-use Rattle.qw_typer.specs.Inner.Sizes.{column_count}
+use Rattle.qw_typer.specs.Inner.Sizes.{column_count, most_items}
 use Rattle.qw_typer.specs.Inner.Typing.{Refuses, as_entries, as_entry, outcome, spelled, typed_over}
 use Rattle.qw_typer.proofs.FaultLemmas.{first_fault, meaning_of, no_fault, over_is, plain_faults}
 use Rattle.qw_typer.proofs.GroupedLemmas.{plain_keys, plain_meant, plain_order, plain_over, plain_scope}
-use Rattle.qw_typer.proofs.LawLemmas.{length_scope, specified_query}
+use Rattle.qw_typer.proofs.LawLemmas.{few_meant, length_scope, specified_query}
 
 -- ---- what is refused
 
@@ -98,12 +100,12 @@ keys_refused schema s named entries parts names r plain_one same known gives nam
 
 -- ---- what is given
 
--- a query that isn't grouped, without DISTINCT
-abbrev pub plain_whole : Specification → Whole
-plain_whole specification = record { body = plain specification; distinct = false }
+-- a query that isn't grouped, with DISTINCT or without
+abbrev pub plain_whole : Bool → Specification → Whole
+plain_whole distinct specification = record { body = plain specification; distinct = distinct }
 
 pub query_means : (schema : List Table) (s : Select) (named : List written.Entry) (entries : List Entry) (parts : QueryParts) (names : List (List ℕ)) (keys : List SortKey) → is_grouped s ≡ false → named ≡ entries_of s.sources → AreEntries schema named entries
-    → typed_over (ungrouped entries) s ≡ Ok (query_of parts) → names ≡ result_names (ungrouped entries) s.selected → (keys_faults (ungrouped entries) names (query_of parts).items s.order ≡ []) × (keys ≡ keys_meant (ungrouped entries) names (query_of parts).items s.order) → Means schema s (plain_whole (query_of parts)) names keys
+    → typed_over (ungrouped entries) s ≡ Ok (query_of parts) → names ≡ result_names (ungrouped entries) s.selected → (keys_faults (ungrouped entries) names (query_of parts).items s.order ≡ []) × (keys ≡ keys_meant (ungrouped entries) names (query_of parts).items s.order) → Means schema s (plain_whole s.distinct (query_of parts)) names keys
 query_means schema s named entries parts names keys plain_one same known gives names_are found =
     let whole = whole_scope schema s named entries same known in
     let o = no_fault (plain_faults schema s) (meaning_of schema s) (query_of parts) (sym (over_is schema s) ∙ ap (λ (sc : Scope). typed_over sc s) (sym whole.1) ∙ gives) in
@@ -114,7 +116,7 @@ query_means schema s named entries parts names keys plain_one same known gives n
     let keyed : keys ≡ keys_meant (scope_of schema s) (result_names (scope_of schema s) s.selected) (items_meant (scope_of schema s) s.selected) s.order = found.1 ∙ rw (whole.1, named, items) refl in
     record {
       faultless = rw (whole.0, none) (plain_keys schema s plain_one ∙ sym (same_order schema s (ungrouped entries) parts names whole.1 o.1 names_are) ∙ found.0);
-      whole_is = ap plain_whole (sym o.1) ∙ sym (plain_meant schema s plain_one);
+      whole_is = ap (plain_whole s.distinct) (sym o.1) ∙ sym (plain_meant schema s plain_one);
       names_are = named ∙ ap (λ (sc : Scope). result_names sc s.selected) (sym same_scope);
       keys_are = keyed ∙ ap (λ (sc : Scope). keys_meant sc (result_names sc s.selected) (items_meant sc s.selected) s.order) (sym same_scope);
     }
@@ -127,6 +129,20 @@ query_specified schema s named entries parts plain_one same known tables within 
     subst IsSpecification o.1 (specified_query schema s (subst HaveTables (ap (λ (sc : Scope). sc.entries) whole.1) tables) within o.0)
 
 -- ---- sizes
+
+-- it has no more items than its select list
+pub plain_items : (schema : List Table) (s : Select) (named : List written.Entry) (entries : List Entry) (parts : QueryParts) → is_grouped s ≡ false → named ≡ entries_of s.sources → AreEntries schema named entries → HaveTables entries → IsWithin s
+    → typed_over (ungrouped entries) s ≡ Ok (query_of parts) → length parts.items ≤ most_items s.selected
+plain_items schema s named entries parts plain_one same known tables within gives =
+    let whole = whole_scope schema s named entries same known in
+    let o = no_fault (plain_faults schema s) (meaning_of schema s) (query_of parts) (sym (over_is schema s) ∙ ap (λ (sc : Scope). typed_over sc s) (sym whole.1) ∙ gives) in
+    let is : items_meant (scope_of schema s) s.selected ≡ map expression_of parts.items = ap (λ (q : Specification). q.items) o.1 in
+    let reached = length_scope schema 0 (entries_of s.sources) in
+    let few_entries = within.few_entries in
+    let few = few_meant (scope_of schema s) s.selected (subst HaveTables (ap (λ (sc : Scope). sc.entries) whole.1) tables) (omega (arith, reached, few_entries)) in
+    let count = ap (λ (es : List meaning.Expression). length es) is in
+    let many = length-map parts.items expression_of in
+    omega (arith, few, count, many)
 
 many_reached : (schema : List Table) (s : Select) (named : List written.Entry) (entries : List Entry) → named ≡ entries_of s.sources → AreEntries schema named entries → length entries ≡ length (entries_of s.sources)
 many_reached schema s named entries same known = ap (λ (es : List Entry). length es) known.1 ∙ length_scope schema 0 named ∙ ap (λ (es : List written.Entry). length es) same

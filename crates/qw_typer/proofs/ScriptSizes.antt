@@ -1,11 +1,11 @@
 -- A query of the grammar is typed with at most three and a half times its nodes, but for `*`. A query with NULL elsewhere than
 -- as a result of a CASE has no such bound, so the proof goes along the rules of the grammar.
-use Rattle.std.proofs.Common.{◌≡◌, ℕ, zero, suc, ◌+◌, ◌*◌, ◌≤◌, Bool, true, false, List, [], ◌∷◌, ◌++◌, Option, arith}
+use Rattle.std.proofs.Common.{◌≡◌, ℕ, zero, suc, ◌+◌, ◌*◌, ◌≤◌, Bool, true, false, List, [], ◌∷◌, ◌++◌, length, Option, arith}
 use Rattle.std.specs.List.{AllByRecursion}
 use Rattle.qw_token.specs.Token.{Lexeme}
 use Rattle.qw_scalar.specs.declared.expression.Operator.{Operator}
 use Rattle.qw_ast.specs.Syntax.{Expression, arithmetic, Condition, both, either, Clause, condition, expression, SelectItem, Selected, Joined, Source, Select}
-use Rattle.qw_ast.specs.ScriptGrammar.{Series, first, more, IsNothing, nothing, appended, arguments, IsResult, null_result, result, Branch, is_condition, IsBranch, branch, IsElse, no_else, else_result, branching, IsPrimary, a_number, a_string, a_date, a_column, a_qualified_column, brackets, a_searched_case, a_simple_case, a_coalesce, a_null_if, an_extract, a_row_count, a_set_function, IsFactor, unsigned_factor, signed_factor, IsTerm, IsValueExpression, IsPredicate, a_comparison, a_between, an_in, a_null_test, IsBooleanPrimary, predicate, condition_brackets, IsBooleanTest, no_test, a_test, IsBooleanFactor, no_negation, a_negation, IsBooleanTerm, IsSearchCondition, IsClause, IsNested, IsItem, item, IsSelectList, asterisk, some_items, IsFilter, unfiltered, filtered, IsHaving, no_having, a_having, IsJoined, a_joined, IsSource, a_source, AreSources, some_sources, IsSelect, a_select, IsSelectOf}
+use Rattle.qw_ast.specs.ScriptGrammar.{Series, first, more, IsNothing, nothing, appended, arguments, IsResult, null_result, result, Branch, is_condition, IsBranch, branch, IsElse, no_else, else_result, branching, IsPrimary, a_number, a_string, a_date, a_column, a_qualified_column, brackets, a_searched_case, a_simple_case, a_coalesce, a_null_if, an_extract, a_row_count, a_set_function, IsFactor, unsigned_factor, signed_factor, IsTerm, IsValueExpression, IsPredicate, a_comparison, a_between, an_in, a_like, a_null_test, IsBooleanPrimary, predicate, condition_brackets, IsBooleanTest, no_test, a_test, IsBooleanFactor, no_negation, a_negation, IsBooleanTerm, IsSearchCondition, IsClause, IsNested, IsItem, item, IsSelectList, asterisk, some_items, IsFilter, unfiltered, filtered, IsHaving, no_having, a_having, IsJoined, a_joined, IsSource, a_source, AreSources, some_sources, IsSelect, a_select, IsSelectOf}
 use Rattle.qw_ast.specs.Limits as script
 use Rattle.qw_typer.specs.Inner.Sizes.{nodes, weight, weight_condition, weight_clause, weight_all, weight_branches}
 use Rattle.qw_typer.proofs.WeightLemmas.{weighed}
@@ -39,7 +39,7 @@ pub record FewInSource (s : Source) : Type 0 where
 
 -- of each clause of a query
 pub record IsFewIn (s : Select) : Type 0 where
-  pub in_items : 2 * script.over_items weight (script.items_of s.selected) ≤ 7 * script.over_items script.nodes (script.items_of s.selected)
+  pub in_items : 2 * script.over_items weight (script.items_of s.selected) + 4 * length (script.items_of s.selected) ≤ 7 * script.over_items script.nodes (script.items_of s.selected)
   pub in_sources : 2 * script.over_sources weight_condition s.sources ≤ 7 * script.over_sources script.nodes_condition s.sources
   pub in_filter : 2 * script.over_filter weight_condition s.filter ≤ 7 * script.over_filter script.nodes_condition s.filter
   pub in_having : 2 * script.over_filter weight_condition s.having ≤ 7 * script.over_filter script.nodes_condition s.having
@@ -72,7 +72,7 @@ few_branches : (searched : Bool) (bs : List Branch) (other : Expression) → All
 few_branches searched [] other all last' = let few = last'.few in omega (arith, few)
 few_branches searched (b ∷ bs) other all last' = let few = all.0.few in let rest = few_branches searched bs other all.1 last' in omega (arith, few, rest)
 
-few_items : (list : List SelectItem) → AllByRecursion (λ (i : SelectItem). FewNodes i.value) list → 2 * script.over_items weight list ≤ 7 * script.over_items script.nodes list
+few_items : (list : List SelectItem) → AllByRecursion (λ (i : SelectItem). FewNodes i.value) list → 2 * script.over_items weight list + 4 * length list ≤ 7 * script.over_items script.nodes list
 few_items [] all = omega arith
 few_items (i ∷ others) all = let few = all.0.few in let rest = few_items others all.1 in omega (arith, few, rest)
 
@@ -176,6 +176,7 @@ module _ (Inner : Clause → List Lexeme → List Lexeme → Type 0) (inner : (c
       let all = list_all FewNodes (λ g ys zs i. inner (expression g) ys zs i) es ws (closing ∷ rest) are in
       let values = few_arguments e es (inner (expression e) vs ws one) all in
       record { few = omega (arith, few, values) }
+  few_predicate _ _ _ (a_like x negated word t ts us rest h n w w') = let operand = few_value x ts us h in let few = operand.few in record { few = omega (arith, few) }
   few_predicate _ _ _ (a_null_test x negated word null_word ts us rest h w n w') = let operand = few_value x ts (word ∷ us) h in let few = operand.few in record { few = omega (arith, few) }
 
   few_boolean_primary : (c : Condition) (ts rest : List Lexeme) → IsBooleanPrimary Inner c ts rest → FewNodesOf c
@@ -205,7 +206,7 @@ module _ (Inner : Clause → List Lexeme → List Lexeme → Type 0) (inner : (c
   few_item : (i : SelectItem) (ts rest : List Lexeme) → IsItem Inner i ts rest → FewNodes i.value
   few_item _ _ _ (item e name ts us rest h n) = inner (expression e) ts us h
 
-  few_selected : (selected : Selected) (ts rest : List Lexeme) → IsSelectList Inner selected ts rest → 2 * script.over_items weight (script.items_of selected) ≤ 7 * script.over_items script.nodes (script.items_of selected)
+  few_selected : (selected : Selected) (ts rest : List Lexeme) → IsSelectList Inner selected ts rest → 2 * script.over_items weight (script.items_of selected) + 4 * length (script.items_of selected) ≤ 7 * script.over_items script.nodes (script.items_of selected)
   few_selected _ _ _ (asterisk t rest star) = omega arith
   few_selected _ _ _ (some_items i others ts us rest h are) =
       let all = list_all (λ (j : SelectItem). FewNodes j.value) few_item others us rest are in
@@ -238,7 +239,7 @@ module _ (Inner : Clause → List Lexeme → List Lexeme → Type 0) (inner : (c
   few_having _ _ _ (a_having c word ts rest w h) = let one = inner (condition c) ts rest h in let few = one.few in omega (arith, few)
 
   few_select : (s : Select) (ts rest : List Lexeme) → IsSelect Inner s ts rest → IsFewIn s
-  few_select _ _ _ (a_select selected sources filter grouping having order word from ts us vs ws xs ys zs rest w all list w' froms where' groups having' order') = record {
+  few_select _ _ _ (a_select distinct selected sources filter grouping having order word from ts us vs ws xs ys zs rest w all list w' froms where' groups having' order') = record {
     in_items = few_selected selected us (from ∷ vs) list;
     in_sources = few_sources sources vs ws froms;
     in_filter = few_filter filter ws xs where';

@@ -4,7 +4,7 @@ use Rattle.std.specs.Option.{option_map_or}
 use Rattle.std.specs.List.{flat_map}
 use Rattle.std.proofs.lemmas.List.{length-append}
 use Rattle.qw_token.specs.Token.{Lexeme}
-use Rattle.qw_ast.specs.Limits.{IsQuery, items_of, nodes, nodes_condition, over_filter, over_items, over_joins, over_sources, query_nodes}
+use Rattle.qw_ast.specs.Limits.{IsQuery, items_of, nodes, nodes_condition, over_filter, over_items, over_joins, over_sources, query_nodes, starred_nodes}
 use Rattle.qw_ast.specs.ScriptGrammar as grammar
 use Rattle.qw_ast.specs.Syntax.{Clause, Condition, comparison, between, among, is_null, both, either, negation_of, is, bracketed, Joined, Selected, Select, Source}
 use Rattle.qw_typer.specs.Typed.{HasFewItems, IsWithin, conjuncts_of}
@@ -57,7 +57,7 @@ few_in_sources (s ∷ ss) =
 
 -- a select list that is written has an item
 has_items : (Inner : Clause → List Lexeme → List Lexeme → Type 0) (s : Select) (ts rest : List Lexeme) → grammar.IsSelect Inner s ts rest → length (items_of s.selected) ≤ 64 → HasFewItems s.selected
-has_items Inner _ _ _ (grammar.a_select selected sources filter grouping having order word from ts us vs ws xs ys zs rest is_select all list is_from are where_there groups having_there in_order) few = by_list selected us (from ∷ vs) list few
+has_items Inner _ _ _ (grammar.a_select distinct selected sources filter grouping having order word from ts us vs ws xs ys zs rest is_select all list is_from are where_there groups having_there in_order) few = by_list selected us (from ∷ vs) list few
   where
     by_list : (selected : Selected) (us rest : List Lexeme) → grammar.IsSelectList Inner selected us rest → length (items_of selected) ≤ 64 → HasFewItems selected
     by_list _ _ _ (grammar.asterisk t rest star) few = tt
@@ -65,7 +65,7 @@ has_items Inner _ _ _ (grammar.a_select selected sources filter grouping having 
 
 -- FROM that is written has a source
 has_source : (Inner : Clause → List Lexeme → List Lexeme → Type 0) (s : Select) (ts rest : List Lexeme) → grammar.IsSelect Inner s ts rest → 1 ≤ length s.sources
-has_source Inner _ _ _ (grammar.a_select selected sources filter grouping having order word from ts us vs ws xs ys zs rest is_select all list is_from are where_there groups having_there in_order) = by_sources sources vs ws are
+has_source Inner _ _ _ (grammar.a_select distinct selected sources filter grouping having order word from ts us vs ws xs ys zs rest is_select all list is_from are where_there groups having_there in_order) = by_sources sources vs ws are
   where
     by_sources : (sources : List Source) (vs ws : List Lexeme) → grammar.AreSources Inner sources vs ws → 1 ≤ length sources
     by_sources _ _ _ (grammar.some_sources s others ts us rest first further) = omega arith
@@ -75,7 +75,8 @@ is_within s query =
     let accepted = query.1 in
     let conjuncts_fit = few_conjuncts s.filter in
     let nodes_fit = accepted.few_nodes in
-    let all : query_nodes s ≡ over_items nodes (items_of s.selected) + (over_sources nodes_condition s.sources + (over_filter nodes_condition s.filter + (length s.grouping + over_filter nodes_condition s.having))) = refl in
+    let all : query_nodes s
+    ≡ starred_nodes s.distinct s.selected + (over_items nodes (items_of s.selected) + (over_sources nodes_condition s.sources + (over_filter nodes_condition s.filter + (length s.grouping + over_filter nodes_condition s.having)))) = refl in
     let having_fit = few_conjuncts s.having in
     let joined = few_in_sources s.sources in
     record {

@@ -1,5 +1,5 @@
 -- How large the typed trees of a query are: their nodes (Nodes), and the octets of their text literals (ISO/IEC 9075:1992, 5.3).
-use Rattle.std.specs.Prelude.{ℕ, ◌+◌, ◌*◌, ◌≤◌, List, length, sum_by}
+use Rattle.std.specs.Prelude.{◌≡◌, ℕ, true, ◌+◌, ◌*◌, ◌≤◌, List, length, sum_by}
 use Rattle.std.specs.List.{AllByRecursion, flat_map}
 use Rattle.qw_scalar.specs.declared.expression.Expr.{Expr}
 use Rattle.qw_scalar.specs.declared.expression.Cond.{Cond}
@@ -17,6 +17,7 @@ use Rattle.qw_meaning.specs.declared.query.Joined.{Joined}
 use Rattle.qw_meaning.specs.declared.query.Source.{Source}
 use Rattle.qw_grouped.specs.Query.{GroupedParts}
 use Rattle.qw_grouped.specs.declared.set_function.SetFunction.{SetFunction}
+use Rattle.qw_grouped.specs.declared.whole.WholeQuery.{WholeQuery}
 use Rattle.qw_grouped.specs.declared.whole.Body.{Body}
 use Rattle.qw_grouped.specs.declared.whole.Body.TheVariants.{Plain, Grouped}
 use Rattle.qw_typer.specs.declared.query.TypedQuery.{TypedQuery}
@@ -100,6 +101,16 @@ abbrev pub IsSmallBody : Body → Type 0
 IsSmallBody (Plain parts) = IsSmall parts
 IsSmallBody (Grouped parts) = IsSmallGrouped parts
 
+-- With DISTINCT there is room left for the items, by which rows are told apart: each counts as three nodes more, of a grouped query as two.
+abbrev pub HasRoom : Body → Type 0
+HasRoom (Plain parts) = all_nodes parts + 3 * length parts.items ≤ 4012
+HasRoom (Grouped parts) = grouped_nodes parts + 2 * length parts.items ≤ 4012
+
+-- a query, with DISTINCT or without
+pub record IsSmallWhole (query : WholeQuery) : Type 0 where
+  pub body : IsSmallBody query.body
+  pub room : query.distinct ≡ true → HasRoom query.body
+
 -- each of these queries is
 abbrev pub AreSmall : List TypedQuery → Type 0
-AreSmall typed = AllByRecursion (λ (t : TypedQuery). IsSmallBody t.query.body) typed
+AreSmall typed = AllByRecursion (λ (t : TypedQuery). IsSmallWhole t.query) typed

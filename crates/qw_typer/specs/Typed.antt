@@ -1,6 +1,6 @@
 -- What a query means over a schema's tables, with the names of its result columns and the keys of their order; or
 -- its faults (ISO/IEC 9075:1992, 6.3, 6.4, 7.4, 7.6, 7.9, 13.1).
-use Rattle.std.specs.Prelude.{◌≡◌, ◌≤◌, ◌+◌, ◌*◌, ℕ, suc, false, List, [], ◌∷◌, ◌++◌, length, map, Option, position, slice_get, unwrap_or, is_none, if◌then◌else◌, Contains, codes}
+use Rattle.std.specs.Prelude.{◌≡◌, ◌≤◌, ◌+◌, ◌*◌, ℕ, suc, List, [], ◌∷◌, ◌++◌, length, map, Option, position, slice_get, unwrap_or, is_none, if◌then◌else◌, Contains, codes}
 use Rattle.std.specs.Fmt.{decimal}
 use Rattle.std.specs.List.{flat_map, list_any}
 use Rattle.std.specs.Option.{option_and_then, option_map_or}
@@ -222,9 +222,9 @@ grouped_meant schema s = record {
   items = items_meant (scope_over schema s) s.selected;
 }
 
--- there is no DISTINCT
+-- and whether each row is kept once (7.9)
 abbrev pub whole_meant : List Table → Select → Whole
-whole_meant schema s = record { body = if is_grouped s then grouped (grouped_meant schema s) else plain (specification_meant schema s); distinct = false }
+whole_meant schema s = record { body = if is_grouped s then grouped (grouped_meant schema s) else plain (specification_meant schema s); distinct = s.distinct }
 
 -- The query has no fault, and means this one, whose result columns have these names, and these keys for the order of its rows.
 pub record Means (schema : List Table) (s : Select) (whole : Whole) (names : List (List ℕ)) (keys : List SortKey) : Type 0 where

@@ -39,10 +39,10 @@ join entry a b = record { entry = entry; on = comparison Equal a b }
 
 -- SELECT * FROM sources, and SELECT e FROM sources
 abbrev pub all_from : List Source → Select
-all_from sources = record { selected = all_columns; sources = sources; filter = None; grouping = []; having = None; order = [] }
+all_from sources = record { distinct = false; selected = all_columns; sources = sources; filter = None; grouping = []; having = None; order = [] }
 
 abbrev pub item_from : Expression → List Source → Select
-item_from e sources = record { selected = items (record { value = e; name = None } ∷ []); sources = sources; filter = None; grouping = []; having = None; order = [] }
+item_from e sources = record { distinct = false; selected = items (record { value = e; name = None } ∷ []); sources = sources; filter = None; grouping = []; having = None; order = [] }
 
 -- a result column by its name
 abbrev pub key_of : Option (List ℕ) → List ℕ → Key
@@ -54,6 +54,7 @@ sorts keys = map (λ (k : Key). record { key = k; is_descending = false }) keys
 -- SELECT A.X AS Z, B.K, 5 FROM A, B ORDER BY keys
 abbrev pub in_order : List Key → Select
 in_order keys = record {
+  distinct = false;
   selected = items (record { value = of (codes "a") (codes "x"); name = Some (codes "z") } ∷ record { value = of (codes "b") (codes "k"); name = None } ∷ record { value = number (codes "5"); name = None } ∷ []);
   sources = alone (table (codes "a")) ∷ alone (table (codes "b")) ∷ [];
   filter = None;
@@ -64,7 +65,7 @@ in_order keys = record {
 
 -- SELECT * FROM A, B ORDER BY keys
 abbrev pub all_in_order : List Key → Select
-all_in_order keys = record { selected = all_columns; sources = alone (table (codes "a")) ∷ alone (table (codes "b")) ∷ []; filter = None; grouping = []; having = None; order = sorts keys }
+all_in_order keys = record { distinct = false; selected = all_columns; sources = alone (table (codes "a")) ∷ alone (table (codes "b")) ∷ []; filter = None; grouping = []; having = None; order = sorts keys }
 
 -- the keys that the first of the two means
 abbrev pub keys_of : List Key → List SortKey

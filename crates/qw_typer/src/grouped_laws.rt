@@ -1,17 +1,18 @@
 //! Worked cases of grouped queries (ISO/IEC 9075:1992, 6.5, 7.7 to 7.9). No function here computes anything.
 
-ghost use Rattle.std.specs.Prelude.{◌≡◌, pos, true, false, [], ◌∷◌, Some, None, codes};
+ghost use Rattle.std.specs.Prelude.{◌≡◌, List, pos, true, false, [], ◌∷◌, Some, None, codes};
+ghost use Rattle.qw_types.specs.declared.schema.Table.{Table};
 ghost use Rattle.qw_types.specs.declared.value.Ty.TheVariants.{Decimal, Integer};
 ghost use Rattle.qw_scalar.specs.declared.comparison.Comparison.TheVariants.{Equal};
 ghost use Rattle.qw_scalar.specs.Expression as meaning;
 ghost use Rattle.qw_grouped.specs.declared.set_function.SetFunctionKind.TheVariants as kind;
 ghost use Rattle.qw_ast.specs.declared.script.SetFunction.TheVariants.{Avg, Sum};
-ghost use Rattle.qw_ast.specs.Syntax.{count_rows, number, set_function};
+ghost use Rattle.qw_ast.specs.Syntax.{Select, count_rows, number, set_function};
 ghost use Rattle.qw_typer.specs.declared.fault.FaultKind.TheVariants.{Clash, NestedAggregate, NotGrouped, ScaleTooLarge};
 ghost use Rattle.qw_typer.specs.Grouping.{is_grouped};
-ghost use Rattle.qw_typer.specs.Typed.{grouped_meant, query_faults, result_names, scope_over};
+ghost use Rattle.qw_typer.specs.Typed.{grouped_meant, query_faults, result_names, scope_over, whole_meant};
 ghost use Rattle.qw_typer.specs.Worked.{all_from, alone, join, table, table_as, two_tables};
-ghost use Rattle.qw_typer.specs.WorkedGroups.{all_by, by, from_t, is_one, named, one_table, where_t};
+ghost use Rattle.qw_typer.specs.WorkedGroups.{all_by, by, from_t, is_one, named, once, one_table, where_t};
 
 /// `SELECT D, COUNT(*), SUM(E) FROM T GROUP BY D HAVING COUNT(*) = 1`, whose set functions stand at the places 22, 17 and 4: the grouped table
 /// has D and behind it COUNT(*), SUM(E) and COUNT(*), and HAVING tests the last.
@@ -55,4 +56,14 @@ pub fn worked_set_functions()
     ensures text { query_faults one_table (from_t (set_function 5 Sum (named (codes "n")) ∷ []) [] None) ≡ record { kind = Clash; name = codes "N" } ∷ [] }
     ensures fifteen { query_faults one_table (from_t (set_function 5 Avg (named (codes "f")) ∷ []) [] None) ≡ record { kind = ScaleTooLarge; name = codes "F" } ∷ [] }
     ensures fourteen { query_faults one_table (from_t (set_function 5 Avg (named (codes "e")) ∷ []) [] None) ≡ [] }
+{}
+
+/// DISTINCT says of a query, grouped or not, that each of its rows is kept once, and nothing else: it adds no fault, and what the query
+/// comes to before is the same without it (7.9 "set quantifier").
+pub fn worked_distinct()
+    ensures distinct { (whole_meant one_table (once (from_t (named (codes "d") ∷ []) [] None))).distinct ≡ true }
+    ensures all { (whole_meant one_table (from_t (named (codes "d") ∷ []) [] None)).distinct ≡ false }
+    ensures grouped { (whole_meant one_table (once (from_t (named (codes "d") ∷ count_rows 7 ∷ []) (by (codes "d") ∷ []) None))).distinct ≡ true }
+    ensures body { (schema : List Table) (query : Select) → (whole_meant schema (once query)).body ≡ (whole_meant schema query).body }
+    ensures faults { (schema : List Table) (query : Select) → query_faults schema (once query) ≡ query_faults schema query }
 {}

@@ -6,6 +6,7 @@
 //! - [`fault::TypeFault`]: why a script means nothing.
 //! - [`laws`]: a query means something exactly where it has no fault; that is typed; worked cases.
 //! - [`group_laws`]: worked cases of names and set functions over a grouped table.
+//! - [`pattern_laws`]: worked cases of LIKE.
 #![tactic(auto)]
 
 mod branch;
@@ -25,6 +26,7 @@ pub mod laws;
 mod leaf;
 mod name;
 mod number;
+pub mod pattern_laws;
 pub mod query;
 mod refusal;
 mod scope;

@@ -115,13 +115,14 @@ fn plain_query<'a>(
         (λ refusal. IsOneOf refusal (query_faults schema.now (select_of statement.now))) }
     ensures fits { IfOk result (λ made. FitsBody made.query.body (select_of statement.now)) }
 {
+    let distinct = statement.distinct;
     let over = over_entries(alloc, entries, statement)?;
     let keys = keys_over(alloc, entries, &over, statement)?;
     let plain = Query::new(over.sources, over.conjuncts, over.items);
     Ok(TypedQuery {
         query: WholeQuery {
             body: Body::Plain(plain),
-            distinct: false,
+            distinct,
         },
         names: over.names,
         keys,
@@ -163,7 +164,7 @@ fn grouped_query<'a>(
     Ok(TypedQuery {
         query: WholeQuery {
             body: Body::Grouped(query),
-            distinct: false,
+            distinct: statement.distinct,
         },
         names: behind.names,
         keys,

@@ -4,6 +4,11 @@ mod DateLemmas
 pub mod DayLemmas
 pub mod DigitLemmas
 pub mod KindLemmas
+mod LikeEnds
+pub mod LikeExact
+pub mod LikeSeeking
+mod LikeSpelling
+mod LikeTaking
 pub mod NumberTextLaws
 mod NumberTextLemmas
 mod NumeralLemmas

@@ -9,9 +9,10 @@
 //! - [`value::Ty`] and [`value::Val`]: a column's type, and a value of a row.
 //! - [`kind::Kind`]: number with a scale, date or text, and that a type's values are of its kind.
 //! - [`text::Text`]: a text, which contracts see as its octets; [`text_order`]: how texts compare.
+//! - [`like::is_like`]: whether a text matches a pattern.
 //! - [`row::Row`]: the values of one row, which contracts see as a list.
 //! - [`schema::Schema`]: the declared tables, each with its columns.
-//! - [`value_order_laws`], [`like_laws`], [`worked_laws`]: laws of the order of values, and worked cases of the definitions.
+//! - [`value_order_laws`], [`like_laws`], [`worked_laws`]: laws of the order of values and of LIKE, and worked cases of the definitions.
 //!
 //! The limits on counts and the rule that names differ are kept by the types.
 #![tactic(auto)]
@@ -21,6 +22,7 @@ pub mod code;
 pub mod date_text;
 pub mod digits;
 pub mod kind;
+pub mod like;
 pub mod like_laws;
 
 pub use qw_base::memory;

@@ -42,6 +42,8 @@ tells_truth o a b fa fb = by_operator o (int_cmp a b) (related a b (int_cmp a b)
     by_operator op.LessOrEqual r all = rw (word_back a fa, word_back b fb, all.le) refl
     by_operator op.Greater r all = rw (word_back a fa, word_back b fb, all.gt) refl
     by_operator op.GreaterOrEqual r all = rw (word_back a fa, word_back b fb, all.ge) refl
+    by_operator op.Like r all = rw (all.eq) refl
+    by_operator op.NotLike r all = rw (all.eq) refl
 
 -- a number against 0, whose order that of two others is
 pub zero_told : (o : Comparison) (z : ℤ) (order : Ordering) → FitsSigned w64 z → int_cmp z (pos 0) ≡ order → relation I64 (relation_of o) (word z) 0 ≡ truth (answers o order)

@@ -23,8 +23,8 @@ pub fn relation_of(operator: Comparison) -> Relation
     ensures truth { IsTruthOf operator result }
 {
     match operator {
-        Comparison::Equal => Relation::Eq,
-        Comparison::NotEqual => Relation::Ne,
+        Comparison::Equal | Comparison::Like => Relation::Eq,
+        Comparison::NotEqual | Comparison::NotLike => Relation::Ne,
         Comparison::Less => Relation::Lt(Sign::Signed),
         Comparison::LessOrEqual => Relation::Le(Sign::Signed),
         Comparison::Greater => Relation::Gt(Sign::Signed),

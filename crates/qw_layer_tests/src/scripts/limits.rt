@@ -107,7 +107,7 @@ const KEYS: [Case; 2] = [
     ),
 ];
 
-const NODES: [Case; 13] = [
+const NODES: [Case; 15] = [
     // 498 literals, 497 operators, two columns of GROUP BY and a condition of three nodes; one column more.
     (
         &[
@@ -122,6 +122,23 @@ const NODES: [Case; 13] = [
             ("SELECT 1", 1),
             ("+1", 497),
             (" FROM t GROUP BY a, b, c HAVING COUNT(*) = 1", 1),
+        ],
+        TOO_MANY_NODES,
+    ),
+    // `*` behind DISTINCT counts as 512; 121 tests of three nodes with an AND each, and one of four; a sign more.
+    (
+        &[
+            ("SELECT DISTINCT * FROM t WHERE ", 1),
+            ("a = 1 AND ", 121),
+            ("-a = 1", 1),
+        ],
+        None,
+    ),
+    (
+        &[
+            ("SELECT DISTINCT * FROM t WHERE ", 1),
+            ("a = 1 AND ", 121),
+            ("-a = -1", 1),
         ],
         TOO_MANY_NODES,
     ),

@@ -52,6 +52,8 @@ fn comparison_octets(comparison: Comparison) -> &'static [u8] {
         Comparison::LessOrEqual => b" <= ",
         Comparison::Greater => b" > ",
         Comparison::GreaterOrEqual => b" >= ",
+        Comparison::Like => b" LIKE ",
+        Comparison::NotLike => b" NOT LIKE ",
     }
 }
 
@@ -349,6 +351,9 @@ fn put_order(out: &mut Line, order: &[SortSpecification<'_>]) {
 }
 
 fn put_statement(out: &mut Line, statement: &Statement<'_>) {
+    if statement.distinct {
+        put(out, b"DISTINCT ");
+    }
     match &statement.list {
         SelectList::All => put(out, b"*"),
         SelectList::Items(items) => put_items(out, items),

@@ -9,7 +9,7 @@ use Rattle.qw_ast.specs.declared.script.Sign.{Sign}
 use Rattle.qw_ast.specs.declared.script.SetFunction.{SetFunction}
 use Rattle.qw_ast.specs.declared.script.SetFunction.TheVariants.{Count, Sum, Avg, Min, Max}
 use Rattle.qw_ast.specs.Syntax.{Expression, null, number, text, date, column, signed, arithmetic, extract, searched_case, simple_case, coalesce, null_if, count_rows, set_function, Condition, comparison, between, among, is_null, both, either, negation_of, is, bracketed, Clause, condition, expression, Branching, SelectItem, Selected, all_columns, items, Entry, Joined, Source, Reference, Key, ordinal, result_column, SortSpecification, Select}
-use Rattle.qw_ast.specs.ScriptGrammar.{is_word, is_symbol, is_number, is_string, is_integer, is_regular, is_name, sign_of, addition_of, multiplication_of, comparison_of, field_of, set_function_of, truth_of, appended, is_comma, Dated, moved, arguments, Branch, is_condition, is_when, branching, is_and, is_or}
+use Rattle.qw_ast.specs.ScriptGrammar.{is_word, is_symbol, is_number, is_string, is_integer, is_regular, is_name, sign_of, addition_of, multiplication_of, comparison_of, field_of, set_function_of, truth_of, likeness, appended, is_comma, Dated, moved, arguments, Branch, is_condition, is_when, branching, is_and, is_or}
 
 abbrev pub Reader : Type 0 → Type 0
 Reader A = List Lexeme → Option (A × List Lexeme)
@@ -293,6 +293,9 @@ in_at inner negated x ts =
 unfoldable pub compare_at : Reader Clause → Comparison → Expression → Reader Condition
 compare_at inner op x ts = expression_at (sum_at inner) ts >>= (λ b. Some (comparison op x b.0, b.1))
 
+unfoldable pub like_at : Bool → Expression → Reader Condition
+like_at negated x ts = token_at (octets_if is_string) ts >>= (λ p. Some (comparison (likeness negated) x (text p.0), p.1))
+
 unfoldable pub null_test_at : Expression → Reader Condition
 null_test_at x ts = word_at (codes "NULL") (not_at ts).1 >>= (λ rest. Some (is_null (not_at ts).0 x, rest))
 
@@ -305,7 +308,8 @@ condition_clause (Some x) = Some (condition x.0, x.1)
 unfoldable pub ranged_at : Reader Clause → Bool → Expression → List Lexeme → Option (Option (Condition × List Lexeme))
 ranged_at inner negated x ts =
     option_map_or (λ us. Some (between_at inner negated x us)) (word_at (codes "BETWEEN") ts)
-    (option_map_or (λ us. Some (in_at inner negated x us)) (word_at (codes "IN") ts) None)
+    (option_map_or (λ us. Some (in_at inner negated x us)) (word_at (codes "IN") ts)
+    (option_map_or (λ us. Some (like_at negated x us)) (word_at (codes "LIKE") ts) None))
 
 -- a predicate that begins with the expression, or the expression alone
 unfoldable pub tail_at : Reader Clause → Expression → Reader Clause
@@ -360,6 +364,10 @@ naming_at ts =
 
 unfoldable pub item_at : Reader Clause → Reader SelectItem
 item_at inner ts = expression_at inner ts >>= (λ e. naming_at e.1 >>= (λ n. Some (record { value = e.0; name = n.0 }, n.1)))
+
+-- whether DISTINCT stands there, and the tokens behind it, behind ALL, or all of them
+unfoldable pub quantifier_at : List Lexeme → Bool × List Lexeme
+quantifier_at ts = option_map_or (λ rest. (true, rest)) (word_at (codes "DISTINCT") ts) (option_map_or (λ rest. (false, rest)) (word_at (codes "ALL") ts) (false, ts))
 
 unfoldable pub select_list_at : Reader Clause → Reader Selected
 select_list_at inner ts =
@@ -425,8 +433,8 @@ order_at ts =
 
 unfoldable pub select_at : Reader Clause → Reader Select
 select_at inner ts =
-    word_at (codes "SELECT") ts >>= (λ us. select_list_at inner (behind_all us) >>= (λ l. word_at (codes "FROM") l.1 >>= (λ vs. sources_at inner vs >>= (λ ss. filter_at inner ss.1 >>= (λ f. grouping_at f.1 >>= (λ g. having_at inner g.1 >>= (λ h. order_at h.1 >>= (λ o.
-    Some (record { selected = l.0; sources = ss.0; filter = f.0; grouping = g.0; having = h.0; order = o.0 }, o.1)))))))))
+    word_at (codes "SELECT") ts >>= (λ us. select_list_at inner (quantifier_at us).1 >>= (λ l. word_at (codes "FROM") l.1 >>= (λ vs. sources_at inner vs >>= (λ ss. filter_at inner ss.1 >>= (λ f. grouping_at f.1 >>= (λ g. having_at inner g.1 >>= (λ h. order_at h.1 >>= (λ o.
+    Some (record { distinct = (quantifier_at us).0; selected = l.0; sources = ss.0; filter = f.0; grouping = g.0; having = h.0; order = o.0 }, o.1)))))))))
 
 -- the query that all tokens are
 abbrev pub whole : Option (Select × List Lexeme) → Option Select

@@ -1,8 +1,9 @@
-//! Predicates and boolean tests (ISO/IEC 9075:1992, 8.2, 8.3, 8.4, 8.6, 8.12).
+//! Predicates and boolean tests (ISO/IEC 9075:1992, 8.2, 8.3, 8.4, 8.5, 8.6, 8.12).
 
 ghost use Rattle.std.specs.Prelude.{◌≡◌};
+ghost use Rattle.qw_ast.specs.ScriptGrammar.{likeness};
 ghost use Rattle.qw_ast.specs.SyntaxTree.{clause_of, condition_of, expression_of};
-ghost use Rattle.qw_parse.specs.Inner.Readers.{between_at, compare_at, condition_clause, expression_at, in_at, nested_at, null_test_at, predicate_at, sum_at, tail_at, test_at, truth_test_at};
+ghost use Rattle.qw_parse.specs.Inner.Readers.{between_at, compare_at, condition_clause, expression_at, in_at, like_at, nested_at, null_test_at, predicate_at, sum_at, tail_at, test_at, truth_test_at};
 ghost use Rattle.qw_parse.specs.Inner.Parser.{Reads, left};
 ghost use Rattle.qw_parse.specs.Inner.Nests.{Nests};
 
@@ -21,6 +22,28 @@ fn null_test<'a>(parser: &mut Parser<'a>, operand: Expr<'a>) -> Result<Cond<'a>,
     let negated = parser.not();
     parser.expect_word(b"NULL")?;
     Ok(Cond::IsNull(negated, boxed(parser.alloc, operand)?))
+}
+
+/// LIKE, with NOT before it or without.
+fn likeness(negated: bool) -> Comparison
+    ensures { result ≡ likeness negated }
+{
+    if negated {
+        Comparison::NotLike
+    } else {
+        Comparison::Like
+    }
+}
+
+/// Reads what stands behind `operand [NOT] LIKE`: the pattern, a character string.
+#[tactic(auto, unfolding(crate::specs::Inner::Readers::like_at))]
+fn like<'a>(parser: &mut Parser<'a>, negated: bool, operand: Expr<'a>) -> Result<Cond<'a>, Stop>
+    ensures { Reads condition_of (like_at negated (expression_of operand.entry) (left parser.old)) result (left parser.new) }
+{
+    let pattern = parser.string().ok_or(Stop::NotGrammar)?;
+    let operand = boxed(parser.alloc, operand)?;
+    let pattern = boxed(parser.alloc, Expr::Text(pattern))?;
+    Ok(Cond::Compare(likeness(negated), operand, pattern))
 }
 
 /// Reads IS and a truth value behind a condition, or nothing.
@@ -124,6 +147,10 @@ impl<'a, F: Fn(&mut Parser<'a>, usize) -> Result<Phrase<'a>, Stop>> Rules<F> {
         }
         if parser.word(b"IN") {
             let condition = self.among(parser, negated, operand)?;
+            return Ok(Phrase::Condition(condition));
+        }
+        if parser.word(b"LIKE") {
+            let condition = like(parser, negated, operand)?;
             return Ok(Phrase::Condition(condition));
         }
         if negated {

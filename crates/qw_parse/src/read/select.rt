@@ -1,11 +1,11 @@
 //! Queries (ISO/IEC 9075:1992, 7.9, 7.3, 7.4, 7.5, 7.6, 7.8; 7.7 for their groups, 13.1 for the order of their rows).
 
-ghost use Rattle.std.specs.Prelude.{option_map, map};
+ghost use Rattle.std.specs.Prelude.{◌≡◌, option_map, map};
 ghost use Rattle.qw_token.specs.Token.{lexemes};
 ghost use Rattle.qw_ast.specs.SyntaxTree.{condition_of, entry_of, expression_of, item_of, joined_of, octets_of, selected_of, source_of};
 ghost use Rattle.qw_ast.specs.SyntaxTree as tree;
 ghost use Rattle.qw_parse.specs.Inner.Readers as readers;
-ghost use Rattle.qw_parse.specs.Inner.Readers.{condition_at, entry_at, expression_at, filter_at, further_at, having_at, item_at, joined_at, joins_at, naming_at, nested_at, select_at, select_list_at, source_at, sources_at};
+ghost use Rattle.qw_parse.specs.Inner.Readers.{condition_at, entry_at, expression_at, filter_at, further_at, having_at, item_at, joined_at, joins_at, naming_at, nested_at, quantifier_at, select_at, select_list_at, source_at, sources_at};
 ghost use Rattle.qw_parse.specs.Inner.Parser.{Finds, Reads, left};
 
 use super::parser::{Parser, Stop};
@@ -178,13 +178,25 @@ impl<'a> Parser<'a> {
         Ok(sources)
     }
 
+    /// Whether DISTINCT is next; it is read then, and so is ALL.
+    #[tactic(auto, unfolding(crate::specs::Inner::Readers::quantifier_at))]
+    fn quantifier(&mut self) -> bool
+        ensures { (result, left self.new) ≡ quantifier_at (left self.old) }
+    {
+        if self.word(b"DISTINCT") {
+            return true;
+        }
+        self.word(b"ALL");
+        false
+    }
+
     /// Reads a query.
-    #[tactic(auto, unfolding(crate::specs::Inner::Readers::select_at, crate::specs::Inner::Readers::behind_all))]
+    #[tactic(auto, unfolding(crate::specs::Inner::Readers::select_at))]
     fn select(&mut self) -> Result<Statement<'a>, Stop>
         ensures { Reads tree.select_of (select_at (nested_at 33) (left self.old)) result (left self.new) }
     {
         self.expect_word(b"SELECT")?;
-        self.word(b"ALL");
+        let distinct = self.quantifier();
         let list = self.select_list()?;
         self.expect_word(b"FROM")?;
         let sources = self.sources()?;
@@ -193,6 +205,7 @@ impl<'a> Parser<'a> {
         let having = self.having()?;
         let order = self.order()?;
         Ok(Statement {
+            distinct,
             list,
             sources,
             condition,

@@ -14,8 +14,7 @@ use Rattle.qw_parse.specs.declared.fault.ParseFault.TheVariants as parsing
 use Rattle.qw_typer.specs.declared.fault.TypeFault.TheVariants as typing
 use Rattle.qw_typer.specs.declared.query.TypedQuery.{TypedQuery}
 use Rattle.qw_whole.specs.WholePromises.{items_in}
-use Rattle.qw_compile_whole.specs.WholeLimits.{IsShortBody}
-use Rattle.qw_compile_whole.specs.WholeTaken.{IsTaken}
+use Rattle.qw_compile_whole.specs.ShortQueries.{IsShortWhole}
 use Rattle.qw_bench.specs.Bench.{IsColumnIn, Program}
 use Rattle.qw_sink.specs.declared.sink.Head.{Head}
 use Rattle.qw_top.specs.Causes.{queries_mistyped, queries_refused}
@@ -47,11 +46,10 @@ pub record IsEntryOver (schema : List Table) (entry : Entry) : Type 0 where
   pub there : slice_get schema entry.table ≡ Some table
   pub columns_are : entry.columns ≡ map column_type table.columns
 
--- Each entry of its FROM is; it is one that is compiled, and it isn't too long for that.
+-- Each entry of its FROM is, and it isn't too long to be compiled.
 pub record IsOver (schema : List Table) (query : TypedQuery) : Type 0 where
   pub entries : AllByRecursion (IsEntryOver schema) (entries_of (sources_in (body_of query.query.body)))
-  pub taken : IsTaken (whole_of query.query)
-  pub short : IsShortBody query.query.body
+  pub short : IsShortWhole query.query
 
 -- a text is refused for a fault, or memory was wanted
 abbrev pub Refuses : List Table → (text : List ℕ) → QueriesFault → Type 0

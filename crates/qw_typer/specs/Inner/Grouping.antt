@@ -1,6 +1,6 @@
 -- Mirrors src/grouping.rt and grouped.rt: the columns of GROUP BY, the set functions, and what stands over the grouped table, up to the first fault
 -- that is met.
-use Rattle.std.specs.Prelude.{◌≡◌, ◌≤◌, ◌+◌, ◌*◌, ℕ, List, [], ◌∷◌, length, map, sum_by, Some, Result, Ok, Err}
+use Rattle.std.specs.Prelude.{◌≡◌, ◌≤◌, ◌+◌, ◌*◌, ℕ, List, [], ◌∷◌, length, map, sum_by, Some, Result, Ok}
 use Rattle.qw_scalar.specs.declared.expression.Expr.{Expr}
 use Rattle.qw_scalar.specs.Nodes as counted_nodes
 use Rattle.qw_scalar.specs.Expression as meaning
@@ -25,7 +25,7 @@ use Rattle.qw_grouped.specs.Query.{GroupedParts}
 use Rattle.qw_grouped.specs.declared.whole.Body.{Body}
 use Rattle.qw_grouped.specs.declared.whole.Body.TheVariants.{Plain, Grouped}
 use Rattle.qw_typer.specs.Sizes.{grouped_nodes, grouped_octets, tests_on, text_octets}
-use Rattle.qw_typer.specs.Inner.Sizes.{FitsItems, FitsQuery, FitsTests, column_count, nodes, nodes_condition, octets, octets_condition}
+use Rattle.qw_typer.specs.Inner.Sizes.{FitsItems, FitsQuery, FitsTests, column_count, most_items, nodes, nodes_condition, octets, octets_condition}
 use Rattle.qw_typer.specs.Inner.Typing.{◌>>=◌, as_function, outcome, reference_outcome, typed, typed_filter, typed_list, typed_sources}
 
 abbrev pub typed_column : List Entry → Reference → Result GroupedColumn Fault
@@ -170,5 +170,5 @@ pub record FitsGrouped (parts : GroupedParts) (s : Select) : Type 0 where
   pub octets_fit : grouped_octets parts ≤ group_octets s
 
 abbrev pub FitsBody : Body → Select → Type 0
-FitsBody (Plain parts) s = FitsQuery parts s
-FitsBody (Grouped parts) s = FitsGrouped parts s
+FitsBody (Plain parts) s = FitsQuery parts s × (length parts.items ≤ most_items s.selected)
+FitsBody (Grouped parts) s = FitsGrouped parts s × (length parts.items ≤ most_items s.selected)

@@ -141,6 +141,11 @@ abbrev pub selected_nodes : Selected → ℕ
 selected_nodes all_columns = 512
 selected_nodes (items list) = over_items nodes list
 
+-- and so many items
+abbrev pub most_items : Selected → ℕ
+most_items all_columns = 512
+most_items (items list) = length list
+
 abbrev pub query_nodes : Select → ℕ
 query_nodes s = selected_nodes s.selected + (over_sources nodes_condition s.sources + over_filter nodes_condition s.filter)
 

@@ -1,47 +1,41 @@
-use Rattle.std.proofs.Common.{◌≡◌, ◌≤◌, false, true, IfSome, IsSome, Option, List, length, ap, sym, subst, arith}
-use Rattle.qw_linear.specs.Memory.{page}
-use Rattle.qw_module.specs.declared.instruction.ValType.{ValType}
-use Rattle.qw_map.specs.Layout.{Layout, descriptor_size}
+use Rattle.std.proofs.Common.{◌≡◌, ◌≤◌, false, IfSome, IsSome, length, ap, ◌∙◌, sym, subst}
+use Rattle.std.specs.List.{concat}
+use Rattle.qw_map.specs.Layout.{Layout}
+use Rattle.qw_grouped.specs.Query.{grouped_of}
+use Rattle.qw_grouped.specs.Whole as asked
+use Rattle.qw_promise.specs.Compiled.{IsCompiled}
+use Rattle.qw_physical.proofs.Reading.{if_ok}
+use Rattle.qw_compile.specs.declared.compile.Compiled.{Compiled}
 use Rattle.qw_compile.specs.declared.query_statement.QueryStatement.{QueryStatement}
+use Rattle.qw_whole.specs.WholePromises.{promise_of_whole}
+use Rattle.qw_compile_whole.specs.FinishedModule.{IsFinishedOf}
 use Rattle.qw_compile_whole.specs.StatementOf.{IsStatementOf}
+use Rattle.qw_compile_whole.specs.WholeTexts.{texts_of_grouped}
+use Rattle.qw_compile_whole.proofs.Finishes.{both_few, finished_as}
 use Rattle.qw_compile_whole.proofs.WholeFinished.{whole_finished}
 use Rattle.qw_compile_whole.proofs.compile_grouped.compile_grouped.Goals as goal
-use Rattle.qw_compile_whole.proofs.compile_grouped.compile_grouped.Goals.{then-len-gt-MOST_STEPS-via-then-len-gt-MOST_STEPS, then-len-gt-MOST_STEPS-via-else-len-gt-MOST_STEPS+then-len-gt-MOST_LOCALS}
-
-pub returns-in_default-clause-short : goal.returns-in_default-clause-short
-returns-in_default-clause-short c = λ fits.
-    let some : false ≡ true = subst (λ (o : Option QueryStatement). IsSome o) c.in_default.is (c.in_ok-made.ensures.there fits) in
-    absurd cc
-
-pub returns-then-len-gt-MOST_STEPS-clause-short : goal.returns-then-len-gt-MOST_STEPS-clause-short
-returns-then-len-gt-MOST_STEPS-clause-short c = λ fits.
-    let made = c.in-Some.field-0 in
-    let steps = subst (λ (o : Option QueryStatement). IfSome o (λ (x : QueryStatement). length x.block.code.items ≤ 2097152)) c.in-Some.is (c.in_ok-made.ensures.short fits) in
-    let locals = subst (λ (o : Option QueryStatement). IfSome o (λ (x : QueryStatement). length x.locals.items ≤ 2097152)) c.in-Some.is (c.in_ok-made.ensures.few_locals fits) in
-    elim c.then-len-gt-MOST_STEPS.branch [
-      | then-len-gt-MOST_STEPS-via-then-len-gt-MOST_STEPS w ↦ absurd (omega (arith, w.if-len-gt-MOST_STEPS.true, c.len.ensures, made.block.code.ok.0, steps))
-      | then-len-gt-MOST_STEPS-via-else-len-gt-MOST_STEPS+then-len-gt-MOST_LOCALS w ↦ absurd (omega (arith, w.if-len-gt-MOST_LOCALS.true, w.len-else-len-gt-MOST_STEPS.ensures, made.locals.ok.0, locals))
-    ]
 
 pub returns-clause-compiled : goal.returns-clause-compiled
 returns-clause-compiled c =
-    let q = c.args.query.now in
-    let made = c.in-Some.field-0 in
-    let found = subst (λ (o : Option QueryStatement). IfSome o (λ (x : QueryStatement). IsStatementOf c.args.query.now x.layout x.block.code.items x.locals.items)) c.in-Some.is c.in_ok-made.ensures.made in
-    whole_finished c.order_laws.ensures.rows c.order_laws.ensures.same q c.sources-sources.ensures.kept c.requires.grouped c.requires.sized made.layout made.block.code.items c.deref.result.now
-    (subst (λ (l : List ValType). IsStatementOf q made.layout made.block.code.items l) (sym c.deref.ensures.value) found)
-    (subst (λ (l : Layout). descriptor_size l ≤ page) c.layout.view_is c.layout.invariant) c.requires.alike (omega (arith, c.if-len-gt-MOST_STEPS.false, c.len.ensures, made.block.code.ok.0)) c.in_ok-module.module
-    (λ s steps typed small. record {
-      runnable = c.in_ok-module.ensures.runnable s steps typed;
-      nests = c.in_ok-module.ensures.nests s steps typed;
-      no_size = c.in_ok-module.ensures.no_size s steps;
-      spelled = c.in_ok-module.ensures.spelled s steps typed small (omega (arith, c.if-len-gt-MOST_LOCALS.false, c.len-else-len-gt-MOST_STEPS.ensures, made.locals.ok.0, ap (λ (l : List ValType). length l) c.deref.ensures.value));
-      weight = c.in_ok-module.ensures.short s steps;
-      called = c.in_ok-module.ensures.light s steps;
-      runs = c.in_ok-module.ensures.runs s steps;
-    })
+    if_ok c.finish.result (λ (compiled : Compiled). IsSome c.in_ok-made.made × IfSome c.in_ok-made.made (λ (one : QueryStatement). IsFinishedOf one compiled))
+    (λ (compiled : Compiled). IsCompiled (promise_of_whole (record { body = asked.grouped (grouped_of c.args.query.now); distinct = false })) compiled.layout compiled.module)
+    (λ compiled h.
+    let f = finished_as (λ (x : QueryStatement). IsStatementOf c.args.query.now x.layout x.block.code.items x.locals.items) c.in_ok-made.made compiled c.in_ok-made.ensures.made h in
+    subst (λ (l : Layout). IsCompiled (promise_of_whole (record { body = asked.grouped (grouped_of c.args.query.now); distinct = false })) l compiled.module) (sym f.finished.layout_is)
+    (whole_finished c.order_laws.ensures.rows c.order_laws.ensures.same c.args.query.now c.sources-sources.ensures.kept c.requires.grouped c.requires.sized f.made.layout f.made.block.code.items f.made.locals.items
+    f.of f.finished.small c.requires.alike f.finished.few_steps compiled.module f.finished.is))
+    c.finish.ensures.finished
 
 pub returns-clause-texts : goal.returns-clause-texts
 returns-clause-texts c =
-    let found = subst (λ (o : Option QueryStatement). IfSome o (λ (x : QueryStatement). IsStatementOf c.args.query.now x.layout x.block.code.items x.locals.items)) c.in-Some.is c.in_ok-made.ensures.made in
-    found.made.octets_are
+    if_ok c.finish.result (λ (compiled : Compiled). IsSome c.in_ok-made.made × IfSome c.in_ok-made.made (λ (one : QueryStatement). IsFinishedOf one compiled))
+    (λ (compiled : Compiled). compiled.layout.literals ≡ concat (texts_of_grouped c.args.query.now))
+    (λ compiled h.
+    let f = finished_as (λ (x : QueryStatement). IsStatementOf c.args.query.now x.layout x.block.code.items x.locals.items) c.in_ok-made.made compiled c.in_ok-made.ensures.made h in
+    ap (λ (l : Layout). l.literals) f.finished.layout_is ∙ f.of.made.octets_are)
+    c.finish.ensures.finished
+
+pub returns-clause-short : goal.returns-clause-short
+returns-clause-short c = λ fits.
+    c.finish.ensures.short (c.in_ok-made.ensures.there fits)
+    (both_few (λ (x : QueryStatement). length x.block.code.items ≤ 2097152) (λ (x : QueryStatement). length x.locals.items ≤ 2097152) c.in_ok-made.made (c.in_ok-made.ensures.short fits) (c.in_ok-made.ensures.few_locals fits))

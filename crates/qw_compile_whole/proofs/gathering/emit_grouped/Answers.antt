@@ -1,29 +1,18 @@
-use Rattle.std.proofs.Common.{◌++◌, ℕ, List, [], map, ap, ◌∙◌, subst}
-use Rattle.qw_low.specs.declared.step.LowStep.{LowStep}
-use Rattle.qw_low.specs.Steps.{steps_of}
-use Rattle.qw_module.specs.declared.instruction.ValType.{ValType}
-use Rattle.qw_table.specs.Tables.{directory_block}
+use Rattle.std.proofs.Common.{map}
 use Rattle.qw_physical.specs.Coded.{operator_of, pipeline_of}
 use Rattle.qw_group_sink.specs.Grouping.{group_of}
-use Rattle.qw_compile.specs.Placed.{EmitsBuilds}
 use Rattle.qw_compile_whole.proofs.GatheringLengths.{grouped_short}
 use Rattle.qw_compile_whole.proofs.GatheringPlaced.{grouped_emitted}
 use Rattle.qw_compile_whole.proofs.gathering.emit_grouped.Goals as goal
 
 pub returns-clause-emits : goal.returns-clause-emits
 returns-clause-emits c =
-    let building = map pipeline_of c.args.pipelines.now in
-    grouped_emitted c.args.guard c.args.places.now c.args.first building c.args.entry (map operator_of c.args.operators.now) (group_of c.args.group.now) c.args.columns.now.key.items c.args.columns.now.values.items (pipeline_of c.args.pipeline.now)
-    c.emit_builds.new.block.code.items c.push_count_from.new.block.code.items c.emit_directory.new.block.code.items c.emit_gathering.new.block.code.items c.push_stop_at.new.block.code.items c.begin_rows.new.block.code.items c.emit_walk.new.block.code.items c.finish.new.block.code.items
-    c.emit_builds.new.own.items c.emit_gathering.new.own.items c.emit_walk.new.own.items c.in_ok-kinds.kinds.items
-    (subst (λ (own : List ValType). EmitsBuilds c.args.places.now c.args.first building [] c.emit_builds.new.block.code.items own c.emit_builds.new.own.items) c.new-own.ensures.items
-    (subst (λ (code : List LowStep). EmitsBuilds c.args.places.now c.args.first building code c.emit_builds.new.block.code.items c.new-own.result.items c.emit_builds.new.own.items) c.new-block.ensures c.in_ok-emit_builds.ensures.emits))
-    c.in_ok-push_count_from.ensures (c.in_ok-emit_directory.ensures ∙ ap (λ (x : ℕ). c.push_count_from.new.block.code.items ++ steps_of (directory_block x)) c.directory.ensures)
-    c.in_ok-emit_gathering.ensures.emits c.in_ok-push_stop_at.ensures c.in_ok-begin_rows.ensures c.in_ok-kinds.ensures.emits c.in_ok-finish.ensures c.in_ok-kinds.ensures.kinds
+    let begun = c.in_ok-block.field-0 in
+    grouped_emitted c.args.guard c.args.places.now c.args.first (map pipeline_of c.args.pipelines.now) c.args.entry (map operator_of c.args.operators.now) (group_of c.args.group.now) c.args.columns.now.key.items c.args.columns.now.values.items (pipeline_of c.args.pipeline.now)
+    begun.block.code.items c.begin_rows.new.block.code.items c.emit_walk.new.block.code.items c.finish.new.block.code.items begun.own.items c.emit_walk.new.own.items c.in_ok-kinds.kinds.items
+    c.in_ok-block.ensures.emits c.in_ok-begin_rows.ensures c.in_ok-kinds.ensures.emits c.in_ok-finish.ensures c.in_ok-kinds.ensures.kinds
 
 pub returns-clause-short : goal.returns-clause-short
 returns-clause-short c =
-    grouped_short c.args.guard _ _ _ c.args.group.now.table c.new-block.result.code.items c.emit_builds.new.block.code.items c.push_count_from.new.block.code.items c.emit_directory.new.block.code.items c.emit_gathering.new.block.code.items c.push_stop_at.new.block.code.items c.begin_rows.new.block.code.items c.emit_walk.new.block.code.items
-    c.finish.new.block.code.items c.new-own.result.items c.emit_builds.new.own.items c.emit_gathering.new.own.items c.emit_walk.new.own.items c.new-block.ensures c.new-own.ensures.items c.in_ok-emit_builds.ensures.short
-    c.in_ok-push_count_from.ensures (c.in_ok-emit_directory.ensures ∙ ap (λ (x : ℕ). c.push_count_from.new.block.code.items ++ steps_of (directory_block x)) c.directory.ensures)
-    c.in_ok-emit_gathering.ensures.short c.in_ok-push_stop_at.ensures c.in_ok-begin_rows.ensures c.in_ok-kinds.ensures.short c.in_ok-finish.ensures
+    let begun = c.in_ok-block.field-0 in
+    grouped_short _ _ begun.block.code.items c.begin_rows.new.block.code.items c.emit_walk.new.block.code.items c.finish.new.block.code.items begun.own.items c.emit_walk.new.own.items c.in_ok-block.ensures.short c.in_ok-begin_rows.ensures c.in_ok-kinds.ensures.short c.in_ok-finish.ensures

@@ -69,7 +69,7 @@ emit_parts-requires-clause-placed c =
     let n = c.len-text_count.ensures ∙ (c.in-Some.places.texts.ok.0 ∙ ap (λ (l : List (List ℕ)). length l) are.texts_are) in
     let m = c.len-word_count.ensures ∙ (c.in-Some.places.constants.ok.0 ∙ (ap (λ (l : List Constant). length l) are.constants ∙ words_many (word_start t (length ts)) (query_words all))) in
     let start = c.own_start-first.ensures ∙ ap (λ (x : ℕ). own_start t x (length cs)) (c.literal_locals.ensures ∙ ap₂ (λ (x y : ℕ). 2 * x + y) n m) in
-    are_placed t ts all cs c.in-Some.places are c.requires.few c.requires.columns c.requires.sized c.own_start-first.result start
+    are_placed t ts all cs c.in-Some.places are (omega (arith, c.requires.few)) c.requires.columns c.requires.sized c.own_start-first.result start
 
 pub emit_parts-requires-clause-can : goal.emit_parts-requires-clause-can
 emit_parts-requires-clause-can c =
@@ -163,5 +163,5 @@ returns-clause-few_locals c = λ short few once.
     ≤ sum_by (course_span c.in-Some.places.readers.items) l + 356 * (length key + length values) + walk_span (length key) (length values) p + 100) same.0 same.1 c.in_ok-block.ensures.short in
     let words = words_few ps b _ (length (query_words all)) short (few_words all) in
     few_locals t c.len-text_count.result c.len-word_count.result cs c.in_ok-block.field-0.own.items c.in_ok-locals.locals.items c.in_ok-block.field-0.block.code.items
-    (c.in_ok-locals.ensures ∙ ap (λ (l : List ValType). query_locals t c.len-text_count.result c.len-word_count.result cs l) c.deref-3.ensures.value) (omega (arith, emitted, spanned)) c.requires.few
+    (c.in_ok-locals.ensures ∙ ap (λ (l : List ValType). query_locals t c.len-text_count.result c.len-word_count.result cs l) c.deref-3.ensures.value) (omega (arith, emitted, spanned)) (omega (arith, c.requires.few))
     (omega (arith, n, few)) (omega (arith, m, words)) c.requires.columns

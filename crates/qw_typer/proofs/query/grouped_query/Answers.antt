@@ -1,4 +1,4 @@
-use Rattle.std.proofs.Common.{rules, ◌≡◌, List, map, refl, sym, ap, ◌∙◌, subst}
+use Rattle.std.proofs.Common.{rules, ◌≡◌, map, refl}
 use Rattle.std.proofs.lemmas.Result.{err_from_is_err_and}
 use Rattle.qw_grouped.specs.Query.{function_of}
 use Rattle.qw_ast.specs.Limits.{entries_of}
@@ -6,7 +6,7 @@ use Rattle.qw_ast.specs.SyntaxTree.{select_of}
 use Rattle.qw_typer.specs.Grouping.{or_rows}
 use Rattle.qw_typer.specs.Inner.Grouping.{RowsAdded, behind_of, groups_of}
 use Rattle.qw_typer.specs.Inner.Typing.{as_entries}
-use Rattle.qw_typer.proofs.GroupedFits.{grouped_fits}
+use Rattle.qw_typer.proofs.GroupedFits.{grouped_fits, grouped_items}
 use Rattle.qw_typer.proofs.MadeLemmas.{IsMade, behind_refused, group_keys_refused, grouped_means, groups_refused, made_grouped}
 use Rattle.qw_typer.proofs.QueryLemmas.{as_many}
 use Rattle.qw_typer.proofs.query.grouped_query.Goals as goal
@@ -66,7 +66,11 @@ returns-clause-fits c =
     let groups = groups_of c.in_ok-groups.groups in
     let rows : map function_of c.or_rows.new.functions.items ≡ or_rows groups.columns groups.functions.functions = search rules in
     let added : RowsAdded c.in_ok-groups.groups.functions.functions.items c.or_rows.new.functions.items = search rules in
-    rw c.new-query.ensures
-    (grouped_fits c.args.schema.now s (as_entries c.args.entries.now) c.in_ok-groups.groups c.in_ok-behind.behind (map function_of c.or_rows.new.functions.items) c.or_rows.new.functions.items
-    (record { from = c.requires.from; is = c.requires.grouped; groups_given = c.in_ok-groups.ensures.gives; behind_given = rw c.table.ensures at c.in_ok-behind.ensures.gives.0; functions_are = rows })
-    c.requires.within c.in_ok-groups.ensures.fits c.in_ok-behind.ensures.fits added)
+    let made : IsMade c.args.schema.now s (as_entries c.args.entries.now) (groups_of c.in_ok-groups.groups) (behind_of c.in_ok-behind.behind) (map function_of c.or_rows.new.functions.items) =
+    record { from = c.requires.from; is = c.requires.grouped; groups_given = c.in_ok-groups.ensures.gives; behind_given = rw c.table.ensures at c.in_ok-behind.ensures.gives.0; functions_are = rows } in
+    let few = grouped_items c.args.schema.now s (as_entries c.args.entries.now) c.in_ok-groups.groups c.in_ok-behind.behind (map function_of c.or_rows.new.functions.items) made c.requires.within in
+    rw c.new-query.ensures (
+      grouped_fits c.args.schema.now s (as_entries c.args.entries.now) c.in_ok-groups.groups c.in_ok-behind.behind (map function_of c.or_rows.new.functions.items) c.or_rows.new.functions.items
+          made c.requires.within c.in_ok-groups.ensures.fits c.in_ok-behind.ensures.fits added,
+      few,
+    )

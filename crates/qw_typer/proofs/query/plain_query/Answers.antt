@@ -1,10 +1,10 @@
-use Rattle.std.proofs.Common.{rules, ◌≡◌, refl}
+use Rattle.std.proofs.Common.{refl}
 use Rattle.std.proofs.lemmas.Result.{err_from_is_err_and}
 use Rattle.qw_ast.specs.Limits.{entries_of}
 use Rattle.qw_ast.specs.SyntaxTree.{select_of}
 use Rattle.qw_typer.specs.Inner.Queries.{parts_of}
 use Rattle.qw_typer.specs.Inner.Typing.{as_entries}
-use Rattle.qw_typer.proofs.QueryLemmas.{as_many, few_columns, keys_refused, over_refused, query_means, query_specified}
+use Rattle.qw_typer.proofs.QueryLemmas.{as_many, few_columns, keys_refused, over_refused, plain_items, query_means, query_specified}
 use Rattle.qw_typer.proofs.query.plain_query.Goals as goal
 
 pub over_entries-requires : goal.over_entries-requires
@@ -44,4 +44,8 @@ pub returns-clause-fits : goal.returns-clause-fits
 returns-clause-fits c =
     let s = select_of c.args.statement.now in
     let few = few_columns c.args.schema.now s (entries_of s.sources) (as_entries c.args.entries.now) refl (c.requires.from.faultless, c.requires.from.are) c.requires.from.tables c.requires.within in
-    rw c.new-plain.ensures (c.in_ok-over.ensures.fits few)
+    rw c.new-plain.ensures (
+      c.in_ok-over.ensures.fits few,
+      plain_items c.args.schema.now s (entries_of s.sources) (as_entries c.args.entries.now) (parts_of c.in_ok-over.over) c.requires.plain refl (c.requires.from.faultless, c.requires.from.are) c.requires.from.tables
+          c.requires.within c.in_ok-over.ensures.gives.0,
+    )

@@ -33,7 +33,7 @@ loop-rest-preserved c =
       queries = queries.1;
       meant = meant_kept schema all rest others statement c.loop-rest.made.items c.push.new.self.items c.in-Ok.typed first more c.in-Ok.ensures.means c.loop-rest.invariant.meant;
       first = faults_kept schema all rest others statement c.loop-rest.made.items c.push.new.self.items c.in-Ok.typed first more c.in-Ok.ensures.means.faultless c.loop-rest.invariant.first;
-      small = small_kept (select_of statement) c.loop-rest.made.items c.push.new.self.items c.in-Ok.typed more queries.0 c.in-Ok.ensures.fits c.loop-rest.invariant.small;
+      small = small_kept schema (select_of statement) c.loop-rest.made.items c.push.new.self.items c.in-Ok.typed more queries.0 c.in-Ok.ensures.means c.in-Ok.ensures.fits c.loop-rest.invariant.small;
     }
 
 pub returns-clause-meanings : goal.returns-clause-meanings

@@ -1,7 +1,8 @@
-use Rattle.std.proofs.Common.{sym, ◌∙◌}
+use Rattle.std.proofs.Common.{sym, ◌∙◌, arith}
 use Rattle.qw_types.specs.declared.kind.Kind.TheVariants as kind
 use Rattle.qw_scalar.specs.Typing.{kind_of}
-use Rattle.qw_low.proofs.Appended.{if_ok}
+use Rattle.qw_low.proofs.Appended.{if_ok, on_ok}
+use Rattle.qw_expr.proofs.Extents.{comparing_least}
 use Rattle.qw_expr.proofs.Comparable.{dates_of, numbers_of, some_is, texts_of}
 use Rattle.qw_expr.proofs.emitter.Emitter.compare.Goals as goal
 
@@ -28,3 +29,9 @@ returns-in-Some-Text-clause-emits c =
     (λ out does known a b start mid typed low ea eb.
     let textual = sym ea.computes.kind_is ∙ first in
     does known a b start mid typed textual (texts_of (kind_of a) (kind_of b) textual typed.1) low ea eb) c.compare_texts.ensures.emits
+
+pub returns-in-Some-Date-clause-short : goal.returns-in-Some-Date-clause-short
+returns-in-Some-Date-clause-short c = on_ok _ _ c.compare_dates.result (λ few. omega (arith, few, comparing_least c.args.operator)) c.compare_dates.ensures.short
+
+pub returns-in-Some-Number-clause-short : goal.returns-in-Some-Number-clause-short
+returns-in-Some-Number-clause-short c = on_ok _ _ c.compare_numbers.result (λ few. omega (arith, few, comparing_least c.args.operator)) c.compare_numbers.ensures.short

@@ -1,5 +1,6 @@
-use Rattle.std.proofs.Common.{sym}
+use Rattle.std.proofs.Common.{sym, arith}
 use Rattle.qw_scalar.specs.Expression.{comparison}
+use Rattle.qw_expr.proofs.Extents.{comparing_most}
 use Rattle.qw_expr.proofs.Tests.{relation_tests, truth_tests}
 use Rattle.qw_expr.proofs.emitter.Emitter.test_comparison.Goals as goal
 
@@ -9,3 +10,6 @@ returns-then-is_one_relation-clause-emits c known a b start mid typed low ea eb 
 
 pub returns-clause-emits : goal.returns-clause-emits
 returns-clause-emits c known a b start mid typed low ea eb = truth_tests known (comparison c.args.operator a b) start c.compare.new.self c.in_ok-t.t (c.in_ok-t.ensures.emits known a b start mid typed low ea eb)
+
+pub returns-clause-short : goal.returns-clause-short
+returns-clause-short c = omega (arith, c.in_ok-t.ensures.short, comparing_most c.args.operator)

@@ -1,4 +1,5 @@
-use Rattle.std.proofs.Common.{◌∙◌, refl}
+use Rattle.std.proofs.Common.{◌∙◌, refl, arith}
+use Rattle.qw_expr.proofs.Extents.{texts_comparing}
 use Rattle.qw_expr.proofs.TextDecisions.{text_adds}
 use Rattle.qw_expr.proofs.emitter.Emitter.text_compared.Goals as goal
 
@@ -8,3 +9,7 @@ returns-clause-emits c = text_adds c.args.operator c.args.left c.args.right c.ar
     (c.in_ok-end_unless.ensures.same.0 ∙ c.in_ok-text_test.ensures.same.0 ∙ c.in_ok-begin_zero.ensures.same.0 ∙ c.in_ok-null.ensures.same.0)
     (c.in_ok-end_unless.ensures.same.1 ∙ c.in_ok-text_test.ensures.same.1 ∙ c.in_ok-begin_zero.ensures.same.1 ∙ c.in_ok-null.ensures.same.1)
     c.in_ok-null.ensures.null c.in_ok-null.ensures.code c.in_ok-begin_zero.ensures.code c.in_ok-text_test.ensures.code.1 c.in_ok-end_unless.ensures.code c.in_ok-text_test.ensures.code.2 refl
+
+pub returns-clause-short : goal.returns-clause-short
+returns-clause-short c =
+    omega (arith, c.in_ok-to.ensures.short, c.in_ok-null.ensures.short, c.in_ok-begin_zero.ensures.short, c.in_ok-text_test.ensures.short, c.in_ok-end_unless.ensures.short, texts_comparing c.args.operator)

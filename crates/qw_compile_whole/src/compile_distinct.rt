@@ -1,0 +1,45 @@
+//! From a query with DISTINCT that isn't grouped to its module (ISO/IEC 9075:1992, 7.9).
+
+ghost use Rattle.std.specs.Prelude.{◌≡◌, ◌≤◌, true, length, IfOk, IfErr};
+ghost use Rattle.std.specs.List.{AllByRecursion, concat};
+ghost use Rattle.qw_types.specs.Value.{IsSized};
+ghost use Rattle.qw_types.specs.declared.schema.ColumnType as schema;
+ghost use Rattle.qw_meaning.specs.Query.{query_of};
+ghost use Rattle.qw_meaning.specs.Select as specified;
+ghost use Rattle.qw_meaning.specs.Select.{entries_of};
+ghost use Rattle.qw_grouped.specs.Whole as asked;
+ghost use Rattle.qw_promise.specs.Compiled.{IsCompiled};
+ghost use Rattle.qw_emit.specs.Alike.{AreAlike};
+ghost use Rattle.qw_compile.specs.WrittenTexts.{texts_of_query};
+ghost use Rattle.qw_compile.specs.declared.compile.CompileFault.TheVariants as faults;
+ghost use Rattle.qw_whole.specs.WholePromises.{promise_of_whole};
+ghost use Rattle.qw_compile_whole.specs.DistinctLimits.{IsShortDistinct};
+
+use crate::finish::finish;
+use crate::plain_distinct::statement_of_plain_distinct;
+use qw_compile::compile::{CompileFault, Compiled};
+use qw_meaning::query::Query;
+use qw_types::value_order_laws::order_laws;
+use std::alloc::Global;
+
+/// The module that runs a query with DISTINCT, and its layout: its columns are those that the query reads, its literals the query's texts. Each row of the select
+/// list goes into a hash table of all its values, and the walk over that one makes the result.
+///
+/// # Errors
+///
+/// [`CompileFault::TooLong`] where more than 2^21 steps would be compiled, or as many locals, or the literals are too many or too long: never of a query whose
+/// trees have at most 4,012 nodes, an item of the select list counted as three more, and whose text literals have at most 16,384 octets;
+/// [`CompileFault::NoMemory`] where memory does not suffice.
+pub(crate) fn compile_distinct(alloc: Global, query: &Query) -> Result<Compiled, CompileFault>
+    requires some { AllByRecursion (λ (e : specified.Entry). 1 ≤ length e.columns) (entries_of (query_of query.now).sources) }
+    requires sized { AllByRecursion (λ (e : specified.Entry). AllByRecursion (λ (c : schema.ColumnType). IsSized c.ty) e.columns) (entries_of (query_of query.now).sources) }
+    requires alike { AreAlike (entries_of (query_of query.now).sources) }
+    ensures compiled { IfOk result (λ compiled. IsCompiled (promise_of_whole (record { body = asked.plain (query_of query.now); distinct = true })) compiled.layout compiled.module) }
+    ensures texts { IfOk result (λ compiled. compiled.layout.literals ≡ concat (texts_of_query query.now)) }
+    ensures short { IsShortDistinct query.now → IfErr result (λ fault. fault ≡ faults.NoMemory) }
+{
+    // That rows which aren't distinct are the same row is what the bounds on hash tables rest on.
+    order_laws();
+    let made = statement_of_plain_distinct(alloc, query)?;
+    finish(alloc, made)
+}

@@ -1,0 +1,64 @@
+-- Ten reports on the shop with LEFT JOIN (ISO/IEC 9075:1992, 7.5).
+-- left.report has the answers of PostgreSQL 15.18 over the same rows, in the form of docs/FORMATS.md: quotients and averages cut off at the scales of
+-- docs/LANGUAGE.md, numbers printed at these, nulls below all values, texts by their octets (its collation C).
+
+-- 1. Customers without an order
+SELECT C.ID, C.NAME, C.JOINED
+FROM CUSTOMERS C LEFT JOIN ORDERS O ON O.CUSTOMER = C.ID
+WHERE O.ID IS NULL
+ORDER BY C.JOINED, C.ID;
+
+-- 2. The orders of each Danish customer, none too
+SELECT C.NAME, COUNT(O.ID) AS ORDERS, MAX(O.ORDERED) AS LATEST
+FROM CUSTOMERS C LEFT OUTER JOIN ORDERS O ON O.CUSTOMER = C.ID
+WHERE C.COUNTRY = 'DK'
+GROUP BY C.ID, C.NAME
+ORDER BY ORDERS DESC, C.NAME;
+
+-- 3. Items that nobody ordered
+SELECT ITEMS.ID, TITLE, STOCK
+FROM ITEMS LEFT JOIN LINES ON ITEM = ITEMS.ID
+WHERE ITEM IS NULL;
+
+-- 4. Shipped orders for which nothing was paid
+SELECT O.ID, C.NAME, O.SHIPPED
+FROM ORDERS O JOIN CUSTOMERS C ON C.ID = O.CUSTOMER LEFT JOIN PAYMENTS P ON P.ORDER_ID = O.ID
+WHERE P.ID IS NULL AND O.SHIPPED IS NOT NULL
+ORDER BY O.SHIPPED, O.ID;
+
+-- 5. Each customer of 2024 with the one who brought them, or a dash
+SELECT C.NAME, COALESCE(R.NAME, '–') AS REFERRER
+FROM CUSTOMERS C LEFT JOIN CUSTOMERS R ON R.ID = C.REFERRER
+WHERE C.JOINED >= DATE '2024-01-01'
+ORDER BY C.NAME;
+
+-- 6. Paper goods with what was sold of them in 2024, also where nothing was: the condition on the year stands in ON
+SELECT I.TITLE, COUNT(O.ID) AS ORDERS, COALESCE(SUM(CASE WHEN O.ID IS NOT NULL THEN L.QUANTITY END), 0) AS PIECES
+FROM ITEMS I
+LEFT JOIN LINES L ON L.ITEM = I.ID
+LEFT JOIN ORDERS O ON O.ID = L.ORDER_ID AND EXTRACT(YEAR FROM O.ORDERED) = 2024
+WHERE I.CATEGORY = 'paper'
+GROUP BY I.TITLE
+ORDER BY PIECES DESC, I.TITLE;
+
+-- 7. Countries with their customers and how many orders of 2024 they placed
+SELECT C.COUNTRY, COUNT(O.ID) AS ORDERS, SUM(O.FREIGHT) AS FREIGHT
+FROM CUSTOMERS C LEFT JOIN ORDERS O ON O.CUSTOMER = C.ID AND O.ORDERED >= DATE '2024-01-01'
+GROUP BY C.COUNTRY;
+
+-- 8. Orders of more than two lines, with the payments that came for them, if any
+SELECT O.ID, O.STATUS, P.PAID, P.AMOUNT
+FROM ORDERS O JOIN LINES L ON L.ORDER_ID = O.ID AND L.LINE = 3 LEFT JOIN PAYMENTS P ON P.ORDER_ID = O.ID
+ORDER BY O.ID, P.PAID, P.AMOUNT;
+
+-- 9. Businesses whose latest word is long ago: no order since 2024 began
+SELECT C.NAME, C.COUNTRY, C.CREDIT
+FROM CUSTOMERS C LEFT JOIN ORDERS O ON C.ID = O.CUSTOMER AND O.ORDERED > DATE '2023-12-31'
+WHERE C.SEGMENT = 'business' AND O.ORDERED IS NULL
+ORDER BY C.NAME;
+
+-- 10. Customers brought by others, what they ordered, and what was paid for it
+SELECT R.NAME AS REFERRER, C.NAME AS CUSTOMER, COUNT(P.ID) AS PAYMENTS, COALESCE(SUM(P.AMOUNT), 0) AS PAID
+FROM CUSTOMERS R JOIN CUSTOMERS C ON C.REFERRER = R.ID LEFT JOIN ORDERS O ON O.CUSTOMER = C.ID LEFT JOIN PAYMENTS P ON P.ORDER_ID = O.ID
+GROUP BY R.NAME, C.NAME
+ORDER BY PAID DESC, CUSTOMER;
