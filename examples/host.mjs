@@ -79,7 +79,8 @@ class Query {
     do {
       this.reached = [];
       this.entry(schema);
-      while (this.take("INNER", "JOIN")) {
+      while (this.take("INNER", "LEFT", "JOIN")) {
+        this.take("OUTER");
         this.take("JOIN");
         this.entry(schema);
         this.take("ON");
@@ -91,7 +92,7 @@ class Query {
   entry(schema) {
     const table = schema.find(({ name }) => name === fold(this.tokens[this.at]));
     this.next();
-    const isAlias = this.take("AS") || (this.at < this.tokens.length && !this.is(",", "INNER", "JOIN", "ON", "WHERE", "GROUP", "HAVING", "ORDER"));
+    const isAlias = this.take("AS") || (this.at < this.tokens.length && !this.is(",", "INNER", "LEFT", "JOIN", "ON", "WHERE", "GROUP", "HAVING", "ORDER"));
     const entry = { number: this.entries.length, name: isAlias ? fold(this.next()) : table.name, table };
     this.entries.push(entry);
     this.reached.push(entry);
@@ -277,13 +278,16 @@ function statementsOf(text) {
   return statements.filter((tokens) => tokens.length > 0);
 }
 
+// The records behind the first. A line without any octet is none, but `""` is a record of one empty field.
 function recordsOf(text) {
   const records = [[]];
   for (const [, quoted, plain, end] of text.replace(/^\uFEFF/, "").matchAll(/(?:"((?:[^"]|"")*)"|([^",\r\n]*))(,|\r\n|\n|\r|$)/g)) {
+    const isEmptyLine = records.at(-1).length === 0 && plain === "" && end !== ",";
+    if (isEmptyLine) continue;
     records.at(-1).push(quoted === undefined ? plain : quoted.replaceAll('""', '"'));
     if (end !== ",") records.push([]);
   }
-  return records.filter((fields) => fields.length > 1 || fields[0]).slice(1);
+  return records.slice(1).filter((fields) => fields.length > 0);
 }
 
 // ---- columns

@@ -16,7 +16,7 @@ is_of entries i = list_any (λ entry. nat_eq entry (owner i)) entries
 abbrev pub entries_below : Node → List ℕ
 entries_below (scan entry table) = entry ∷ []
 entries_below (filter conjuncts below) = entries_below below
-entries_below (join left right on keys) = entries_below left ++ entries_below right
+entries_below (join outer left right on keys) = entries_below left ++ entries_below right
 entries_below (project below items) = entries_below below
 
 -- whether a column is one of a plan's rows

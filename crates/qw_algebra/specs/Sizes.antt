@@ -15,7 +15,7 @@ use Rattle.qw_algebra.specs.declared.plan.Plan.TheVariants.{Scan, Filter', Join'
 abbrev pub plan_size : (of_expression : Expr → ℕ) (of_condition : Cond → ℕ) → Plan → ℕ
 plan_size of_expression of_condition (Scan entry table) = 0
 plan_size of_expression of_condition (Filter' conjuncts _ below) = sum_by of_condition conjuncts.items + plan_size of_expression of_condition below
-plan_size of_expression of_condition (Join' _ left _ right on keys build) =
+plan_size of_expression of_condition (Join' outer _ left _ right on keys build) =
     (plan_size of_expression of_condition left + plan_size of_expression of_condition right) + sum_by of_condition on.items
 plan_size of_expression of_condition (Project' _ below items) = plan_size of_expression of_condition below + sum_by of_expression items.items
 

@@ -4,7 +4,7 @@ use Rattle.qw_types.specs.declared.value.Ty.TheVariants.{Integer}
 use Rattle.qw_scalar.specs.declared.comparison.Comparison.TheVariants.{Greater}
 use Rattle.qw_scalar.specs.Expression.{Condition, column, comparison, number}
 use Rattle.qw_meaning.specs.Select.{Specification, alone}
-use Rattle.qw_meaning.specs.WorkedQueries.{a_joined_b, is_next, items_entry, one_column, quotient_above_six}
+use Rattle.qw_meaning.specs.WorkedQueries.{a_joined_b, a_left_joined_b, is_next, items_entry, one_column, quotient_above_six}
 
 -- A.ID > 2
 abbrev pub above_two : Condition
@@ -22,6 +22,14 @@ next_items = record {
 abbrev pub beside_nothing : Specification
 beside_nothing = record {
   sources = alone items_entry ∷ alone (one_column 2) ∷ [];
+  conjuncts = quotient_above_six 0 ∷ [];
+  items = column 0 Integer ∷ [];
+}
+
+-- SELECT A.K FROM A LEFT JOIN B ON A.K = B.K + 1 WHERE 10 / (A.K - 1) > 6
+abbrev pub left_joined_above : Specification
+left_joined_above = record {
+  sources = a_left_joined_b 1 (is_next 0 64) ∷ [];
   conjuncts = quotient_above_six 0 ∷ [];
   items = column 0 Integer ∷ [];
 }

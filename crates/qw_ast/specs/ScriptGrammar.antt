@@ -358,18 +358,24 @@ pub data IsFilter (Inner : Clause → List Lexeme → List Lexeme → Type 0) : 
 pub data IsEntry : Entry → List Lexeme → List Lexeme → Type 0 where
   an_entry : (t : Lexeme) (alias : Option (List ℕ)) (us rest : List Lexeme) → IsTrue (is_regular t) → IsNaming alias us rest → IsEntry (record { table = t.octets; alias = alias }) (t ∷ us) rest
 
--- JOIN, behind INNER or not (7.5)
-pub data IsJoin : Unit {0} → List Lexeme → List Lexeme → Type 0 where
-  a_join : (t : Lexeme) (rest : List Lexeme) → IsTrue (is_word (codes "JOIN") t) → IsJoin tt (t ∷ rest) rest
-  an_inner_join : (word t : Lexeme) (rest : List Lexeme) → IsTrue (is_word (codes "INNER") word) → IsTrue (is_word (codes "JOIN") t) → IsJoin tt (word ∷ t ∷ rest) rest
+-- a join type and JOIN: whether it is outer (7.5). JOIN and INNER JOIN are one, and so are LEFT JOIN and LEFT OUTER JOIN.
+pub data IsJoin : Bool → List Lexeme → List Lexeme → Type 0 where
+  a_join : (t : Lexeme) (rest : List Lexeme) → IsTrue (is_word (codes "JOIN") t) → IsJoin false (t ∷ rest) rest
+  an_inner_join : (word t : Lexeme) (rest : List Lexeme) → IsTrue (is_word (codes "INNER") word) → IsTrue (is_word (codes "JOIN") t) → IsJoin false (word ∷ t ∷ rest) rest
+  a_left_join : (word t : Lexeme) (rest : List Lexeme) → IsTrue (is_word (codes "LEFT") word) → IsTrue (is_word (codes "JOIN") t) → IsJoin true (word ∷ t ∷ rest) rest
+  a_left_outer_join : (word outer t : Lexeme) (rest : List Lexeme) → IsTrue (is_word (codes "LEFT") word) → IsTrue (is_word (codes "OUTER") outer) → IsTrue (is_word (codes "JOIN") t) → IsJoin true (word ∷ outer ∷ t ∷ rest) rest
 
 -- what stands behind JOIN: a table reference, and ON with a condition (7.5)
-pub data IsJoined (Inner : Clause → List Lexeme → List Lexeme → Type 0) : Joined → List Lexeme → List Lexeme → Type 0 where
-  a_joined : (e : Entry) (c : Condition) (word : Lexeme) (ts us rest : List Lexeme) → IsEntry e ts (word ∷ us) → IsTrue (is_word (codes "ON") word) → Inner (condition c) us rest → IsJoined Inner (record { entry = e; on = c }) ts rest
+pub data IsJoined (Inner : Clause → List Lexeme → List Lexeme → Type 0) : Entry × Condition → List Lexeme → List Lexeme → Type 0 where
+  a_joined : (e : Entry) (c : Condition) (word : Lexeme) (ts us rest : List Lexeme) → IsEntry e ts (word ∷ us) → IsTrue (is_word (codes "ON") word) → Inner (condition c) us rest → IsJoined Inner (e, c) ts rest
+
+-- one more join, outer or not, of an entry on a condition
+abbrev pub with_join : Bool → List Joined → Entry × Condition → List Joined
+with_join outer js j = js ++ record { entry = j.0; outer = outer; on = j.1 } ∷ []
 
 -- any number of joins, each joined to all that stands before it (7.5)
 abbrev pub AreJoins : Rule Clause → Rule (List Joined)
-AreJoins Inner js ts rest = Series IsNothing IsJoin (IsJoined Inner) appended js ts rest
+AreJoins Inner js ts rest = Series IsNothing IsJoin (IsJoined Inner) with_join js ts rest
 
 -- a table reference, and what is joined to it (7.4, 7.5)
 pub data IsSource (Inner : Clause → List Lexeme → List Lexeme → Type 0) : Source → List Lexeme → List Lexeme → Type 0 where

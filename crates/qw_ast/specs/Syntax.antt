@@ -85,6 +85,8 @@ pub record Entry : Type 0 where
 -- JOIN entry ON condition (7.5)
 pub record Joined : Type 0 where
   pub entry : Entry
+  -- whether LEFT stands before JOIN, so that it is an outer join (7.5 "join type")
+  pub outer : Bool
   pub on : Condition
 
 -- what stands between two commas of FROM: an entry, and those joined to it from left to right (7.4, 7.5)

@@ -81,7 +81,7 @@ abbrev pub entry_of : coded_entry.Entry → Entry
 entry_of e = record { table = e.table.now; alias = octets_of e.alias }
 
 abbrev pub joined_of : coded_join.Joined → Joined
-joined_of j = record { entry = entry_of j.entry; on = condition_of j.on }
+joined_of j = record { entry = entry_of j.entry; outer = j.outer; on = condition_of j.on }
 
 abbrev pub source_of : coded_source.Source → Source
 source_of s = record { first = entry_of s.first; joins = map joined_of s.joins.items }

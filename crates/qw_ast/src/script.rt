@@ -137,10 +137,12 @@ pub struct Entry<'a> {
     pub alias: Option<&'a [u8]>,
 }
 
-/// `JOIN entry ON condition` (7.5).
+/// `[INNER] JOIN entry ON condition` or `LEFT [OUTER] JOIN entry ON condition` (7.5 "join type").
 #[derive(Drop)]
 pub struct Joined<'a> {
     pub entry: Entry<'a>,
+    /// Whether it is LEFT.
+    pub outer: bool,
     pub on: Cond<'a>,
 }
 

@@ -69,8 +69,8 @@ kept_few query entries =
 abbrev cells : Node → ℕ
 cells node = length (conjuncts_of node) + 64 * length (entries_below node)
 
-cells_join : (left right : Node) (on : List Condition) (keys : List ℕ) → cells (join left right on keys) ≡ (cells left + cells right) + length on
-cells_join left right on keys =
+cells_join : (outer : Bool) (left right : Node) (on : List Condition) (keys : List ℕ) → cells (join outer left right on keys) ≡ (cells left + cells right) + length on
+cells_join outer left right on keys =
     summed (length ((conjuncts_of left ++ conjuncts_of right) ++ on)) (length (conjuncts_of left ++ conjuncts_of right)) (length (conjuncts_of left)) (length (conjuncts_of right)) (length on)
     (length (entries_below left ++ entries_below right)) (length (entries_below left)) (length (entries_below right))
     (length-append (conjuncts_of left ++ conjuncts_of right) on) (length-append (conjuncts_of left) (conjuncts_of right)) (length-append (entries_below left) (entries_below right))
@@ -98,13 +98,13 @@ greatest_less query (filter conjuncts below) clean =
     let rest = greatest_less query below clean in
     let more = cells_filter conjuncts below in
     omega (arith, rest, more)
-greatest_less query (join left right on keys) clean =
+greatest_less query (join outer left right on keys) clean =
     let own = entry_less query right (clean && is_quiet left) clean left on in
     let first = greatest_less query left clean in
     let second = greatest_less query right (clean && is_quiet left) in
-    let all = cells_join left right on keys in
+    let all = cells_join outer left right on keys in
     three (entry_octets (kept_by query) (keyed (clean && is_quiet left) right) (keys_of_join clean left right on)) (greatest_entry (kept_by query) (keyed clean left)) (greatest_entry (kept_by query) (keyed (clean && is_quiet left) right))
-    (length on) (length (entries_below right)) (cells left) (length (conjuncts_of right)) (cells (join left right on keys)) own first second all
+    (length on) (length (entries_below right)) (cells left) (length (conjuncts_of right)) (cells (join outer left right on keys)) own first second all
   where
     three : (entry l r on below left cs whole : ℕ) → entry ≤ 24 + 16 * (on + 64 * below) → l ≤ 24 + 16 * left → r ≤ 24 + 16 * (cs + 64 * below) → whole ≡ (left + (cs + 64 * below)) + on → max entry (max l r) ≤ 24 + 16 * whole
     three entry l r on below left cs whole a b c e = omega (arith, a, b, c, e)
@@ -115,10 +115,10 @@ greatest_less query (project below items) clean = greatest_less query below clea
 joins_cells : (joins : List Joined) (next : ℕ) (node : Node) → cells (with_joins next node joins) ≡ cells node + (length (flat_map (λ (j : Joined). j.on) joins) + 64 * length joins)
 joins_cells [] next node = omega arith
 joins_cells (j ∷ joins) next node =
-    let rest = joins_cells joins (next + 1) (join node (scan next j.entry.table) j.on []) in
-    let here = cells_join node (scan next j.entry.table) j.on [] in
+    let rest = joins_cells joins (next + 1) (join j.outer node (scan next j.entry.table) j.on []) in
+    let here = cells_join j.outer node (scan next j.entry.table) j.on [] in
     let all : length (j.on ++ flat_map (λ (i : Joined). i.on) joins) ≡ length j.on + length (flat_map (λ (i : Joined). i.on) joins) = length-append j.on (flat_map (λ (i : Joined). i.on) joins) in
-    summed (cells (with_joins (next + 1) (join node (scan next j.entry.table) j.on []) joins)) (cells (join node (scan next j.entry.table) j.on [])) (length (flat_map (λ (i : Joined). i.on) joins)) (length joins) (cells node) (length j.on)
+    summed (cells (with_joins (next + 1) (join j.outer node (scan next j.entry.table) j.on []) joins)) (cells (join j.outer node (scan next j.entry.table) j.on [])) (length (flat_map (λ (i : Joined). i.on) joins)) (length joins) (cells node) (length j.on)
     (length (j.on ++ flat_map (λ (i : Joined). i.on) joins)) rest here all
   where
     summed : (whole a r n c o t : ℕ) → whole ≡ a + (r + 64 * n) → a ≡ (c + 64) + o → t ≡ o + r → whole ≡ c + (t + 64 * suc n)
@@ -152,11 +152,11 @@ one_more source sources =
 sources_cells : (sources : List Source) (next : ℕ) (node : Node) → cells (with_sources next node sources) ≡ cells node + all_cells sources
 sources_cells [] next node = omega arith
 sources_cells (source ∷ sources) next node =
-    let rest = sources_cells sources (next + length (entries_in source)) (join node (source_written next source) [] []) in
-    let here = cells_join node (source_written next source) [] [] in
+    let rest = sources_cells sources (next + length (entries_in source)) (join false node (source_written next source) [] []) in
+    let here = cells_join false node (source_written next source) [] [] in
     let own = source_cells source next in
     let all = one_more source sources in
-    summed (cells (with_sources (next + length (entries_in source)) (join node (source_written next source) [] []) sources)) (cells (join node (source_written next source) [] [])) (all_cells sources) (cells node) (cells (source_written next source)) (own_cells source)
+    summed (cells (with_sources (next + length (entries_in source)) (join false node (source_written next source) [] []) sources)) (cells (join false node (source_written next source) [] [])) (all_cells sources) (cells node) (cells (source_written next source)) (own_cells source)
     (all_cells (source ∷ sources)) rest here own all
   where
     summed : (whole a r c s o t : ℕ) → whole ≡ a + r → a ≡ (c + s) + 0 → s ≡ o → t ≡ o + r → whole ≡ c + t

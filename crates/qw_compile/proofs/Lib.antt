@@ -8,6 +8,7 @@ pub mod Finished
 pub mod Greatest
 pub mod KeptBounds
 pub mod KeptColumns
+pub mod InRows
 mod KeysFew
 pub mod Laid
 pub mod LeavesFew

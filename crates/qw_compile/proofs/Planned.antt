@@ -1,5 +1,5 @@
 -- What is planned of a query over any tables of its entries, by what its columns and its pipelines are said to be; and which pipelines build tables.
-use Rattle.std.proofs.Common.{◌≡◌, ◌≢◌, ◌∙◌, ◌⊎◌, inl, inr, ◌≤◌, ℕ, zero, suc, ◌+◌, ◌*◌, ◌/◌, ◌%◌, ◌==◌, ◌||◌, eqb, if◌then◌else◌, Bool, true, false, Some, slice_get, List, [], ◌∷◌, ◌++◌, length, append_assoc, map, refl, sym, ap, ap₂, subst, arith}
+use Rattle.std.proofs.Common.{◌≡◌, ◌≢◌, ◌∙◌, ◌⊎◌, inl, inr, ◌≤◌, ℕ, zero, suc, ◌+◌, ◌/◌, ◌%◌, ◌==◌, ◌||◌, eqb, Bool, true, false, Some, slice_get, List, [], ◌∷◌, ◌++◌, length, append_assoc, map, refl, sym, ap, ap₂, subst, arith}
 use Rattle.std.specs.List.{AllByRecursion, AllZip, IsDistinct, list_any}
 use Rattle.std.proofs.lemmas.List.{length-map}
 use Rattle.std.proofs.lemmas.Option.{same_Some}
@@ -8,14 +8,13 @@ use Rattle.qw_types.specs.declared.schema.ColumnType.{ColumnType}
 use Rattle.qw_types.specs.declared.value.Ty.{Ty}
 use Rattle.qw_types.specs.declared.value.Val.{Val}
 use Rattle.qw_meaning.specs.Query.{QueryParts, query_of}
-use Rattle.qw_meaning.specs.Select.{AreOfEntries, Entry, IsOfEntry, Source, entries_of}
+use Rattle.qw_meaning.specs.Select.{AreOfEntries, Entry, IsOfEntry, Source, entries_in_rows, entries_of}
 use Rattle.qw_algebra.specs.Node.{Node}
 use Rattle.qw_algebra.proofs.Lists.{all_more, all_of_any}
 use Rattle.qw_pipe.specs.Pipes as pipes
 use Rattle.qw_pipe.specs.Pipes.{pipelines}
 use Rattle.qw_physical.specs.Coded.{pipeline_of}
 use Rattle.qw_physical.specs.Named.{IsDeclared, and_firsts, columns_of_entries, declared_at, numbers, typed_numbers}
-use Rattle.qw_physical.specs.Named as named
 use Rattle.qw_physical.specs.Physical.{Pipeline}
 use Rattle.qw_physical.specs.Sides.{IsOfEntries, IsPlanned, builds_of, column_in, last_of}
 use Rattle.qw_physical.specs.Spelled.{IsSamePipeline, all_spelled}
@@ -24,7 +23,7 @@ use Rattle.qw_physical.specs.declared.pipeline.ReadColumn.{ReadColumn}
 use Rattle.qw_physical.proofs.QueryFew.{AreSizedColumns}
 use Rattle.qw_physical.proofs.QueryScans.{ScansOne}
 use Rattle.qw_physical.proofs.Reading.{same_number}
-use Rattle.qw_physical.proofs.Results.{column_by_lists, in_order}
+use Rattle.qw_physical.proofs.Results.{in_order}
 use Rattle.qw_physical.proofs.Scaled.{query_scaled}
 use Rattle.qw_physical.proofs.Shown.{IsAmong, IsColumn, Within, at_either, behind, front_is, none_among}
 use Rattle.qw_operator.proofs.PairRows.{AreDistinct}
@@ -32,15 +31,13 @@ use Rattle.qw_compile.specs.QueryPasses.{ArePipelinesOf}
 use Rattle.qw_compile.specs.QueryColumns.{AreColumnsOf}
 use Rattle.qw_compile.specs.QueryMade.{CanStand}
 use Rattle.qw_compile.specs.WrittenTexts.{texts_of_query}
+use Rattle.qw_compile.proofs.InRows.{IsTypedIn, declared_of, typed_in_rows}
 use Rattle.qw_compile.proofs.QueryCan.{IsReadyPipeline, query_ready, query_scans, query_stands}
 use Rattle.qw_compile.proofs.ScansCounted.{pipelines_counted}
 use Rattle.qw_compile.proofs.TextsWithin.{texts_within}
 use Rattle.qw_physical.proofs.Firsts.{firsts_kept}
 
 -- ---- columns of entries
-
-declared_of : (entries : List Entry) (c : ReadColumn) → IsDeclared (columns_of_entries entries) c → IsOfEntries entries c
-declared_of entries c h = column_by_lists named.column_in (λ j. refl) (λ list j. refl) entries (c.number / 64) (c.number % 64) ∙ h
 
 one_sized : (columns : List ColumnType) (k : ℕ) (c : ColumnType) → AllByRecursion (λ (d : ColumnType). IsSized d.ty) columns → slice_get columns k ≡ Some c → IsSized c.ty
 one_sized [] k c h e = absurd cc
@@ -58,10 +55,20 @@ are_sized entries columns sized declared =
     all_more (IsDeclared (columns_of_entries entries)) (λ (c : ReadColumn). IsSized c.ty) columns
     (λ c h. entry_sized entries (c.number / 64) (c.number % 64) (record { ty = c.ty; not_null = c.not_null }) sized (declared_of entries c h)) declared
 
+-- those that rows have are of the same sizes
+pub kept_sized : (sources : List Source) (columns : List ReadColumn) → AllByRecursion (λ (e : Entry). AllByRecursion (λ (c : ColumnType). IsSized c.ty) e.columns) (entries_of sources)
+    → AllByRecursion (IsDeclared (columns_of_entries (entries_in_rows sources))) columns → AreSizedColumns columns
+kept_sized sources columns sized declared =
+    all_more (IsDeclared (columns_of_entries (entries_in_rows sources))) (λ (c : ReadColumn). IsSized c.ty) columns
+    (λ c h.
+    let typed = typed_in_rows sources c h in
+    let own : ReadColumn = record c { not_null = typed.0 } in
+    entry_sized (entries_of sources) (c.number / 64) (c.number % 64) (record { ty = c.ty; not_null = typed.0 }) sized (declared_of (entries_of sources) own typed.1)) declared
+
 -- ---- columns that are named are among those that are read
 
 -- a column of a number that is there is there with its type
-found : (all : List (List ColumnType)) (columns : List ReadColumn) (c : ReadColumn) → AllByRecursion (IsDeclared all) columns → IsDeclared all c → list_any (λ (j : ℕ). j == c.number) (numbers columns) ≡ true
+found : (all : List (List ColumnType)) (columns : List ReadColumn) (c : ReadColumn) → AllByRecursion (IsDeclared all) columns → IsTypedIn all c → list_any (λ (j : ℕ). j == c.number) (numbers columns) ≡ true
     → IsAmong (typed_numbers columns) c.number c.ty
 found all [] c declared own there = absurd cc
 found all (d ∷ columns) c declared own there = one (d.number == c.number) refl there (λ later. found all columns c declared.1 own later)
@@ -71,7 +78,7 @@ found all (d ∷ columns) c declared own there = one (d.number == c.number) refl
 
     same : d.number ≡ c.number → IsColumn d c.number c.ty
     same e =
-        let types : made d ≡ made c = same_Some (made d) (made c) (sym declared.0 ∙ (ap (declared_at all) e ∙ own)) in
+        let types : made d ≡ record { ty = c.ty; not_null = own.0 } = same_Some (made d) (record { ty = c.ty; not_null = own.0 }) (sym declared.0 ∙ (ap (declared_at all) e ∙ own.1)) in
         ap₂ (λ (i : ℕ) (ty : Ty). (i, ty)) e (ap (λ (x : ColumnType). x.ty) types)
 
     one : (b : Bool) → (d.number == c.number) ≡ b → (b || list_any (λ (j : ℕ). j == c.number) (numbers columns)) ≡ true
@@ -92,7 +99,7 @@ itself (x ∷ front) i back = one (x == i) (itself front i back)
 
 module _ (all : List (List ColumnType)) (columns : List ReadColumn) (declared : AllByRecursion (IsDeclared all) columns) where
   -- each of a list is there whose numbers all are
-  all_within : (kept : List ReadColumn) → AllByRecursion (IsDeclared all) kept → AllByRecursion (λ (c : ReadColumn). list_any (λ (j : ℕ). j == c.number) (numbers columns) ≡ true) kept → Within kept columns
+  all_within : (kept : List ReadColumn) → AllByRecursion (IsTypedIn all) kept → AllByRecursion (λ (c : ReadColumn). list_any (λ (j : ℕ). j == c.number) (numbers columns) ≡ true) kept → Within kept columns
   all_within [] own there i ty h = absurd (none_among (i, ty) h)
   all_within (c ∷ kept) own there i ty h =
       one (at_either (c.number, c.ty) (typed_numbers kept) (i, ty) h) (λ g. all_within kept own.1 there.1 i ty g)
@@ -112,7 +119,8 @@ numbers_there ns count front (c ∷ kept) is = (
 pub named_within : (parts : QueryParts) (kept columns : List ReadColumn) → AreColumnsOf parts kept columns → Within kept columns
 named_within parts kept columns are =
     let entries : List Entry = entries_of (query_of parts).sources in
-    all_within (columns_of_entries entries) columns are.declared kept are.kept_declared
+    all_within (columns_of_entries entries) columns are.declared kept
+    (all_more (IsDeclared (columns_of_entries (entries_in_rows (query_of parts).sources))) (IsTypedIn (columns_of_entries entries)) kept (typed_in_rows (query_of parts).sources) are.kept_declared)
     (numbers_there (numbers columns) (length entries) [] kept (are.read ∙ ap (λ (l : List ℕ). and_firsts l 0 (length entries)) (sym are.named)))
 
 -- ---- columns once
@@ -174,13 +182,16 @@ module _ (parts : QueryParts) (kept columns : List ReadColumn) (made : List code
   abbrev entries : List Entry
   entries = entries_of (query_of parts).sources
 
+  abbrev rows : List Entry
+  rows = entries_in_rows (query_of parts).sources
+
   -- over any tables of the query's entries
   pub planned : (tables : List (List (List Val))) → AreOfEntries (entries_of (query_of parts).sources) tables → IsPlanned (query_of parts) tables kept of.node
   planned tables loaded = record {
     specification = are.specification;
     loaded = loaded;
     sized = are.sized;
-    there = all_more (IsDeclared (columns_of_entries entries)) (IsOfEntries entries) kept (λ c h. declared_of entries c h) are.kept_declared;
+    there = all_more (IsDeclared (columns_of_entries rows)) (IsOfEntries rows) kept (λ c h. declared_of rows c h) are.kept_declared;
     read = are.reads;
     scaled = query_scaled parts are.specification;
     placed = of.placed;
@@ -195,17 +206,17 @@ module _ (parts : QueryParts) (kept columns : List ReadColumn) (made : List code
   -- with the query's texts
   pub all_stand : (count : ℕ) → AllByRecursion (λ (q : coded.Pipeline). CanStand count (texts_of_query parts) made columns (pipeline_of q)) made
   all_stand count =
-      query_stands (query_of parts) kept columns of.node over_none are.on are.conjuncts are.items are.kept_few (are_sized entries kept are.sized are.kept_declared)
+      query_stands (query_of parts) kept columns of.node over_none are.on are.conjuncts are.items are.kept_few (kept_sized (query_of parts).sources kept are.sized are.kept_declared)
       (named_within parts kept columns are) are.each count (texts_of_query parts) made (texts_within parts kept made of) of.follow of.typed
 
   -- and wherever literals are
   pub all_ready : AllByRecursion (IsReadyPipeline kept columns) (map pipeline_of made)
   all_ready =
-      query_ready (query_of parts) kept columns of.node over_none are.on are.conjuncts are.items are.kept_few (are_sized entries kept are.sized are.kept_declared) are.each (map pipeline_of made) of.follow of.typed
+      query_ready (query_of parts) kept columns of.node over_none are.on are.conjuncts are.items are.kept_few (kept_sized (query_of parts).sources kept are.sized are.kept_declared) are.each (map pipeline_of made) of.follow of.typed
 
   pub all_scan : AllByRecursion (ScansOne (entries_of (query_of parts).sources)) (map pipeline_of made)
   all_scan =
-      query_scans (query_of parts) kept columns of.node over_none are.on are.conjuncts are.items are.kept_few (are_sized entries kept are.sized are.kept_declared)
+      query_scans (query_of parts) kept columns of.node over_none are.on are.conjuncts are.items are.kept_few (kept_sized (query_of parts).sources kept are.sized are.kept_declared)
       (map pipeline_of made) of.follow
 
   -- one for each entry of FROM

@@ -35,13 +35,14 @@ use Rattle.qw_physical.specs.declared.pipeline.Sink as coded_sink
 use Rattle.qw_physical.specs.declared.pipeline.Sink.TheVariants as sinks
 use Rattle.qw_physical.specs.Courses.{column_of, sink_values}
 use Rattle.qw_physical.specs.Named.{typed_numbers}
-use Rattle.qw_physical.specs.Physical.{Operator, Pipeline, Sink, build, filter as filter_by, probe, select}
+use Rattle.qw_physical.specs.Physical.{MayBeNull, Operator, Pipeline, Sink, build, filter as filter_by, probe, select}
 use Rattle.qw_physical.specs.Typed.{IsTypedOperator, IsTypedPhysical, IsTypedSink, IsValued}
 use Rattle.qw_physical.specs.declared.pipeline.ReadColumn.{ReadColumn}
 use Rattle.qw_physical.specs.Follows.{FollowsPipeline}
 use Rattle.qw_physical.specs.Sides.{IsPlanned, builds_of, last_of}
 use Rattle.qw_physical.specs.Spelled.{all_spelled}
 use Rattle.qw_physical.proofs.QueryFew.{AreSizedColumns, IsFewCourse, IsFewOf, IsFewSink, few_follows, query_builds_few, query_last_few}
+use Rattle.qw_physical.proofs.QueryNulls.{nulls_follow, query_builds_nulls, query_last_nulls}
 use Rattle.qw_physical.proofs.QueryScans.{ScansOne, query_builds_scan, query_last_scans, scans_follow}
 use Rattle.qw_physical.proofs.QuerySeen.{builds_seen, last_seen, seen_follows}
 use Rattle.qw_physical.proofs.Reading.{same_number}
@@ -151,6 +152,23 @@ columns_leaves P any (c ∷ kept) = (any c.number c.ty, columns_leaves P any kep
 
 -- ---- a pipeline
 
+-- Keys and kept columns are few, and those that a LEFT JOIN's entries keep may be null.
+abbrev pub IsCarriable : Operator → Type 0
+IsCarriable (filter_by cs) = Unit {0}
+IsCarriable (probe p) = (length p.key ≤ 1000) × (length p.kept ≤ 512) × AreSized p.kept × MayBeNull (probe p)
+
+pub record CanBeCarried (p : Pipeline) : Type 0 where
+  pub operators : AllByRecursion IsCarriable p.operators
+  pub sink : IsFewSink 1000 512 p.sink
+
+carriable : (operators : List Operator) → AllByRecursion (IsFewOf 1000 512) operators → AllByRecursion MayBeNull operators → AllByRecursion IsCarriable operators
+carriable [] few nulls = tt
+carriable (filter_by cs ∷ operators) few nulls = (tt, carriable operators few.1 nulls.1)
+carriable (probe p ∷ operators) few nulls = ((few.0.0, few.0.1, few.0.2, nulls.0), carriable operators few.1 nulls.1)
+
+carried : (p : Pipeline) → IsFewCourse 1000 512 p → AllByRecursion MayBeNull p.operators → CanBeCarried p
+carried p few nulls = record { operators = carriable p.operators few.operators nulls; sink = few.sink }
+
 module _ (P : Leaf → Type 0) (any : (i : ℕ) (ty : Ty) → P (leaf.Column i ty)) where
   sink_can : (known : List Known) (seen : List ReadColumn) → Gives P known → KnowsAll known seen → (sink : Sink) → IsTypedSink sink → SinkLeaves P sink → CanSink sink → AllByRecursion (Shows seen) (sink_values sink)
       → AllByRecursion (IsValueOver known) (sink_values sink)
@@ -161,7 +179,7 @@ module _ (P : Leaf → Type 0) (any : (i : ℕ) (ty : Ty) → P (leaf.Column i t
   sink_can known seen gives has (select items) typed leaves can shows = values_over P known seen gives has items typed leaves shows
 
   pub can_carry : (operators : List Operator) (sink : Sink) (known : List Known) (seen : List ReadColumn) → Gives P known → KnowsAll known seen
-      → AllByRecursion IsTypedOperator operators → IsTypedSink sink → AllByRecursion (OperatorLeaves P) operators → SinkLeaves P sink → AllByRecursion (IsFewOf 1000 512) operators → CanSink sink
+      → AllByRecursion IsTypedOperator operators → IsTypedSink sink → AllByRecursion (OperatorLeaves P) operators → SinkLeaves P sink → AllByRecursion IsCarriable operators → CanSink sink
       → Sees seen operators (sink_values sink) → CanCarry known operators sink
   can_carry [] sink known seen gives has typed typed_sink leaves leaves_sink few can sees = (sink_can known seen gives has sink typed_sink leaves_sink can sees, can)
   can_carry (filter_by cs ∷ operators) sink known seen gives has typed typed_sink leaves leaves_sink few can sees =
@@ -325,7 +343,7 @@ few_sink (select items) h = h
 
 -- `kept` are columns that the pipeline may name, and `columns` those that are read, each of `kept` among them
 pub can_stand : (tables : ℕ) (ts : List (List ℕ)) (ps : List coded.Pipeline) (kept columns : List ReadColumn) (p : coded.Pipeline) → Within kept columns → AllByRecursion (IsLiteralOf (literals_by tables (length columns) ts ps)) (pipeline_leaves p)
-    → 1 ≤ length (of_entry p.entry columns) → IsTypedPhysical (pipeline_of p) → IsFewCourse 1000 512 (pipeline_of p) → IsSeen kept (pipeline_of p) → CanStand tables ts ps columns (pipeline_of p)
+    → 1 ≤ length (of_entry p.entry columns) → IsTypedPhysical (pipeline_of p) → CanBeCarried (pipeline_of p) → IsSeen kept (pipeline_of p) → CanStand tables ts ps columns (pipeline_of p)
 can_stand tables ts ps kept columns p within leaves some typed few seen =
     let L : List Known = literals_by tables (length columns) ts ps in
     let rs : List Reader = readers_over p.entry (readers_by tables ts ps columns) in
@@ -345,7 +363,7 @@ can_stand tables ts ps kept columns p within leaves some typed few seen =
     }
 
 abbrev pub IsReadyPipeline : (kept columns : List ReadColumn) → Pipeline → Type 0
-IsReadyPipeline kept columns p = (1 ≤ length (of_entry p.entry columns)) × (IsTypedPhysical p × (IsFewCourse 1000 512 p × IsSeen kept p))
+IsReadyPipeline kept columns p = (1 ≤ length (of_entry p.entry columns)) × (IsTypedPhysical p × (CanBeCarried p × IsSeen kept p))
 
 pub all_stand : (tables : ℕ) (ts : List (List ℕ)) (ps : List coded.Pipeline) (kept columns : List ReadColumn) → AllByRecursion (Contains ts) (query_texts ps) → Within kept columns → AllByRecursion (IsReadyPipeline kept columns) (map pipeline_of ps)
     → AllByRecursion (λ (q : coded.Pipeline). CanStand tables ts ps columns (pipeline_of q)) ps
@@ -404,23 +422,28 @@ module _ (query : Specification) (kept columns : List ReadColumn) (node : Node) 
   abbrev entries : List Entry
   entries = entries_of query.sources
 
+  abbrev IsFewNull : Pipeline → Type 0
+  IsFewNull p = IsFewCourse 1000 512 p × AllByRecursion MayBeNull p.operators
+
   abbrev IsFine : Pipeline → Type 0
-  IsFine p = ScansOne entries p × (IsFewCourse 1000 512 p × IsSeen kept p)
+  IsFine p = ScansOne entries p × (IsFewNull p × IsSeen kept p)
 
   spelled_fine : AllByRecursion IsFine (all_spelled kept 0 (pipelines node))
   spelled_fine =
       subst (AllByRecursion IsFine) (sym (in_order kept node))
       (all_append IsFine (builds_of kept node) (last_of kept node ∷ [])
-      (all_pairs (ScansOne entries) (λ p. IsFewCourse 1000 512 p × IsSeen kept p) (builds_of kept node) (query_builds_scan query [] kept node planned)
-      (all_pairs (IsFewCourse 1000 512) (IsSeen kept) (builds_of kept node) (query_builds_few query [] kept node planned many fit) (builds_seen query [] kept node planned on conjuncts items)))
-      ((query_last_scans query [] kept node planned, (query_last_few query [] kept node planned many fit, last_seen query [] kept node planned on conjuncts items)), tt))
+      (all_pairs (ScansOne entries) (λ p. IsFewNull p × IsSeen kept p) (builds_of kept node) (query_builds_scan query [] kept node planned)
+      (all_pairs IsFewNull (IsSeen kept) (builds_of kept node)
+      (all_pairs (IsFewCourse 1000 512) (λ p. AllByRecursion MayBeNull p.operators) (builds_of kept node) (query_builds_few query [] kept node planned many fit) (query_builds_nulls query [] kept node planned))
+      (builds_seen query [] kept node planned on conjuncts items)))
+      ((query_last_scans query [] kept node planned, ((query_last_few query [] kept node planned many fit, query_last_nulls query [] kept node planned), last_seen query [] kept node planned on conjuncts items)), tt))
 
   -- so each of the code's is ready
   pub query_ready : HasEach columns (length entries) → (qs : List Pipeline) → AllZip FollowsPipeline (all_spelled kept 0 (pipelines node)) qs → AllByRecursion IsTypedPhysical qs → AllByRecursion (IsReadyPipeline kept columns) qs
   query_ready each qs follow typed =
       let fine : AllByRecursion IsFine qs =
-      zip_all FollowsPipeline IsFine IsFine (λ p q z h. (scans_follow entries p q z h.0, (few_follows 1000 512 p q z h.1.0, seen_follows kept p q z h.1.1))) (all_spelled kept 0 (pipelines node)) qs follow spelled_fine in
-      all_more (λ p. IsFine p × IsTypedPhysical p) (IsReadyPipeline kept columns) qs (λ p h. (scan_some entries columns each p h.0.0, (h.1, h.0.1)))
+      zip_all FollowsPipeline IsFine IsFine (λ p q z h. (scans_follow entries p q z h.0, ((few_follows 1000 512 p q z h.1.0.0, nulls_follow p q z h.1.0.1), seen_follows kept p q z h.1.1))) (all_spelled kept 0 (pipelines node)) qs follow spelled_fine in
+      all_more (λ p. IsFine p × IsTypedPhysical p) (IsReadyPipeline kept columns) qs (λ p h. (scan_some entries columns each p h.0.0, (h.1, (carried p h.0.1.0.0 h.0.1.0.1, h.0.1.1))))
       (all_pairs IsFine IsTypedPhysical qs fine typed)
 
   -- and can stand

@@ -1,5 +1,5 @@
 -- How many pipelines and tables a query has: a pipeline for each entry of FROM, of which all but one build a table.
-use Rattle.std.proofs.Common.{◌≡◌, ◌∙◌, ◌≤◌, ℕ, suc, ◌+◌, List, [], ◌∷◌, ◌++◌, length, length-append, map, refl, ap, arith}
+use Rattle.std.proofs.Common.{◌≡◌, ◌∙◌, ◌≤◌, ℕ, suc, ◌+◌, false, List, [], ◌∷◌, ◌++◌, length, length-append, map, refl, ap, arith}
 use Rattle.qw_meaning.specs.Select.{IsSpecification, Joined, Source, Specification, entries_in, entries_of}
 use Rattle.qw_algebra.specs.Columns.{entries_below}
 use Rattle.qw_algebra.specs.Node.{Node, scan, filter, join, project}
@@ -13,7 +13,7 @@ use Rattle.qw_pipe.specs.Pipes.{Lookup, pipelines, split, to_table}
 tables_less : (node : Node) → suc (table_count node) ≡ length (entries_below node)
 tables_less (scan entry table) = refl
 tables_less (filter conjuncts below) = tables_less below
-tables_less (join left right on keys) =
+tables_less (join outer left right on keys) =
     let first = tables_less right in
     let second = tables_less left in
     let scans = length-append (entries_below left) (entries_below right) in
@@ -23,9 +23,9 @@ tables_less (project below items) = tables_less below
 builds_less : (node : Node) (next : ℕ) → suc (length (split next node).builds) ≡ length (entries_below node)
 builds_less (scan entry table) next = refl
 builds_less (filter conjuncts below) next = builds_less below next
-builds_less (join left right on keys) next =
+builds_less (join outer left right on keys) next =
     let m : ℕ = next + length (split next right).builds in
-    let lookup : Lookup = record { entries = entries_below right; on = on; keys = keys } in
+    let lookup : Lookup = record { entries = entries_below right; outer = outer; on = on; keys = keys } in
     let first = builds_less right next in
     let second = builds_less left (m + 1) in
     let both = length-append (split next right).builds (record (split next right).last { target = to_table lookup } ∷ (split (m + 1) left).builds) in
@@ -36,7 +36,7 @@ builds_less (project below items) next = builds_less below next
 joins_scan : (joins : List Joined) (next : ℕ) (node : Node) → length (entries_below (with_joins next node joins)) ≡ length (entries_below node) + length (map (λ (j : Joined). j.entry) joins)
 joins_scan [] next node = omega arith
 joins_scan (j ∷ joins) next node =
-    let rest = joins_scan joins (next + 1) (join node (scan next j.entry.table) j.on []) in
+    let rest = joins_scan joins (next + 1) (join j.outer node (scan next j.entry.table) j.on []) in
     let one : length (entries_below node ++ next ∷ []) ≡ length (entries_below node) + 1 = length-append (entries_below node) (next ∷ []) in
     omega (arith, rest, one)
 
@@ -46,7 +46,7 @@ source_scans source next = let rest = joins_scan source.joins (next + 1) (scan n
 sources_scan : (sources : List Source) (next : ℕ) (node : Node) → length (entries_below (with_sources next node sources)) ≡ length (entries_below node) + length (entries_of sources)
 sources_scan [] next node = omega arith
 sources_scan (source ∷ sources) next node =
-    let rest = sources_scan sources (next + length (entries_in source)) (join node (source_written next source) [] []) in
+    let rest = sources_scan sources (next + length (entries_in source)) (join false node (source_written next source) [] []) in
     let one = length-append (entries_below node) (entries_below (source_written next source)) in
     let own = source_scans source next in
     let all : length (entries_of (source ∷ sources)) ≡ length (entries_in source) + length (entries_of sources) = length-append (entries_in source) (entries_of sources) in

@@ -25,7 +25,7 @@ few_sink (sink.Build b) can = let kept : length b.kept.items ≤ 512 = can.1 in 
 few_sink (sink.Select items) can = omega (arith, many_nodes items.items)
 
 pub few_operators : (os : List Operator) (s : Sink) (known : List Known) → CanCarry known (map operator_of os) (sink_of s)
-    → span os s ≤ 420 * (sum_by (operator_size nodes nodes_of) os + sink_size nodes s) + 338 * sum_by keys_of_operator os + 185 * keys_of_sink s + 12900 * sum_by one_lookup os + 6756
+    → span os s ≤ 420 * (sum_by (operator_size nodes nodes_of) os + sink_size nodes s) + 338 * sum_by keys_of_operator os + 185 * keys_of_sink s + 13924 * sum_by one_lookup os + 6756
 few_operators [] s known can = let own = few_sink s can.1 in omega (arith, own)
 few_operators (operator.Filter cs ∷ os) s known can =
     let rest = few_operators os s known can.1 in
@@ -55,12 +55,12 @@ pub record CanBe (p : Pipeline) : Type 0 where
   pub takes : CanCarry known (map operator_of p.operators.items) (sink_of p.sink)
 
 few_steps : (readers : List Reader) (p : Pipeline) → CanBe p → length (readers_over p.entry readers) ≤ 64
-    → course_span readers p ≤ 420 * size nodes nodes_of p + 338 * keys_sought p + 185 * keys_built p + 12900 * lookups p + 16008
+    → course_span readers p ≤ 420 * size nodes nodes_of p + 338 * keys_sought p + 185 * keys_built p + 13924 * lookups p + 16008
 few_steps readers p can few = let own = few_operators p.operators.items p.sink can.known can.takes in omega (arith, own, few)
 
 -- ---- all of them
 pub all_steps : (readers : List Reader) → ((entry : ℕ) → length (readers_over entry readers) ≤ 64) → (ps : List Pipeline) → AllByRecursion CanBe ps
-    → sum_by (course_span readers) ps ≤ 420 * sum_by (size nodes nodes_of) ps + 338 * sum_by keys_sought ps + 185 * sum_by keys_built ps + 12900 * sum_by lookups ps + 16008 * length ps
+    → sum_by (course_span readers) ps ≤ 420 * sum_by (size nodes nodes_of) ps + 338 * sum_by keys_sought ps + 185 * sum_by keys_built ps + 13924 * sum_by lookups ps + 16008 * length ps
 all_steps readers few [] can = omega arith
 all_steps readers few (p ∷ ps) can =
     let rest = all_steps readers few ps can.1 in
@@ -76,5 +76,5 @@ all_steps readers few (p ∷ ps) can =
       sum_by-cons lookups p ps,
     )
 
-pub short_steps : (readers : List Reader) → ((entry : ℕ) → length (readers_over entry readers) ≤ 64) → (ps : List Pipeline) → AllByRecursion CanBe ps → AreShort ps → sum_by (course_span readers) ps ≤ 2006404
+pub short_steps : (readers : List Reader) → ((entry : ℕ) → length (readers_over entry readers) ≤ 64) → (ps : List Pipeline) → AllByRecursion CanBe ps → AreShort ps → sum_by (course_span readers) ps ≤ 2013572
 short_steps readers few ps can short = let all = all_steps readers few ps can in omega (arith, all, short.few_nodes, short.few_keys, short.matched, short.few_lookups, short.few)

@@ -22,13 +22,13 @@ module _ (kept more : List ℕ → ℕ) (less : (entries : List ℕ) → kept en
   greatest_less : (node : Node) → greatest_entry kept node ≤ greatest_entry more node
   greatest_less (scan entry table) = omega arith
   greatest_less (filter conjuncts below) = greatest_less below
-  greatest_less (join left right on keys) = let a = greatest_less left in let b = greatest_less right in let c = entry_less right keys in omega (arith, a, b, c)
+  greatest_less (join outer left right on keys) = let a = greatest_less left in let b = greatest_less right in let c = entry_less right keys in omega (arith, a, b, c)
   greatest_less (project below items) = greatest_less below
 
   octets_less : (tables : List (List (List Val))) (node : Node) → table_octets kept tables node ≤ table_octets more tables node
   octets_less tables (scan entry table) = omega arith
   octets_less tables (filter conjuncts below) = octets_less tables below
-  octets_less tables (join left right on keys) =
+  octets_less tables (join outer left right on keys) =
       let a = octets_less tables left in
       let b = octets_less tables right in
       let c = product_less (length (node_flow tables right).rows) (entry_octets kept right keys) (entry_octets more right keys) (entry_less right keys) in

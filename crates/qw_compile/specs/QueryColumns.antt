@@ -1,4 +1,5 @@
--- The columns that a query names, which entries of hash tables keep, and those that it reads, of which each entry of FROM has one.
+-- The columns that a query names, which entries of hash tables keep as rows of FROM have them, NOT NULL or not (ISO/IEC 9075:1992, 7.5); and those
+-- that it reads as they are declared, of which each entry of FROM has one.
 use Rattle.std.specs.Prelude.{◌≡◌, ◌≤◌, ◌<◌, ◌==◌, ℕ, eqb, true, Contains, List, length}
 use Rattle.std.specs.List.{AllByRecursion, IsDistinct, list_any}
 use Rattle.qw_types.specs.Value.{IsSized}
@@ -6,7 +7,7 @@ use Rattle.qw_types.specs.declared.schema.ColumnType.{ColumnType}
 use Rattle.qw_types.specs.declared.value.Ty.{Ty}
 use Rattle.qw_scalar.specs.Columns.{HasColumns, HaveColumns}
 use Rattle.qw_meaning.specs.Query.{QueryParts, query_of}
-use Rattle.qw_meaning.specs.Select.{Entry, IsSpecification, conjuncts_on, entries_of}
+use Rattle.qw_meaning.specs.Select.{Entry, IsSpecification, conjuncts_on, entries_in_rows, entries_of}
 use Rattle.qw_algebra.specs.Columns.{owner}
 use Rattle.qw_physical.specs.Named.{IsDeclared, and_firsts, columns_of_entries, named_by, numbers, typed_numbers}
 use Rattle.qw_physical.specs.Reads.{AreRead}
@@ -21,7 +22,7 @@ pub record AreColumnsOf (parts : QueryParts) (kept columns : List ReadColumn) : 
   pub sized : AllByRecursion (λ (e : Entry). AllByRecursion (λ (c : ColumnType). IsSized c.ty) e.columns) (entries_of (query_of parts).sources)
   -- those that are named
   pub named : numbers kept ≡ named_by parts
-  pub kept_declared : AllByRecursion (IsDeclared (columns_of_entries (entries_of (query_of parts).sources))) kept
+  pub kept_declared : AllByRecursion (IsDeclared (columns_of_entries (entries_in_rows (query_of parts).sources))) kept
   pub kept_once : IsDistinct eqb (numbers kept)
   pub kept_few : length kept ≤ 512
   pub on : AllByRecursion (HaveColumns (IsOneOf kept)) (conjuncts_on (query_of parts).sources)

@@ -1,6 +1,6 @@
 -- The queries of the worked cases of bounds over several tables, each of one INTEGER column A, NOT NULL: SELECT A of T's from all pairs of rows,
--- and SELECT T.A FROM T, U WHERE T.A = U.A.
-use Rattle.std.specs.Prelude.{ℕ, [], ◌∷◌}
+-- SELECT T.A FROM T, U WHERE T.A = U.A, and with a LEFT JOIN.
+use Rattle.std.specs.Prelude.{ℕ, true, [], ◌∷◌}
 use Rattle.qw_types.specs.declared.value.Ty.TheVariants.{Integer}
 use Rattle.qw_scalar.specs.declared.comparison.Comparison.TheVariants.{Equal}
 use Rattle.qw_scalar.specs.Expression.{column, comparison}
@@ -16,5 +16,16 @@ abbrev pub equal_numbers : Specification
 equal_numbers = record {
   sources = alone (integers 0) ∷ alone (integers 1) ∷ [];
   conjuncts = comparison Equal (column 0 Integer) (column 64 Integer) ∷ [];
+  items = column 0 Integer ∷ [];
+}
+
+-- SELECT T.A FROM T LEFT JOIN U ON T.A = U.A
+abbrev pub left_joined_numbers : Specification
+left_joined_numbers = record {
+  sources = record {
+    first = integers 0;
+    joins = record { entry = integers 1; outer = true; on = comparison Equal (column 0 Integer) (column 64 Integer) ∷ [] } ∷ [];
+  } ∷ [];
+  conjuncts = [];
   items = column 0 Integer ∷ [];
 }

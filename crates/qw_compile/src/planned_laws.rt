@@ -25,7 +25,7 @@ ghost use Rattle.qw_rewrite.specs.Sift.{are_quiet};
 ghost use Rattle.qw_map.specs.Layout.{row_size};
 ghost use Rattle.qw_promise.specs.WorkedQueries.{above, integers, three_rows};
 ghost use Rattle.qw_compile.specs.PlannedQueries.{columns_read, greatest, kept_by, page_bound, placed, reads, stored, units};
-ghost use Rattle.qw_compile.specs.WorkedJoins.{equal_numbers, with_each};
+ghost use Rattle.qw_compile.specs.WorkedJoins.{equal_numbers, left_joined_numbers, with_each};
 ghost use Rattle.qw_compile.specs.WorkedTexts.{from_words, is_pen, m, pen, two_words, word};
 
 /// The units of a query over one table, whose conjuncts all go to its scan, are the rows of the table and of the result, and of each comparison of
@@ -112,6 +112,14 @@ pub fn units_of_joins()
     ensures no_rows { units equal_numbers (((Num (pos 4) ∷ []) ∷ (Num (pos 1) ∷ []) ∷ (Num (pos 7) ∷ []) ∷ []) ∷ [] ∷ []) ≡ 1054 }
 {}
 
+/// `SELECT T.A FROM T LEFT JOIN U ON T.A = U.A` over the same tables: a unit more for each of T's three rows, which may have no partner, and three
+/// result rows: 1,072. Where U has no rows, these six more: 1,060; and where T has none, U's row, its entry, 1,024 slots and nine octets.
+pub fn units_of_left_joins()
+    ensures one_pair { units left_joined_numbers (((Num (pos 4) ∷ []) ∷ (Num (pos 1) ∷ []) ∷ (Num (pos 7) ∷ []) ∷ []) ∷ ((Num (pos 4) ∷ []) ∷ []) ∷ []) ≡ 1072 }
+    ensures no_partner { units left_joined_numbers (((Num (pos 4) ∷ []) ∷ (Num (pos 1) ∷ []) ∷ (Num (pos 7) ∷ []) ∷ []) ∷ [] ∷ []) ≡ 1060 }
+    ensures no_rows { units left_joined_numbers ([] ∷ ((Num (pos 4) ∷ []) ∷ []) ∷ []) ≡ 1035 }
+{}
+
 /// A result row of one cell has 24 octets, so the bound is 2 + N * 24 / 65,512 pages for N result rows: 2 for one row, for 2,728
 /// and for 2,729, and 3 for 2,730. Rows that are rejected don't count.
 pub fn page_bound_of_narrow_rows()
@@ -135,6 +143,14 @@ pub fn page_bound_of_joins()
     ensures one_pair { page_bound equal_numbers (((Num (pos 4) ∷ []) ∷ []) ∷ ((Num (pos 4) ∷ []) ∷ []) ∷ []) ≡ 4 }
     ensures last_of_four { page_bound equal_numbers ([] ∷ replicate 1096 (Num (pos 7) ∷ []) ∷ []) ≡ 4 }
     ensures first_of_five { page_bound equal_numbers ([] ∷ replicate 1097 (Num (pos 7) ∷ []) ∷ []) ≡ 5 }
+{}
+
+/// Rows of T that have no partner are result rows of a LEFT JOIN: where U is empty the bound is 4 pages and (4,096 + N * 24) / 65,480 for N rows of T,
+/// 4 for 2,557 and 5 for 2,558.
+pub fn page_bound_of_left_joins()
+    ensures read { columns_read left_joined_numbers (1 ∷ []) ≡ 64 ∷ [] }
+    ensures last_of_four { page_bound left_joined_numbers (replicate 2557 (Num (pos 7) ∷ []) ∷ [] ∷ []) ≡ 4 }
+    ensures first_of_five { page_bound left_joined_numbers (replicate 2558 (Num (pos 7) ∷ []) ∷ [] ∷ []) ≡ 5 }
 {}
 
 /// Where all pairs of rows are made, an entry has neither a key nor a column, so it has 24 octets as a result row has, and the bound is 4 pages and

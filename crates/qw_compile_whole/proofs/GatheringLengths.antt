@@ -91,7 +91,7 @@ gathering_as_course readers p g is =
 
 -- ---- of a query that is short
 pub parts_short : (readers : List Reader) → ((entry : ℕ) → length (readers_over entry readers) ≤ 64) → (ps : List Pipeline) → AllByRecursion CanBe ps → (behind : Pipeline) → CanBe behind → (columns functions : ℕ) → AreShortGrouped ps behind (columns + functions) →
-    sum_by (course_span readers) ps + 356 * (columns + functions) + walk_span columns functions behind + 100 ≤ 2020000
+    sum_by (course_span readers) ps + 356 * (columns + functions) + walk_span columns functions behind + 100 ≤ 2021000
 parts_short readers few ps can behind can_behind columns functions short =
     let all = all_steps readers few ps can in
     let own = few_operators behind.operators.items behind.sink can_behind.known can_behind.takes in
@@ -122,7 +122,7 @@ few_locals tables texts words columns own locals pipelines is short few few_text
 -- from the places of literals and columns
 pub places_short : (tables : ℕ) (ts : List (List ℕ)) (ps : List Pipeline) (behind : Pipeline) (columns : List ReadColumn) (p : Places) (known : List Known) (keys functions : ℕ) → ArePlacesOf tables ts (ps ++ behind ∷ []) columns p → IsDistinct eqb (numbers columns) →
     AllByRecursion (λ (q : Pipeline). CanStand tables ts (ps ++ behind ∷ []) columns (pipeline_of q)) ps → CanCarry known (map operator_of behind.operators.items) (sink_of behind.sink) → AreShortGrouped ps behind (keys + functions) →
-    sum_by (course_span p.readers.items) ps + 356 * (keys + functions) + walk_span keys functions behind + 100 ≤ 2020000
+    sum_by (course_span p.readers.items) ps + 356 * (keys + functions) + walk_span keys functions behind + 100 ≤ 2021000
 places_short tables ts ps behind columns p known keys functions are once stand walks short =
     parts_short p.readers.items (λ entry. subst (λ (rs : List Reader). length (readers_over entry rs) ≤ 64) (sym are.readers) (few_over tables _ columns once entry)) ps
     (all_more (λ (q : Pipeline). CanStand tables ts (ps ++ behind ∷ []) columns (pipeline_of q)) CanBe ps (λ q can. record { known = _; takes = can.takes }) stand) behind (record { known = known; takes = walks }) keys functions short

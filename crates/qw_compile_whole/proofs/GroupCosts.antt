@@ -1,7 +1,7 @@
 -- A pipeline whose innermost block evaluates values, and takes so many units of them, takes no more than one that makes a result of these values, and so many
 -- units for each row that this one feeds.
-use Rattle.std.proofs.Common.{◌≡◌, ◌∙◌, ◌≤◌, ℕ, zero, suc, ◌+◌, ◌==◌, Bool, true, false, if◌then◌else◌, get_or, take, Some, List, [], ◌∷◌, ◌++◌, length, slice_get, Result, Ok, Err, refl, sym, ap, subst, arith}
-use Rattle.std.specs.List.{AllByRecursion, AllZip, filter as filter_list}
+use Rattle.std.proofs.Common.{◌≡◌, ◌∙◌, ◌≤◌, ℕ, zero, suc, ◌+◌, ◌==◌, Bool, true, false, not, ◌&&◌, ◌||◌, if◌then◌else◌, get_or, take, Some, List, [], ◌∷◌, ◌++◌, length, slice_get, Result, Ok, Err, refl, sym, ap, subst, arith}
+use Rattle.std.specs.List.{AllByRecursion, AllZip, filter as filter_list, list_any}
 use Rattle.std.proofs.lemmas.Option.{same_Some}
 use Rattle.qw_types.specs.ValueOrder.{is_same_row}
 use Rattle.qw_types.specs.declared.code.Code.{Code}
@@ -18,7 +18,7 @@ use Rattle.qw_feed.specs.Feeds.{flow_by, flow_over, nothing, spend, where_true}
 use Rattle.qw_table.specs.Joins.{have_values, keyed, where_values}
 use Rattle.qw_table.specs.Keys.{text_octets}
 use Rattle.qw_table.specs.Tables.{in_slot}
-use Rattle.qw_physical.specs.Courses.{by_values, cost, fed, met, met_cost, pair_of, pipeline_cost, pipeline_fed, placed, sink_key, where_passed}
+use Rattle.qw_physical.specs.Courses.{alone_cost, by_values, cost, fed, is_alone, isnt_failed, meets, met, met_cost, pair_of, pipeline_cost, pipeline_fed, placed, sink_key, where_passed}
 use Rattle.qw_physical.specs.Physical.{Operator, Pipeline, Probe, Sink, build, filter, probe, select}
 use Rattle.qw_physical.specs.Sides.{IsEntryOf, IsMadeFor}
 use Rattle.qw_physical.specs.Spelled.{IsSamePipeline, IsSameSink}
@@ -106,10 +106,58 @@ module _ (turn : List Val → ℕ) where
         one true is = slot_less test es
         one false is = let same = slot_none test es is some in omega (arith, same)
 
+    -- where the row goes on by itself, no entry lets it go on
+    either_none : (a b : Bool) → (a || b) ≡ false → (a ≡ false) × (b ≡ false)
+    either_none true b none = absurd cc
+    either_none false b none = (refl, none)
+
+    met_same : (b : Bool) (r : Result Bool Code) (u c d : ℕ) → (b && isnt_failed r) ≡ false → text_octets key + (if b then u + where_passed r c else 0) ≡ text_octets key + (if b then u + where_passed r d else 0)
+    met_same false r u c d none = refl
+    met_same true (Ok true) u c d none = absurd cc
+    met_same true (Ok false) u c d none = refl
+    met_same true (Err code) u c d none = absurd cc
+
+    slot_failed : (test : List Val → Bool) (es : List (List Val)) → list_any (meets p row key) es ≡ false → spend (met_cost C p row key) (filter_list test es) ≡ spend (met_cost D p row key) (filter_list test es)
+    slot_failed test [] none = refl
+    slot_failed test (e ∷ es) none = one (test e) (slot_failed test es (either_none (meets p row key e) (list_any (meets p row key) es) none).1)
+      where
+        same : met_cost C p row key e ≡ met_cost D p row key e
+        same = met_same (is_same_row key (take (length p.key) e)) (passes p.on (at_row (pair_of p row e))) (units_of_all p.on (at_row (pair_of p row e))) (C (pair_of p row e)) (D (pair_of p row e))
+            (either_none (meets p row key e) (list_any (meets p row key) es) none).0
+
+        one : (b : Bool) → spend (met_cost C p row key) (filter_list test es) ≡ spend (met_cost D p row key) (filter_list test es)
+            → spend (met_cost C p row key) (if b then e ∷ filter_list test es else filter_list test es) ≡ spend (met_cost D p row key) (if b then e ∷ filter_list test es else filter_list test es)
+        one true h = omega (arith, h, same)
+        one false h = h
+
+    slot_alone : (test : List Val → Bool) (es : List (List Val)) → AllByRecursion (λ (e : List Val). have_values (take (length p.key) e) ≡ true) es → (have_values key && list_any (meets p row key) es) ≡ false
+        → spend (met_cost C p row key) (filter_list test es) ≡ spend (met_cost D p row key) (filter_list test es)
+    slot_alone test es some none = one (have_values key) refl none
+      where
+        one : (b : Bool) → have_values key ≡ b → (b && list_any (meets p row key) es) ≡ false → spend (met_cost C p row key) (filter_list test es) ≡ spend (met_cost D p row key) (filter_list test es)
+        one true is none = slot_failed test es none
+        one false is none = slot_none test es is some
+
+    -- a probe, whose row goes on by itself or with entries
+    looked_less : (test : List Val → Bool) (es : List (List Val)) → AllByRecursion (λ (e : List Val). have_values (take (length p.key) e) ≡ true) es
+        → spend (met_cost C p row key) (filter_list test es) + alone_cost C p row key es
+        ≤ (spend (met_cost D p row key) (filter_list test es) + alone_cost D p row key es) + total turn (if is_alone p row key es then F row else where_values (flow_over (met F p row key) es) key).rows
+    looked_less test es some = by_outer p.outer (have_values key && list_any (meets p row key) es) refl
+      where
+        by_outer : (outer found : Bool) → (have_values key && list_any (meets p row key) es) ≡ found
+            → spend (met_cost C p row key) (filter_list test es) + (if outer then 1 + (if outer && not found then C row else 0) else 0)
+            ≤ (spend (met_cost D p row key) (filter_list test es) + (if outer then 1 + (if outer && not found then D row else 0) else 0))
+            + total turn (if outer && not found then F row else where_values (flow_over (met F p row key) es) key).rows
+        by_outer false found is = let less = keyed_less test es some in omega (arith, less)
+        by_outer true true is = let less = keyed_less test es some in omega (arith, less)
+        by_outer true false is = let same = slot_alone test es some is in let own = each row in omega (arith, same, own)
+
   probe_less : (p : Probe) (row : List Val) (C D : List Val → ℕ) (F : List Val → Flow (List Val)) → ((r : List Val) → C r ≤ D r + total turn (F r).rows) → (es : List (List Val)) → AllByRecursion (λ (e : List Val). have_values (take (length p.key) e) ≡ true) es
-      → (k : ℕ) (q : Result (List Val) Code) → k + by_values q (λ key. text_octets key + spend (met_cost C p row key) (in_slot (keyed (length p.key)) (slot key) es))
-      ≤ (k + by_values q (λ key. text_octets key + spend (met_cost D p row key) (in_slot (keyed (length p.key)) (slot key) es))) + total turn (flow_by q (λ key. where_values (flow_over (met F p row key) es) key)).rows
-  probe_less p row C D F each es some k (Ok key) = let less = keyed_less p row key C D F each (λ (v : List Val). keyed (length p.key) v == slot key) es some in omega (arith, less)
+      → (k : ℕ) (q : Result (List Val) Code)
+      → k + by_values q (λ key. text_octets key + spend (met_cost C p row key) (in_slot (keyed (length p.key)) (slot key) es) + alone_cost C p row key es)
+      ≤ (k + by_values q (λ key. text_octets key + spend (met_cost D p row key) (in_slot (keyed (length p.key)) (slot key) es) + alone_cost D p row key es))
+      + total turn (flow_by q (λ key. if is_alone p row key es then F row else where_values (flow_over (met F p row key) es) key)).rows
+  probe_less p row C D F each es some k (Ok key) = let less = looked_less p row key C D F each (λ (v : List Val). keyed (length p.key) v == slot key) es some in omega (arith, less)
   probe_less p row C D F each es some k (Err code) = omega arith
 
 -- ---- a pipeline

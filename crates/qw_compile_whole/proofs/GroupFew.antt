@@ -12,7 +12,7 @@ use Rattle.qw_scalar.specs.Conjuncts.{passes}
 use Rattle.qw_scalar.specs.Evaluation.{at_row}
 use Rattle.qw_scalar.specs.Expression.{Condition, Expression}
 use Rattle.qw_meaning.specs.Flow.{Flow, each, kept, rows_given, selected, values_of}
-use Rattle.qw_meaning.specs.From.{at_places, behind_joins, behind_sources, crossed, entry_flow, from_sources, merged, source_flow}
+use Rattle.qw_meaning.specs.From.{at_places, behind_joins, behind_sources, completed, completed_pairs, crossed, entry_flow, from_sources, joined, merged, pairs, source_flow}
 use Rattle.qw_meaning.specs.Outcome.{flow}
 use Rattle.qw_meaning.specs.Select.{AreOfEntries, Entry, IsOfEntry, Joined, Source, Specification, entries_in, entries_of}
 use Rattle.qw_leaves.proofs.LeafLists.{all_back, all_front}
@@ -69,14 +69,44 @@ module _ (tables : List (List (List Val))) where
   power_more : (b k : ℕ) → (b * 1000000) * 1000000 ^ k ≡ b * 1000000 ^ suc k
   power_more b k = mul_assoc b 1000000 (1000000 ^ k) ∙ ap (λ (n : ℕ). b * n) (sym (pow-succ' 1000000 k))
 
+  completed_few : (row : List Val) (passed : List (List Val)) (raised : List Code) (a : ℕ) → 1 ≤ a → length passed ≤ a → length (completed row passed raised).rows ≤ a
+  completed_few row [] [] a some h = omega (arith, some)
+  completed_few row [] (code ∷ codes) a some h = omega arith
+  completed_few row (pair ∷ passed) codes a some h = h
+
+  row_few : (on : List Condition) (others : List (List Val)) (row : List Val) (a : ℕ) → 1 ≤ a → length others ≤ a → length (completed_pairs on others row).rows ≤ a
+  row_few on others row a some h =
+      let less = less_each (λ (r : List Val). rows_given (kept on r)) (map (merged row) others) (kept_one on) in
+      let many = length-map others (merged row) in
+      completed_few row (pairs on others row).rows (pairs on others row).codes a some (omega (arith, less, many, h))
+
+  each_few : (on : List Condition) (others rows : List (List Val)) (a : ℕ) → 1 ≤ a → length others ≤ a → length (flat_map (λ (row : List Val). (completed_pairs on others row).rows) rows) ≤ length rows * a
+  each_few on others [] a some h = omega arith
+  each_few on others (row ∷ rows) a some h =
+      let both = length-append (completed_pairs on others row).rows (flat_map (λ (r : List Val). (completed_pairs on others r).rows) rows) in
+      summed (length (flat_map (λ (r : List Val). (completed_pairs on others r).rows) (row ∷ rows))) (length (completed_pairs on others row).rows) (length (flat_map (λ (r : List Val). (completed_pairs on others r).rows) rows)) a (length rows * a) (suc (length rows) * a)
+      both (row_few on others row a some h) (each_few on others rows a some h) (suc-mul (length rows) a)
+    where
+      summed : (whole one rest a p q : ℕ) → whole ≡ one + rest → one ≤ a → rest ≤ p → q ≡ p + a → whole ≤ q
+      summed whole one rest a p q e f g h = omega (arith, e, f, g, h)
+
+  joined_few : (outer : Bool) (on : List Condition) (one other : Flow (List Val)) (b : ℕ) → length one.rows ≤ b → length other.rows ≤ 1000000 → length (joined outer on one other).rows ≤ b * 1000000
+  joined_few false on one other b h g =
+      let few = crossed_few one other b 1000000 h g in
+      let less = less_each (λ (row : List Val). rows_given (kept on row)) (crossed one other).rows (kept_one on) in
+      omega (arith, few, less)
+  joined_few true on one other b h g =
+      let few = each_few on other.rows one.rows 1000000 (omega arith) g in
+      let less = mul-le (length one.rows) 1000000 b 1000000 h (omega arith) in
+      omega (arith, few, less)
+
   joins_few : (joins : List Joined) (next : ℕ) (before : Flow (List Val)) (b : ℕ) → length before.rows ≤ b → AllByRecursion (IsOfEntry tables) (map (λ (j : Joined). j.entry) joins) → length (behind_joins tables next before joins).rows ≤ b * 1000000 ^ length joins
   joins_few [] next before b h of = omega (arith, h)
   joins_few (j ∷ joins) next before b h of =
-      let pairs : Flow (List Val) = crossed before (entry_flow tables next j.entry.table) in
-      let few : length pairs.rows ≤ b * 1000000 = crossed_few before (entry_flow tables next j.entry.table) b 1000000 h (entry_few next j.entry of.0) in
-      let kept_few : length (each (kept j.on) pairs).rows ≤ b * 1000000 = (let less = less_each (λ (row : List Val). rows_given (kept j.on row)) pairs.rows (kept_one j.on) in omega (arith, few, less)) in
-      let rest = joins_few joins (next + 1) (each (kept j.on) pairs) (b * 1000000) kept_few of.1 in
-      subst (λ (n : ℕ). length (behind_joins tables (next + 1) (each (kept j.on) pairs) joins).rows ≤ n) (power_more b (length joins)) rest
+      let entry : Flow (List Val) = entry_flow tables next j.entry.table in
+      let few : length (joined j.outer j.on before entry).rows ≤ b * 1000000 = joined_few j.outer j.on before entry b h (entry_few next j.entry of.0) in
+      let rest = joins_few joins (next + 1) (joined j.outer j.on before entry) (b * 1000000) few of.1 in
+      subst (λ (n : ℕ). length (behind_joins tables (next + 1) (joined j.outer j.on before entry) joins).rows ≤ n) (power_more b (length joins)) rest
 
   source_few : (source : Source) (first : ℕ) → AllByRecursion (IsOfEntry tables) (entries_in source) → length (source_flow tables first source).rows ≤ 1000000 ^ length (entries_in source)
   source_few source first of =

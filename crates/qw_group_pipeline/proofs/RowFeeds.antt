@@ -42,7 +42,7 @@ use Rattle.qw_physical.specs.Physical.{Operator, Sink, select}
 use Rattle.qw_physical.specs.declared.pipeline.ReadColumn.{ReadColumn}
 use Rattle.qw_operator.specs.Carries.{entry_types, known_entry}
 use Rattle.qw_operator.specs.Takes.{AreSized, CanCarry, anywhere}
-use Rattle.qw_operator.proofs.CarriedFeeds.{carried_feeds}
+use Rattle.qw_operator.proofs.OperatorsFeed.{carried_feeds}
 use Rattle.qw_operator.proofs.EntryReads.{entry_declared, entry_many, entry_told, entry_within, reads_end}
 use Rattle.qw_operator.proofs.Filters.{Runs, Here, base_high, old_low}
 use Rattle.qw_operator.proofs.KnownLeaves.{AreFit, Fits, IsUtf8Value}

@@ -15,11 +15,11 @@ use Rattle.qw_feed.specs.Frames.{Below}
 use Rattle.qw_physical.specs.Courses.{fed}
 use Rattle.qw_physical.specs.Physical.{Operator, filter, probe, select}
 use Rattle.qw_operator.specs.Takes.{CanCarry, anywhere}
-use Rattle.qw_operator.proofs.CarriedFeeds.{filtered_feeds, have_kinds, items_at, probed_feeds, value_units}
+use Rattle.qw_operator.proofs.CarriedFeeds.{filtered_feeds, have_kinds, items_at, value_units}
 use Rattle.qw_operator.proofs.Filters.{Runs, Here}
 use Rattle.qw_operator.proofs.KnownLeaves.{AreFit}
+use Rattle.qw_operator.proofs.OperatorsFeed.{looked_up_feeds}
 use Rattle.qw_operator.proofs.PairRows.{AreApart, IsNullAt, pair_null}
-use Rattle.qw_physical.specs.Courses.{pair_of}
 use Rattle.qw_operator.proofs.Promised.{AreOwn, IsItemAt}
 use Rattle.qw_operator.proofs.Seen.{AreWithin, within_wider}
 use Rattle.qw_operator.proofs.Served.{AreServed}
@@ -51,8 +51,8 @@ module _ (c : Cells) (stoods : List Stood) (base : ℕ) (sink : FlowSink) (runs 
       (λ t after b more passed now rest further room' types' enough'.
       carried_to_feeds operators carried known after row b more t enough' (omega (arith, low, further)) room' told (within_wider next after known further within) declared types' rest can.1 apart served fit nulls now)
   carried_to_feeds (probe p ∷ operators) carried known next row a own s enough low room told within declared own_types is can apart served fit nulls here =
-      probed_feeds c stoods base sink runs most fuel many types (cost_to values turn built operators) (fed built operators (select values)) (λ held after b more. IsCarriedTo End held after operators b more) p carried known next row a own is served.0.0 served.0.1 served.0.2 low room within declared own_types told fit apart.0 apart.1 nulls.0
-      can.0 can.1.2 can.2
-      (λ entry held t after b more told' within' declared' fit' now rest further room' types' enough'.
-      carried_to_feeds operators (map anywhere p.kept ++ carried) held after (pair_of p row entry) b more t enough' (omega (arith, low, further)) room' told' within' declared' types' rest can.3 apart.2 served.1 fit' (pair_null p row entry carried operators apart.2 nulls.1) now)
-      s here enough
+      looked_up_feeds c stoods base sink runs most fuel many types (cost_to values turn built operators) (fed built operators (select values)) (λ held after b more. IsCarriedTo End held after operators b more) p carried known next row a own served.0 low room within declared own_types told fit apart.0 apart.1 nulls.0 can.1.3
+      can.0 can.1.2 can.2 (λ other. IsNullAt other operators) (λ entry. pair_null p row entry carried operators apart.2 nulls.1) nulls.1
+      (λ other held t after b more null told' within' declared' fit' now rest further room' types' enough'.
+      carried_to_feeds operators (map anywhere p.kept ++ carried) held after other b more t enough' (omega (arith, low, further)) room' told' within' declared' types' rest can.3 apart.2 served.1 fit' null now)
+      s here is enough

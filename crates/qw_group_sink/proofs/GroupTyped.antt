@@ -20,7 +20,7 @@ use Rattle.qw_physical.specs.Physical.{Operator, filter, probe}
 use Rattle.qw_operator.specs.Carries.{behind_filter, directory, first_filter}
 use Rattle.qw_operator.specs.Emitted.{last_end}
 use Rattle.qw_operator.proofs.CarriedFeeds.{items_many, moved_many, sources_many}
-use Rattle.qw_operator.proofs.CarriedTyped.{AreLed, IsReaderDeclared, IsSourceDeclared, decided_typed, fields_declared, filtered_typed, items_typed, led_behind, outs_declared, part_typed, probed_typed, taken_declared}
+use Rattle.qw_operator.proofs.CarriedTyped.{AreLed, IsReaderDeclared, IsSourceDeclared, decided_typed, fields_declared, filtered_typed, items_typed, led_behind, looked_up_typed, outs_declared, part_typed, taken_declared}
 use Rattle.qw_operator.proofs.Promised.{AreOwn, first_own_types, items_kinds, kinds_moved, rest_own_types}
 use Rattle.qw_group_sink.specs.Carrying.{IsCarriedTo, IsRowTo}
 use Rattle.qw_group_sink.specs.Grouping.{CanGroup, Group, IsGrouped, TakeKinds, over_fields}
@@ -60,7 +60,7 @@ module _ (types : List ValType) (free_is : slice_get types 1 ≡ Some I32) (left
     carried_to_typed (filter cs ∷ operators) known next a own declared own_types led h =
         filtered_typed types known next cs (λ after b more. IsCarriedTo End known after operators b more) a own declared own_types h (λ after b more more_types rest. carried_to_typed operators known after b more declared more_types led rest)
     carried_to_typed (probe p ∷ operators) known next a own declared own_types led h =
-        probed_typed types known next p (λ held after b more. IsCarriedTo End held after operators b more) a own declared own_types led.0 h
+        looked_up_typed types known next p (λ held after b more. IsCarriedTo End held after operators b more) a own declared own_types led.0 h
         (λ held after b more held_declared more_types rest. carried_to_typed operators held after b more held_declared more_types led.1 rest)
 
     pub row_to_typed : (literals : List Known) (readers : List Reader) (next : ℕ) (operators : List Operator) (a : Statement) (own : List ValType) → AreDeclared types (literals ++ map known_of readers) → AllByRecursion (IsReaderDeclared types) readers → AreOwn types next own → AreLed types operators →

@@ -92,7 +92,11 @@ fn copy_join(alloc: Global, join: &Joined) -> Result<Joined, NoMemory>
 {
     let entry = copy_entry(alloc, &join.entry)?;
     let on = copy_conditions(alloc, &join.on)?;
-    Ok(Joined { entry, on })
+    Ok(Joined {
+        entry,
+        outer: join.outer,
+        on,
+    })
 }
 
 /// An entry once more.

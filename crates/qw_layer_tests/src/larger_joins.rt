@@ -73,7 +73,13 @@ fn first_with_second(alloc: Global, on: Vec<Cond>) -> Result<Vec<Source>, NoMemo
 {
     let first = entry_of(alloc, 0)?;
     let entry = entry_of(alloc, 1)?;
-    let joins = vec![in alloc; Joined { entry, on }]?;
+    let joins = vec![in alloc;
+        Joined {
+            entry,
+            outer: false,
+            on
+        },
+    ]?;
     Ok(vec![in alloc; Source { first, joins }]?)
 }
 

@@ -18,6 +18,7 @@ fn scan(entry: usize) -> Plan {
 
 fn join(alloc: Global, left: Plan, right: Plan) -> Result<Plan, NoMemory> {
     Ok(Plan::Join {
+        outer: false,
         left: Box::new(alloc, left)?,
         right: Box::new(alloc, right)?,
         on: Vec::new(alloc),

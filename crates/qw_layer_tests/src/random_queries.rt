@@ -132,7 +132,11 @@ fn random_join(
 {
     let entry = random_entry(alloc, random)?;
     let on = random_on(alloc, random, first, next)?;
-    Ok(Joined { entry, on })
+    Ok(Joined {
+        entry,
+        outer: false,
+        on,
+    })
 }
 
 /// Tests, and in two of three cases an equality between the entry and those before it.

@@ -306,7 +306,7 @@ const NO_SELECTS: [&str; 97] = [
     "SELECT a FROM t JOIN u ON a",
     "SELECT a FROM t JOIN ON a = b",
     "SELECT a FROM t INNER u ON a = b",
-    "SELECT a FROM t LEFT JOIN u ON a = b",
+    "SELECT a FROM t RIGHT JOIN u ON a = b",
     "SELECT a FROM t CROSS JOIN u",
     "SELECT a FROM (t JOIN u ON a = b)",
     "SELECT a FROM t WHERE a = 1, u",

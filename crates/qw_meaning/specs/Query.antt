@@ -12,7 +12,7 @@ abbrev pub entry_of : coded_entry.Entry → Entry
 entry_of entry = record { table = entry.table; columns = entry.columns.items }
 
 abbrev pub joined_of : coded_join.Joined → Joined
-joined_of j = record { entry = entry_of j.entry; on = map condition_of j.on.items }
+joined_of j = record { entry = entry_of j.entry; outer = j.outer; on = map condition_of j.on.items }
 
 abbrev pub source_of : coded_source.Source → Source
 source_of source = record { first = entry_of source.first; joins = map joined_of source.joins.items }

@@ -1,7 +1,7 @@
 -- A query specification (ISO/IEC 9075:1992, 7.9): SELECT items FROM sources WHERE conjuncts, its names resolved. Column c of entry e of FROM,
 -- both counted from 0, is number 64 * e + c in every clause, so that a conjunct means the same wherever it stands; a table has at most 64
 -- columns.
-use Rattle.std.specs.Prelude.{◌≡◌, ℕ, ◌+◌, ◌/◌, ◌%◌, ◌≤◌, ◌<◌, List, [], ◌∷◌, map, length, Option, Some, None, slice_get}
+use Rattle.std.specs.Prelude.{◌≡◌, ℕ, ◌+◌, ◌/◌, ◌%◌, ◌≤◌, ◌<◌, Bool, true, false, List, [], ◌∷◌, map, length, Option, Some, None, slice_get}
 use Rattle.std.specs.List.{AllByRecursion, AllZip, flat_map}
 use Rattle.qw_types.specs.Contents.{IsOfColumnType, rows_of}
 use Rattle.qw_types.specs.Limits.{most_rows}
@@ -20,9 +20,10 @@ pub record Entry : Type 0 where
   pub table : ℕ
   pub columns : List ColumnType
 
--- JOIN entry ON conjuncts, with all that stands before it in its source (7.5)
+-- JOIN entry ON conjuncts, or LEFT JOIN where `outer`, with all that stands before it in its source (7.5)
 pub record Joined : Type 0 where
   pub entry : Entry
+  pub outer : Bool
   pub on : List Condition
 
 -- a source of FROM, up to the next comma: an entry, and those joined to it from left to right
@@ -42,6 +43,20 @@ entries_in source = source.first ∷ map (λ (j : Joined). j.entry) source.joins
 
 abbrev pub entries_of : List Source → List Entry
 entries_of sources = flat_map entries_in sources
+
+-- The entries as rows of FROM have them: where one is the right side of a LEFT JOIN its columns may be null, NOT NULL or not (7.5).
+abbrev pub with_nulls : ColumnType → ColumnType
+with_nulls c = record c { not_null = false }
+
+abbrev pub in_rows : (outer : Bool) → Entry → Entry
+in_rows true entry = record entry { columns = map with_nulls entry.columns }
+in_rows false entry = entry
+
+abbrev pub entries_in_row : Source → List Entry
+entries_in_row source = source.first ∷ map (λ (j : Joined). in_rows j.outer j.entry) source.joins
+
+abbrev pub entries_in_rows : List Source → List Entry
+entries_in_rows sources = flat_map entries_in_row sources
 
 -- the conjuncts of every ON, in written order
 abbrev pub conjuncts_on : List Source → List Condition

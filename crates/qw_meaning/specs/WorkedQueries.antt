@@ -48,7 +48,7 @@ where_second_is_five items = record {
 
 -- ITEM JOIN NOTE ON a = b
 abbrev pub item_joined : (a b : Expression) → Source
-item_joined a b = record { first = item_entry; joins = record { entry = note_entry; on = comparison Equal a b ∷ [] } ∷ [] }
+item_joined a b = record { first = item_entry; joins = record { entry = note_entry; outer = false; on = comparison Equal a b ∷ [] } ∷ [] }
 
 -- tables of one INTEGER column: A and B of 1, 1 and null, NOTHING of no row; then ITEM
 abbrev pub one_column : (table : ℕ) → Entry
@@ -74,8 +74,12 @@ items_entry = record item_entry { table = 3 }
 abbrev pub a_joined_b : (first : ℕ) → Source
 a_joined_b first = record {
   first = one_column 0;
-  joins = record { entry = one_column 1; on = comparison Equal (column (64 * first) type.Integer) (column (64 * (first + 1)) type.Integer) ∷ [] } ∷ [];
+  joins = record { entry = one_column 1; outer = false; on = comparison Equal (column (64 * first) type.Integer) (column (64 * (first + 1)) type.Integer) ∷ [] } ∷ [];
 }
+
+-- A LEFT JOIN table ON condition
+abbrev pub a_left_joined_b : (table : ℕ) → Condition → Source
+a_left_joined_b table on = record { first = one_column 0; joins = record { entry = one_column table; outer = true; on = on ∷ [] } ∷ [] }
 
 -- 10 / (i - 1) > 6, of an INTEGER column
 abbrev pub quotient_above_six : (i : ℕ) → Condition

@@ -16,10 +16,12 @@ pub struct Entry {
     pub columns: Vec<ColumnType>,
 }
 
-/// `JOIN entry ON on` (7.5); `on` has the operands of the outermost AND chain in written order.
+/// `JOIN entry ON on`, or `LEFT JOIN entry ON on` (7.5); `on` has the operands of the outermost AND chain in written order.
 #[derive(Drop)]
 pub struct Joined {
     pub entry: Entry,
+    /// Whether it is a LEFT JOIN.
+    pub outer: bool,
     pub on: Vec<Cond>,
 }
 

@@ -1,4 +1,4 @@
--- What the operators of a pipeline feed its sink from a row, by induction over them.
+-- What values, conjuncts and a lookup feed from a row, with the rest within them.
 use Rattle.std.proofs.Common.{◌≡◌, ◌≢◌, ℕ, suc, ◌+◌, ◌*◌, ◌<◌, ◌≤◌, if◌then◌else◌, Bool, true, inr, Option, Some, List, [], ◌∷◌, ◌++◌, drop, get_or, length, length-append, map, take, Result, Ok, slice_get, refl, sym, ap, ap₂, ◌∙◌, subst, arith}
 use Rattle.std.proofs.lemmas.List.{map-append}
 use Rattle.std.proofs.lemmas.Option.{slice_get_within}
@@ -44,12 +44,12 @@ use Rattle.qw_table.specs.Keys.{text_octets}
 use Rattle.qw_table.specs.Tables.{IsTable, in_slot}
 use Rattle.qw_table.specs.declared.key.Field.{Field}
 use Rattle.qw_table.proofs.JoinFeeds.{slot-low}
-use Rattle.qw_physical.specs.Courses.{by_values, cost, fed, met, met_cost, pair_of, sink_key, sink_values, where_passed}
-use Rattle.qw_physical.specs.Physical.{Operator, Probe, Sink, filter, probe}
+use Rattle.qw_physical.specs.Courses.{by_values, met, met_cost, pair_of, where_passed}
+use Rattle.qw_physical.specs.Physical.{Probe}
 use Rattle.qw_physical.specs.declared.pipeline.ReadColumn.{ReadColumn}
-use Rattle.qw_operator.specs.Carries.{IsCarried, IsFiltered, IsProbed, IsSunk, all_moved, directory, entry_types, known_entry}
+use Rattle.qw_operator.specs.Carries.{IsFiltered, IsProbed, all_moved, directory, entry_types, known_entry}
 use Rattle.qw_operator.specs.Emitted.{AreComputed}
-use Rattle.qw_operator.specs.Takes.{AreSized, CanCarry, CanSink, IsTestOver, IsValueOver, anywhere}
+use Rattle.qw_operator.specs.Takes.{AreSized, IsTestOver, IsValueOver, anywhere}
 use Rattle.qw_operator.proofs.EntryReads.{cells_behind, entry_declared, entry_many, entry_told, entry_within, reads_end}
 use Rattle.qw_operator.proofs.Filters.{Runs, Here, base_high, conjuncts_feed, here_keeps, here_kept, old_low}
 use Rattle.qw_leaves.specs.Leaves.{HasLeaves}
@@ -57,12 +57,12 @@ use Rattle.qw_leaves.proofs.Agreement.{value_at}
 use Rattle.qw_leaves.proofs.LeafLemmas.{conditions_columns, leaves_columns}
 use Rattle.qw_operator.proofs.KnownLeaves.{AreFit, Fits, take_leaves, takes_leaves}
 use Rattle.qw_operator.proofs.LookupFeeds.{lookup_feeds, spend_has}
-use Rattle.qw_operator.proofs.PairRows.{AreApart, AreAt, AreDistinct, AreNew, AreStored, IsNullAt, kept_fit, pair_at, pair_fits, pair_held, pair_null, same_told}
+use Rattle.qw_operator.proofs.PairRows.{AreAt, AreDistinct, AreNew, AreStored, kept_fit, pair_at, pair_fits, pair_held, same_told}
 use Rattle.qw_operator.proofs.Fronts.{all_more}
 use Rattle.qw_leaves.proofs.LeafLists.{all_back}
 use Rattle.qw_operator.proofs.Promised.{AreHigh, AreOwn, IsItemAt, IsTestAt, blocks_moved, first_own_types, items_high, items_kinds, items_promised, items_use, kinds_moved, rest_own_types, values_come, values_in}
 use Rattle.qw_operator.proofs.Seen.{AreWithin, Longer, StandsIn, less_keeps, longer_back, longer_keeps, longer_kept, longer_same, stands_later, stands_more, within_wider}
-use Rattle.qw_operator.proofs.Served.{AreServed, Serves, slot_met, slot_spent, table_placed}
+use Rattle.qw_operator.proofs.Served.{Serves, slot_met, slot_spent, table_placed}
 use Rattle.qw_operator.proofs.Stood.{Stood, ArePlaced, StandsTable, EntryOf, built_of, entry_later}
 
 -- ---- what is supplied
@@ -79,7 +79,7 @@ supply_map Text Text' locals (o ∷ os) (v ∷ vs) also h = ((one v h.0.0, h.0.1
     one (val.Text t) h = (h.0, h.1, h.2, h.3, h.4, also h.0 h.1 t h.5, h.6)
 
 -- ---- an element of a list
-one_of : {X : Type 0} (P : X → Type 0) (done : List X) (x : X) (left : List X) → AllByRecursion P (done ++ x ∷ left) → P x
+pub one_of : {X : Type 0} (P : X → Type 0) (done : List X) (x : X) (left : List X) → AllByRecursion P (done ++ x ∷ left) → P x
 one_of P done x left all = (all_back P done (x ∷ left) all).0
 
 pub items_many : (known : List Known) (next : ℕ) (es : List Expression) (gs : List Item) (own : List ValType) → AreComputed known next es gs own → length gs ≡ length es
@@ -132,7 +132,7 @@ value_units r f vs is = ap (λ (q : Result (List Val) Code). by_values q f) is
 pub passed_units : (r : Result Bool Code) (n : ℕ) → r ≡ Ok true → where_passed r n ≡ n
 passed_units r n is = ap (λ (q : Result Bool Code). where_passed q n) is
 
-met_units : (costs : List Val → ℕ) (p : Probe) (row key entry : List Val) → is_same_row key (take (length p.key) entry) ≡ true →
+pub met_units : (costs : List Val → ℕ) (p : Probe) (row key entry : List Val) → is_same_row key (take (length p.key) entry) ≡ true →
     met_cost costs p row key entry ≡ text_octets key + (units_of_all p.on (at_row (pair_of p row entry)) + where_passed (passes p.on (at_row (pair_of p row entry))) (costs (pair_of p row entry)))
 met_units costs p row key entry is =
     ap (λ (b : Bool). text_octets key + (if b then units_of_all p.on (at_row (pair_of p row entry)) + where_passed (passes p.on (at_row (pair_of p row entry))) (costs (pair_of p row entry)) else 0)) is
@@ -374,26 +374,3 @@ module _ (c : Cells) (stoods : List Stood) (base : ℕ) (sink : FlowSink) (runs 
         (subst (λ (os : List Source). AllSupply (StandsIn c t) t.locals os key) h.key_is
         (supply_map (StandsIn c s) (StandsIn c t) t.locals (outs_of (all_moved h.items)) key (λ q at octets. stands_later c s t q at octets (longer_kept next s t kept)) supplied))
         (subst (AllUse (Among free)) h.key_is (items_use known next free p.key h.items h.key_own (omega arith) h.computed high))))
-
-  module _ (snk : Sink)
-      (sunk : (N next : ℕ) (known : List Known) (row : List Val) (a : Statement) (own : List ValType) (s : LowState) → 1 ≤ N → N ≤ fuel → base ≤ next → next + length own ≤ many → AreWithin next known → AreDeclared types known → AreOwn types next own → IsSunk known next snk a own →
-      AllByRecursion (IsItemAt N row) (sink_values snk) → AllByRecursion HasKind (sink_values snk) → CanSink snk → ((vs : List Val) → values_of (sink_values snk) (at_row row) ≡ Ok vs → 1 + text_octets (sink_key snk vs) ≤ N) → Here c stoods many known row s →
-      FeedsTo sink most fuel N (Below next) Any (fed built [] snk row) a s) where
-    pub carried_feeds : (operators : List Operator) (carried known : List Known) (next : ℕ) (row : List Val) (a : Statement) (own : List ValType) (s : LowState) → 1 + cost built operators snk row ≤ fuel → base ≤ next → next + length own ≤ many →
-        map (λ (k : Known). k.expression) known ≡ map (λ (k : Known). k.expression) carried → AreWithin next known → AreDeclared types known → AreOwn types next own → IsCarried known next operators snk a own → CanCarry carried operators snk → AreApart carried operators →
-        AreServed stoods operators → AreFit row carried → IsNullAt row operators → Here c stoods many known row s →
-        FeedsTo sink most fuel (1 + cost built operators snk row) (Below next) Any (fed built operators snk row) a s
-    carried_feeds [] carried known next row a own s enough low room told within declared own_types is can apart served fit nulls here =
-        sunk (1 + cost built [] snk row) next known row a own s (omega arith) enough low room within declared own_types is
-        (items_at carried row (1 + cost built [] snk row) (sink_values snk) fit (omega arith) can.0) (have_kinds carried (sink_values snk) can.0) can.1
-        (λ vs come. let same = value_units (values_of (sink_values snk) (at_row row)) (λ values. text_octets (sink_key snk values)) vs come in omega (arith, same)) here
-    carried_feeds (filter cs ∷ operators) carried known next row a own s enough low room told within declared own_types is can apart served fit nulls here =
-        filtered_feeds (cost built operators snk row) next known row cs (λ after b more. IsCarried known after operators snk b more) (fed built operators snk row) a own s enough low room within own_types is carried fit can.0 here
-        (λ t after b more passed now rest further room' types' enough'.
-        carried_feeds operators carried known after row b more t enough' (omega (arith, low, further)) room' told (within_wider next after known further within) declared types' rest can.1 apart served fit nulls now)
-    carried_feeds (probe p ∷ operators) carried known next row a own s enough low room told within declared own_types is can apart served fit nulls here =
-        probed_feeds (cost built operators snk) (fed built operators snk) (λ held after b more. IsCarried held after operators snk b more) p carried known next row a own is served.0.0 served.0.1 served.0.2 low room within declared own_types told fit apart.0 apart.1 nulls.0
-        can.0 can.1.2 can.2
-        (λ entry held t after b more told' within' declared' fit' now rest further room' types' enough'.
-        carried_feeds operators (map anywhere p.kept ++ carried) held after (pair_of p row entry) b more t enough' (omega (arith, low, further)) room' told' within' declared' types' rest can.3 apart.2 served.1 fit' (pair_null p row entry carried operators apart.2 nulls.1) now)
-        s here enough

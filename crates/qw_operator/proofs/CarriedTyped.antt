@@ -1,5 +1,5 @@
 -- The blocks of a pipeline's row are typed.
-use Rattle.std.proofs.Common.{◌≡◌, ℕ, zero, suc, ◌+◌, ◌*◌, ◌^◌, ◌<◌, Option, Some, None, List, [], ◌∷◌, ◌++◌, length, length-append, map, take, slice_get, refl, sym, ap, ◌∙◌, subst, arith}
+use Rattle.std.proofs.Common.{◌≡◌, ℕ, zero, suc, ◌+◌, ◌*◌, ◌^◌, ◌<◌, Bool, true, false, Option, Some, None, List, [], ◌∷◌, ◌++◌, length, length-append, map, take, slice_get, refl, sym, ap, ◌∙◌, subst, arith}
 use Rattle.std.proofs.lemmas.List.{append-nil, length-map}
 use Rattle.std.specs.List.{AllByRecursion}
 use Rattle.qw_types.specs.Kind.{type_kind}
@@ -25,13 +25,15 @@ use Rattle.qw_table.specs.Entries.{Declares, cell_types}
 use Rattle.qw_table.specs.Joins.{Builds, build_types, guarded, probe_types, sources_of, sure, unless_null}
 use Rattle.qw_table.specs.Keys as keys
 use Rattle.qw_table.specs.Keys.{slot_types}
+use Rattle.qw_table.specs.Outer.{goes_on, outer_types}
 use Rattle.qw_table.specs.Tables.{enter_block, insert_block}
 use Rattle.qw_table.specs.declared.key.Field.{Field}
 use Rattle.qw_table.proofs.JoinTyped.{probes_typed}
+use Rattle.qw_table.proofs.OuterTyped.{outer_typed}
 use Rattle.qw_physical.specs.Courses.{column_of}
 use Rattle.qw_physical.specs.Physical.{Operator, Probe, Sink, build, filter, probe, select}
 use Rattle.qw_physical.specs.declared.pipeline.ReadColumn.{ReadColumn}
-use Rattle.qw_operator.specs.Carries.{IsCarried, IsFiltered, IsProbed, IsRow, IsSunk, ReadsEntry, all_moved, behind_filter, directory, entry_types, first_filter, known_entry, moved}
+use Rattle.qw_operator.specs.Carries.{IsCarried, IsFiltered, IsLookedUp, IsOuterProbed, IsProbed, IsRow, IsSunk, ReadsEntry, all_moved, behind_filter, clear_block, directory, entry_types, first_filter, known_entry, moved}
 use Rattle.qw_operator.specs.Emitted.{AreComputed, AreDecided, ReadsPart, known_after, last_end}
 use Rattle.qw_operator.specs.Takes.{CanSink}
 use Rattle.qw_operator.proofs.CarriedFeeds.{items_many, moved_many, sources_many}
@@ -183,6 +185,58 @@ module _ (types : List ValType) where
         ),
       )
 
+  -- the columns of a row alone
+  clear_typed : (columns : List ReadColumn) (free : ℕ) → AreOwn types free (entry_types columns) → IsTyped types (clear_block free columns)
+  clear_typed [] free own = tt
+  clear_typed (c ∷ columns) free own =
+      let first : List ValType = cell_types (type_kind c.ty) in
+      let rest : List ValType = entry_types columns in (
+        (I32, null_there (type_kind c.ty) free (first_own_types types free (first ++ rest) first rest refl own), (omega arith, refl)),
+        clear_typed columns (free + 3) (subst (λ (n : ℕ). AreOwn types (free + n) rest) (cell_three (type_kind c.ty)) (rest_own_types types free (first ++ rest) first rest refl own)),
+      )
+    where
+      null_there : (kd : Kind) (free : ℕ) → AreOwn types free (cell_types kd) → slice_get types free ≡ Some I32
+      null_there (kind.Number s) free own = subst (λ (i : ℕ). slice_get types i ≡ Some I32) (omega arith) (own 0 I32 refl)
+      null_there kind.Date free own = subst (λ (i : ℕ). slice_get types i ≡ Some I32) (omega arith) (own 0 I32 refl)
+      null_there kind.Text free own = subst (λ (i : ℕ). slice_get types i ≡ Some I32) (omega arith) (own 0 I32 refl)
+
+  -- an outer lookup, and within it the rest
+  pub outer_probed_typed : (known : List Known) (next : ℕ) (p : Probe) (Rest : List Known → (next : ℕ) → Statement → List ValType → Type 0) (a : Statement) (own : List ValType) → AreDeclared types known → AreOwn types next own → slice_get types (directory p.table) ≡ Some I32 →
+      IsOuterProbed known next p Rest a own → ((held : List Known) (after : ℕ) (b : Statement) (more : List ValType) → AreDeclared types held → AreOwn types after more → Rest held after b more → IsTyped types b) → IsTyped types a
+  outer_probed_typed known next p Rest a own declared own_types led h rest_typed =
+      let free : ℕ = next + length h.key_own in
+      let last : ℕ = free + 17 + 3 * length p.kept in
+      let inner : List ValType = h.tests_own ++ h.rest_own in
+      let behind : List ValType = entry_types p.kept ++ inner in
+      let key_types = first_own_types types next own h.key_own (outer_types ++ behind) h.own_is own_types in
+      let later = rest_own_types types next own h.key_own (outer_types ++ behind) h.own_is own_types in
+      let lookup_types : AreOwn types free outer_types = first_own_types types free (outer_types ++ behind) outer_types behind refl later in
+      let cells_types : AreOwn types (free + 17) behind = rest_own_types types free (outer_types ++ behind) outer_types behind refl later in
+      let entry_own : AreOwn types (free + 17) (entry_types p.kept) = first_own_types types (free + 17) behind (entry_types p.kept) inner refl cells_types in
+      let inner_own : AreOwn types last inner = subst (λ (n : ℕ). AreOwn types (free + 17 + n) inner) (entry_many p.kept) (rest_own_types types (free + 17) behind (entry_types p.kept) inner refl cells_types) in
+      let tests_own : AreOwn types last h.tests_own = first_own_types types last inner h.tests_own h.rest_own refl inner_own in
+      let rest_own : AreOwn types (last + length h.tests_own) h.rest_own = rest_own_types types last inner h.tests_own h.rest_own refl inner_own in
+      let held : List Known = known_entry (free + 17) p.kept ++ known in
+      let held_declared : AreDeclared types held = all-append (λ (k : Known). DeclaresValue types k.operand) (known_entry (free + 17) p.kept) known (entry_declared types (free + 17) p.kept entry_own) declared in
+      let going : IsTyped types (goes_on (free + 2)) = (I32, lookup_types 2 I32 refl, (omega arith, refl)) in
+      subst (IsTyped types) (sym h.is) (
+        items_typed known next p.key h.items h.key_own declared key_types h.computed,
+        outer_typed (directory p.table) h.key free (seq h.reads (tests_block h.tests (goes_on (free + 2)))) (clear_block (free + 17) p.kept) h.rest h.look_up h.probes types
+            (fields_declared types h.key (subst (AllByRecursion (IsSourceDeclared types)) h.key_is (outs_declared known next p.key h.items h.key_own declared key_types h.computed))) led lookup_types (
+              entry_typed p.kept (24 + 16 * length p.key) (free + 7) (free + 17) h.reads (lookup_types 7 I32 refl) entry_own h.reading,
+              decided_typed held [] (subst (AreDeclared types) (sym (append-nil held)) held_declared) tt last 0 h.ends p.on h.tests h.tests_own (goes_on (free + 2)) tests_own h.decided going,
+            )
+            (clear_typed p.kept (free + 17) entry_own) (rest_typed held (last + length h.tests_own) h.rest h.rest_own held_declared rest_own h.onward),
+      )
+
+  pub looked_up_typed : (known : List Known) (next : ℕ) (p : Probe) (Rest : List Known → (next : ℕ) → Statement → List ValType → Type 0) (a : Statement) (own : List ValType) → AreDeclared types known → AreOwn types next own → slice_get types (directory p.table) ≡ Some I32 →
+      IsLookedUp p.outer known next p Rest a own → ((held : List Known) (after : ℕ) (b : Statement) (more : List ValType) → AreDeclared types held → AreOwn types after more → Rest held after b more → IsTyped types b) → IsTyped types a
+  looked_up_typed known next p Rest a own declared own_types led h rest_typed = by_kind p.outer h
+    where
+      by_kind : (outer : Bool) → IsLookedUp outer known next p Rest a own → IsTyped types a
+      by_kind false h = probed_typed known next p Rest a own declared own_types led h rest_typed
+      by_kind true h = outer_probed_typed known next p Rest a own declared own_types led h rest_typed
+
   -- ---- the sinks
   module _ (free_is : slice_get types 1 ≡ Some I32) (left_is : slice_get types 2 ≡ Some I32) where
     plain_typed : (k : Option Kind) (c : Cell) (at : ℕ) → DeclaresKind types c k → IsTyped types (plain_block k c at)
@@ -275,7 +329,7 @@ module _ (types : List ValType) where
     carried_typed (filter cs ∷ operators) snk known next a own declared own_types led sink_led can h =
         filtered_typed known next cs (λ after b more. IsCarried known after operators snk b more) a own declared own_types h (λ after b more more_types rest. carried_typed operators snk known after b more declared more_types led sink_led can rest)
     carried_typed (probe p ∷ operators) snk known next a own declared own_types led sink_led can h =
-        probed_typed known next p (λ held after b more. IsCarried held after operators snk b more) a own declared own_types led.0 h
+        looked_up_typed known next p (λ held after b more. IsCarried held after operators snk b more) a own declared own_types led.0 h
         (λ held after b more held_declared more_types rest. carried_typed operators snk held after b more held_declared more_types led.1 sink_led can rest)
 
     pub led_behind : (operators : List Operator) → AreLed types operators → AreLed types (behind_filter operators)

@@ -1,5 +1,5 @@
 -- Where a pipeline runs, and what conjuncts feed there.
-use Rattle.std.proofs.Common.{◌≡◌, ℕ, ◌+◌, ◌<◌, ◌≤◌, inr, Bool, true, Some, List, [], ◌++◌, length, map, Result, Ok, slice_get, sym, ap, ◌∙◌, subst, arith}
+use Rattle.std.proofs.Common.{◌≡◌, ℕ, ◌+◌, ◌<◌, ◌≤◌, inr, Bool, true, false, Some, List, [], ◌++◌, length, map, Result, Ok, slice_get, sym, ap, ◌∙◌, subst, arith}
 use Rattle.std.proofs.lemmas.List.{append-nil}
 use Rattle.std.proofs.lemmas.Option.{slice_get_within}
 use Rattle.std.specs.List.{AllByRecursion}
@@ -90,17 +90,23 @@ module _ (c : Cells) (stoods : List Stood) (base : ℕ) (sink : Sink) (runs : Ru
         (λ t read. (read.0, here_kept many next known row s t low within read.0 at)) (λ t x. x) (λ code x. x)
         (p.reads.runs most fuel next 0 row s (subst (AllByRecursion (IsThere next 0 row s)) (sym none) tt) (subst (AreCellsIn next (length s.locals)) (sym none) (omega (arith, room, long))))
 
-    pub conjuncts_feed : (tests : List Test) (ends : List ℕ) (cs : List Condition) (own : List ValType) (f : Flow (List Val)) (rest : Statement) (s : LowState) → next + length own ≤ many → AreDecided known [] next 0 ends cs tests own → AllByRecursion (IsTestAt N row) cs → At s →
-        ((t : LowState) → At t → Kept next s t → passes cs (at_row row) ≡ Ok true → FeedsTo sink most fuel N (Below next) Any f rest t) →
-        FeedsTo sink most fuel N (Below next) Any (flow_by (passes cs (at_row row)) (where_true f)) (tests_block tests rest) s
-    conjuncts_feed tests ends cs own f rest s room are at here onward =
+    -- `Old` says which locals stay, and `Then` what holds where all conjuncts pass and the rest has been done, and where one doesn't
+    pub conjuncts_then : (Old : ℕ → Type 0) (low_old : (i : ℕ) → Old i → i < next) (Then : LowState → Type 0) (tests : List Test) (ends : List ℕ) (cs : List Condition) (own : List ValType) (f : Flow (List Val)) (rest : Statement) (s : LowState) → next + length own ≤ many → AreDecided known [] next 0 ends cs tests own →
+        AllByRecursion (IsTestAt N row) cs → At s → ((t : LowState) → At t → Kept next s t → passes cs (at_row row) ≡ Ok true → FeedsTo sink most fuel N Old Then f rest t) → ((t : LowState) → Kept next s t → passes cs (at_row row) ≡ Ok false → Then t) →
+        FeedsTo sink most fuel N Old Then (flow_by (passes cs (at_row row)) (where_true f)) (tests_block tests rest) s
+    conjuncts_then Old low_old Then tests ends cs own f rest s room are at here onward untrue =
         let same = truths_pass cs row in
         let stage : ℕ → ℕ = λ j. read_at 0 ends 0 j in
-        subst (λ (q : Result Bool Code). FeedsTo sink most fuel N (Below next) Any (flow_by q (where_true f)) (tests_block tests rest) s) same
-        (tests_feed sink most fuel next (Below next) (old_low next low) (λ rows t u kept. runs.kept next rows t u low kept) N many some (λ j t. At t) Any tests (truths_of cs row) f rest s
+        subst (λ (q : Result Bool Code). FeedsTo sink most fuel N Old Then (flow_by q (where_true f)) (tests_block tests rest) s) same
+        (tests_feed sink most fuel next Old low_old (λ rows t u kept. runs.kept next rows t u low kept) N many some (λ j t. At t) Then tests (truths_of cs row) f rest s
         (tests_promised known [] row most fuel N next next many some enough (omega arith) (λ e t. At t)
         (λ e t now. subst (λ (ks : List Known). AreHeld ks row t) (sym (known_all e)) (held_more c t known row now.less now.held))
         (λ e t u kept now. here_kept many next known row t u low within kept now)
         (λ done upto a p t now long. reads_none done upto a p (omega (arith, room)) t now)
         0 stage 0 next 0 ends cs tests own (λ j. let place : 0 + j ≡ j = omega arith in ap stage place) (omega arith) room are at)
-        here here.long (λ t kept now long is. onward t now kept (sym same ∙ is)) (λ t kept is. tt))
+        here here.long (λ t kept now long is. onward t now kept (sym same ∙ is)) (λ t kept is. untrue t kept (sym same ∙ is)))
+
+    pub conjuncts_feed : (tests : List Test) (ends : List ℕ) (cs : List Condition) (own : List ValType) (f : Flow (List Val)) (rest : Statement) (s : LowState) → next + length own ≤ many → AreDecided known [] next 0 ends cs tests own → AllByRecursion (IsTestAt N row) cs → At s →
+        ((t : LowState) → At t → Kept next s t → passes cs (at_row row) ≡ Ok true → FeedsTo sink most fuel N (Below next) Any f rest t) →
+        FeedsTo sink most fuel N (Below next) Any (flow_by (passes cs (at_row row)) (where_true f)) (tests_block tests rest) s
+    conjuncts_feed tests ends cs own f rest s room are at here onward = conjuncts_then (Below next) (old_low next low) Any tests ends cs own f rest s room are at here onward (λ t kept is. tt)

@@ -9,6 +9,9 @@ pub mod LookupFeeds
 pub mod EntryReads
 pub mod Served
 pub mod CarriedFeeds
+pub mod NullEntries
+pub mod OuterProbed
+pub mod OperatorsFeed
 pub mod ColumnReads
 pub mod RowFeeds
 pub mod PipelineFeeds
@@ -18,7 +21,10 @@ pub mod TablePermuted
 pub mod CarriedTyped
 pub mod BuiltServes
 pub mod Carried
+pub mod OuterEmitted
+mod OuterOperators
 pub mod CellSteps
+mod ClearSteps
 pub mod Computed
 pub mod Conjuncts
 pub mod Fronts

@@ -32,7 +32,8 @@ use Rattle.qw_physical.specs.Physical.{Operator, Sink, filter, probe}
 use Rattle.qw_operator.specs.Carries.{IsRow, IsSunk, behind_filter, first_filter}
 use Rattle.qw_operator.specs.Emitted.{AreDecided, known_after, last_end}
 use Rattle.qw_operator.specs.Takes.{CanCarry, CanSink, IsTestOver}
-use Rattle.qw_operator.proofs.CarriedFeeds.{carried_feeds, passed_units, tests_at}
+use Rattle.qw_operator.proofs.CarriedFeeds.{passed_units, tests_at}
+use Rattle.qw_operator.proofs.OperatorsFeed.{carried_feeds}
 use Rattle.qw_operator.proofs.ColumnReads.{At, after_within, at_kept, low_next, part_ends}
 use Rattle.qw_operator.proofs.Filters.{Runs, Here, old_low}
 use Rattle.qw_operator.proofs.KnownLeaves.{AreFit}

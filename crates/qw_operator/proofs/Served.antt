@@ -1,9 +1,9 @@
 -- The tables that a pipeline's lookups are served by, and the entries that have a key.
-use Rattle.std.proofs.Common.{◌≡◌, ◌<ℤ◌, ℤ, ℕ, zero, suc, ◌+◌, ◌<◌, ◌==◌, if◌then◌else◌, Bool, true, false, cond, sum_by, Option, Some, None, List, [], ◌∷◌, ◌++◌, drop, get_or, length, map, take, slice_get, refl, sym, ap, ap₂, ◌∙◌, arith}
+use Rattle.std.proofs.Common.{◌≡◌, ◌<ℤ◌, ℤ, ℕ, zero, suc, ◌+◌, ◌<◌, ◌==◌, ◌&&◌, ◌||◌, not, if◌then◌else◌, Bool, true, false, cond, sum_by, Option, Some, None, List, [], ◌∷◌, ◌++◌, drop, get_or, length, map, take, Result, Ok, Err, slice_get, refl, sym, ap, ap₂, ◌∙◌, arith}
 use Rattle.std.proofs.lemmas.Bool.{eq-eqb, eqb-true}
 use Rattle.std.proofs.lemmas.List.Sorted.{sum_by-IsPermutation}
 use Rattle.std.proofs.lemmas.List.Sums.{sum_by-cons}
-use Rattle.std.specs.List.{AllByRecursion}
+use Rattle.std.specs.List.{AllByRecursion, list_any}
 use Rattle.std.specs.Ordering.{MatchOrdering, int_cmp, is_eq, nat_cmp, ordering_then}
 use Rattle.std.specs.Cmp.{int_ranks, ranks}
 use Rattle.std.specs.declared.cmp.Ordering.{Ordering}
@@ -11,6 +11,7 @@ use Rattle.std.specs.declared.cmp.Ordering.TheVariants.{Less, Equal, Greater}
 use Rattle.qw_types.specs.Kind.{type_kind}
 use Rattle.qw_types.specs.TextOrder.{text_order}
 use Rattle.qw_types.specs.ValueOrder.{is_same_row, row_order, value_order}
+use Rattle.qw_types.specs.declared.code.Code.{Code}
 use Rattle.qw_types.specs.declared.kind.Kind.{Kind}
 use Rattle.qw_types.specs.declared.value.Val.{Val}
 use Rattle.qw_types.specs.declared.value.Val.TheVariants.{Null, Num, Date, Text}
@@ -23,10 +24,11 @@ use Rattle.qw_low.specs.State.{Cells}
 use Rattle.qw_feed.specs.Cells.{kinds_of}
 use Rattle.qw_feed.specs.Feeds.{nothing, flow_by, flow_over, spend, where_true}
 use Rattle.qw_feed.specs.Rows.{Row}
-use Rattle.qw_table.specs.Joins.{keyed, sources_of, where_equal}
+use Rattle.qw_table.specs.Joins.{have_values, keyed, sources_of, where_equal}
+use Rattle.qw_table.specs.Outer.{is_met, pass_or_raise, stands_alone}
 use Rattle.qw_table.specs.Tables.{IsTable, in_slot, values_of}
 use Rattle.qw_table.proofs.JoinFeeds.{slot-low}
-use Rattle.qw_physical.specs.Courses.{met, pair_of}
+use Rattle.qw_physical.specs.Courses.{is_alone, isnt_failed, meets, met, pair_of}
 use Rattle.qw_physical.specs.Physical.{Operator, Probe, filter as filter_by, probe}
 use Rattle.qw_physical.specs.declared.pipeline.ReadColumn.{ReadColumn}
 use Rattle.qw_operator.proofs.PairRows.{AreStored}
@@ -187,3 +189,40 @@ module _ (p : Probe) (row key : List Val) (stoods : List Stood) (st : Stood) (th
         ∙ (ap (flow_over one) of_slot
         ∙ (flow_values one es
         ∙ ap (λ (m : ℕ). flow_over (where_equal m (λ v. flow_by (passes p.on (at_row (pair_of p row v))) (where_true (fed (pair_of p row v)))) key) es) (sym same)))
+
+  -- ---- whether the row stands alone
+  abbrev meets_it : List Val → Bool
+  meets_it = meets p row key
+
+  misses : (v : List Val) → (keyed n v == slot key) ≡ false → meets_it v ≡ false
+  misses v other = by_test (is_same_row key (take n v)) refl
+    where
+      by_test : (b : Bool) → is_same_row key (take n v) ≡ b → b && isnt_failed (passes p.on (at_row (pair_of p row v))) ≡ false
+      by_test true is = absurd (differs (keyed n v == slot key) (eq-eqb (keyed n v) (slot key) (ap slot (sym (same_keys key (take n v) is)))) other)
+      by_test false is = refl
+
+  any_there : (vs : List (List Val)) → list_any meets_it vs ≡ list_any meets_it (in_slot (keyed n) (slot key) vs)
+  any_there [] = refl
+  any_there (v ∷ vs) = one (keyed n v == slot key) refl (in_slot (keyed n) (slot key) vs) (any_there vs)
+    where
+      one : (b : Bool) → (keyed n v == slot key) ≡ b → (ws : List (List Val)) → list_any meets_it vs ≡ list_any meets_it ws → meets_it v || list_any meets_it vs ≡ list_any meets_it (cond b (v ∷ ws) ws)
+      one true is ws same = ap (λ (b : Bool). meets_it v || b) same
+      one false is ws same = ap (λ (b : Bool). b || list_any meets_it vs) (misses v is) ∙ same
+
+  abbrev passed : List Val → Result Bool Code
+  passed v = passes p.on (at_row (pair_of p row v))
+
+  neither_failed : (r : Result Bool Code) → isnt_failed r ≡ pass_or_raise r
+  neither_failed (Ok b) = refl
+  neither_failed (Err code) = refl
+
+  any_met : (vs : List (List Val)) → list_any meets_it vs ≡ list_any (is_met n passed key) vs
+  any_met [] = refl
+  any_met (v ∷ vs) = ap₂ (λ (b c : Bool). (is_same_row key (take n v) && b) || c) (neither_failed (passed v)) (any_met vs)
+
+  -- of all entries of the table, by those of the slot alone
+  pub slot_alone : p.outer ≡ true → (fields : ℕ) → fields ≡ n → is_alone p row key (get_or (built_of stoods) p.table []) ≡ stands_alone fields passed key (values_of es)
+  slot_alone outer fields same =
+      ap (λ (b : Bool). b && not (have_values key && list_any meets_it (get_or (built_of stoods) p.table []))) outer
+      ∙ (ap (λ (b : Bool). not (have_values key && b)) (any_there (get_or (built_of stoods) p.table []) ∙ (ap (list_any meets_it) of_slot ∙ any_met (values_of es)))
+      ∙ ap (λ (m : ℕ). stands_alone m passed key (values_of es)) (sym same))

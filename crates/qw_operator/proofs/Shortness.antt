@@ -22,13 +22,17 @@ use Rattle.qw_low.specs.Steps.{expression_steps, request_steps, steps_of}
 use Rattle.qw_low.specs.Translation.{unaligned}
 use Rattle.qw_read.specs.declared.reader.Reader.{Reader}
 use Rattle.qw_feed.specs.Cells.{Source, cell_block, cells_block, plain_block}
-use Rattle.qw_feed.specs.Room.{room_block}
+use Rattle.qw_feed.specs.Room.{i32, room_block}
 use Rattle.qw_feed.specs.Rows.{link_block, push_block}
+use Rattle.qw_feed.specs.Stages.{Test}
 use Rattle.qw_layout.specs.Row.{entry_size}
 use Rattle.qw_table.specs.Joins as joins
 use Rattle.qw_table.specs.Joins.{Builds, Probes, guarded, sure, unless_null}
-use Rattle.qw_table.specs.Tables.{enter_block, insert_block, probe_block}
+use Rattle.qw_table.specs.Outer.{OuterProbes, goes_on, outer_choice, outer_front, outer_turn, outer_walk}
+use Rattle.qw_table.specs.Tables.{enter_block, insert_block, probe_block, slot_at}
 use Rattle.qw_table.specs.declared.key.Field.{Field}
+use Rattle.qw_physical.specs.declared.pipeline.ReadColumn.{ReadColumn}
+use Rattle.qw_operator.specs.Carries.{clear_block}
 use Rattle.qw_operator.specs.Nesting.{closings}
 use Rattle.qw_operator.proofs.Fronts.{sum_next}
 
@@ -200,3 +204,49 @@ probe_long directory key free found a probes =
     let guards = guarded_long key (seq probes.find met) in
     let walks = walk_long directory (free + 3) (free + 4) (free + 5) probes.test found in
     subst (λ (b : Statement). length (steps_of b) ≤ 60 + 358 * length key + length (steps_of found)) (sym probes.is) (omega (arith, finds, tests, many, twice, tested, all, guards, walks))
+
+-- ---- an outer lookup
+pub clear_long : (free : ℕ) (columns : List ReadColumn) → length (steps_of (clear_block free columns)) ≡ 2 * length columns
+clear_long free [] = refl
+clear_long free (c ∷ columns) = let rest = clear_long (free + 3) columns in omega (arith, rest)
+
+turn_long : (m w g x n : ℕ) (test try clear rest : Statement) →
+    length (steps_of (outer_walk m w g x (record { out = local n; block = test }) try clear rest)) ≡ length (steps_of test) + length (steps_of try) + length (steps_of clear) + length (steps_of rest) + 42
+turn_long m w g x n test try clear rest =
+    let told : Test = record { out = local n; block = test } in
+    let passing : Statement = conditional (local n) try skip in
+    let lone : Statement = conditional (local m) skip (seq (goes_on g) clear) in
+    let ends : Statement = seq (assign w (i32 0)) lone in
+    let choice : Statement = outer_choice m w g x told try clear in
+    let onward : Statement = conditional (local g) (seq rest (assign m (i32 1))) skip in
+    let next : Statement = conditional (local x) (load x (loads.Full I32) 0 (local x)) skip in
+    let turn : Statement = outer_turn m w g x told try clear rest in
+    let one = length-append (steps_of try) (step.Else ∷ step.End ∷ []) in
+    let two = length-append (steps_of test) (steps_of passing) in
+    let three = length-append (steps_of clear) (step.End ∷ []) in
+    let four = length-append (steps_of (seq test passing)) (step.Else ∷ (steps_of ends ++ step.End ∷ [])) in
+    let five = length-append (steps_of ends) (step.End ∷ []) in
+    let six = length-append (steps_of (seq rest (assign m (i32 1)))) (step.Else ∷ step.End ∷ []) in
+    let seven = length-append (steps_of rest) (steps_of (assign m (i32 1))) in
+    let eight = length-append (steps_of choice) (steps_of (seq onward next)) in
+    let nine = length-append (steps_of onward) (steps_of next) in
+    let ten = length-append (steps_of turn) (step.Op (o.LocalGet w) ∷ step.Again ∷ step.End ∷ step.End ∷ []) in
+    omega (arith, one, two, three, four, five, six, seven, eight, nine, ten)
+
+pub outer_long : (directory : ℕ) (key : List Field) (free : ℕ) (try clear rest a : Statement) → OuterProbes directory key free try clear rest a →
+    length (steps_of a) ≤ 75 + 358 * length key + length (steps_of try) + length (steps_of clear) + length (steps_of rest)
+outer_long directory key free try clear rest a probes =
+    let x : ℕ = free + 7 in
+    let leads : Statement = load x (loads.Full I32) 0 (slot_at directory (free + 6)) in
+    let front : Statement = outer_front directory key (free + 6) x probes.find in
+    let walk : Statement = outer_walk free (free + 1) (free + 2) x (record { out = local (free + 8); block = probes.test }) try clear rest in
+    let finds = probes.finds.short in
+    let tests = probes.tests.short in
+    let many = length-map key sure in
+    let twice = steps_twice probes.find in
+    let tested = steps_twice probes.test in
+    let found = length-append (steps_of probes.find) (steps_of leads) in
+    let guards = guarded_long key (seq probes.find leads) in
+    let all = length-append (steps_of front) (steps_of walk) in
+    let walks = turn_long free (free + 1) (free + 2) x (free + 8) probes.test try clear rest in
+    subst (λ (b : Statement). length (steps_of b) ≤ 75 + 358 * length key + length (steps_of try) + length (steps_of clear) + length (steps_of rest)) (sym probes.is) (omega (arith, finds, tests, many, twice, tested, found, guards, all, walks))

@@ -14,7 +14,7 @@ sink_span (sink.Select items) = 400 * sum_by nodes items.items + 20 * length ite
 
 -- and those of an operator, beside what is within it
 abbrev pub probe_span : Probe → ℕ
-probe_span p = 400 * sum_by nodes p.key.items + 358 * length p.key.items + 25 * length p.kept.items + 420 * sum_by nodes_of p.on.items + 100
+probe_span p = 400 * sum_by nodes p.key.items + 358 * length p.key.items + 27 * length p.kept.items + 420 * sum_by nodes_of p.on.items + 100
 
 abbrev pub operator_span : Operator → ℕ
 operator_span (operator.Filter conjuncts) = 420 * sum_by nodes_of conjuncts.items

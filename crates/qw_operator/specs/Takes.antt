@@ -7,7 +7,7 @@ use Rattle.qw_scalar.specs.Typing.{AreTyped, HasKind, IsTyped}
 use Rattle.qw_expr.specs.Bindings.{TakeKnown, TakesKnown}
 use Rattle.qw_expr.specs.Computes.{Known}
 use Rattle.qw_physical.specs.Courses.{column_of, sink_values}
-use Rattle.qw_physical.specs.Physical.{Operator, Sink, build, filter, probe, select}
+use Rattle.qw_physical.specs.Physical.{MayBeNull, Operator, Sink, build, filter, probe, select}
 use Rattle.qw_physical.specs.declared.pipeline.ReadColumn.{ReadColumn}
 
 -- a column as something that is known, wherever it is
@@ -31,5 +31,5 @@ abbrev pub CanCarry : (known : List Known) → List Operator → Sink → Type 0
 CanCarry known [] sink = AllByRecursion (IsValueOver known) (sink_values sink) × CanSink sink
 CanCarry known (filter cs ∷ operators) sink = AllByRecursion (IsTestOver known) cs × CanCarry known operators sink
 CanCarry known (probe p ∷ operators) sink =
-    AllByRecursion (IsValueOver known) p.key × ((length p.key ≤ 1000) × (length p.kept ≤ 512) × AreSized p.kept)
+    AllByRecursion (IsValueOver known) p.key × ((length p.key ≤ 1000) × (length p.kept ≤ 512) × AreSized p.kept × MayBeNull (probe p))
     × AllByRecursion (IsTestOver (map anywhere p.kept ++ known)) p.on × CanCarry (map anywhere p.kept ++ known) operators sink

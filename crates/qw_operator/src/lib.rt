@@ -8,6 +8,7 @@
 //! - [`needed`]: how many columns are read where an expression is evaluated.
 //! - [`nesting`]: what is done where a conjunct is true stands within its choice.
 //! - [`lookup`]: a table is looked up, and at each entry that has the key the columns that it keeps are known.
+//! - [`outer`]: the same of a LEFT JOIN, where a row goes on alone that no entry passes with.
 //! - [`fields`], [`locals`]: where the fields of keys and of entries are, and which locals are declared.
 //!
 //! What is read of a table's entries stands in `entry`.
@@ -22,5 +23,6 @@ pub mod lookup;
 pub mod needed;
 pub mod nesting;
 pub mod operators;
+pub mod outer;
 pub mod row;
 pub mod sink;

@@ -82,8 +82,8 @@ operator_stops meaning n weak _ _ _ (operator o t rest h) = stops_at n t rest (w
 -- ---- lists behind an operator of one token
 
 -- the list is of nothing, or the tokens begin so
-pub series_front : {O A : Type 0} {Between : O → List Lexeme → List Lexeme → Type 0} {Item : A → List Lexeme → List Lexeme → Type 0} (Q : List Lexeme → Type 0) → ((o : O) (us vs : List Lexeme) → Between o us vs → Q us)
-    → (xs : List A) (ts rest : List Lexeme) → Series IsNothing Between Item appended xs ts rest → ((xs ≡ []) × (ts ≡ rest)) ⊎ Q ts
+pub series_front : {O A B : Type 0} {Between : O → List Lexeme → List Lexeme → Type 0} {Item : B → List Lexeme → List Lexeme → Type 0} {joined : O → List A → B → List A} (Q : List Lexeme → Type 0) → ((o : O) (us vs : List Lexeme) → Between o us vs → Q us)
+    → (xs : List A) (ts rest : List Lexeme) → Series IsNothing Between Item joined xs ts rest → ((xs ≡ []) × (ts ≡ rest)) ⊎ Q ts
 series_front Q q _ _ _ (first _ _ _ (nothing rest)) = inl (refl, refl)
 series_front Q q _ _ _ (more xs o x ts us vs rest h between item) =
     elim (series_front Q q xs ts us h) [

@@ -36,7 +36,7 @@ pub order_next : (order : List SortSpecification) (ts rest : List Lexeme) → Is
 order_next _ _ _ (unordered rest) end = subst EndsHaving (sym end) none_having
 order_next _ _ _ (ordered s others w b ts us rest f g h are) end = record {
   grouping = record {
-    filter = word_filter (codes "ORDER") w (b ∷ ts) refl refl refl refl refl refl refl f;
+    filter = word_filter (codes "ORDER") w (b ∷ ts) refl refl refl refl refl refl refl refl f;
     no_point = word_no_point (codes "ORDER") w (b ∷ ts) f;
     no_group = other_word (codes "ORDER") (codes "GROUP") w (b ∷ ts) refl refl f;
   };
@@ -141,4 +141,4 @@ grouping_is _ _ _ (grouped r others w b ts us rest f g h are) ends =
 
 pub grouping_next : (rs : List Reference) (ts rest : List Lexeme) → IsGrouping rs ts rest → EndsGrouping rest → EndsFilter ts
 grouping_next _ _ _ (ungrouped rest) ends = ends.filter
-grouping_next _ _ _ (grouped r others w b ts us rest f g h are) ends = word_filter (codes "GROUP") w (b ∷ ts) refl refl refl refl refl refl refl f
+grouping_next _ _ _ (grouped r others w b ts us rest f g h are) ends = word_filter (codes "GROUP") w (b ∷ ts) refl refl refl refl refl refl refl refl f

@@ -1,13 +1,13 @@
 -- Names, entries of FROM and JOIN are read exactly, and what ends them, a source and a where clause.
-use Rattle.std.proofs.Common.{◌≡◌, ℕ, ◌<◌, ◌≤◌, ◌||◌, false, List, [], ◌∷◌, length, Option, Some, None, refl, subst, arith, inl, inr}
+use Rattle.std.proofs.Common.{◌≡◌, ℕ, ◌<◌, ◌≤◌, Bool, ◌||◌, true, false, List, [], ◌∷◌, length, Option, Some, None, refl, subst, arith, inl, inr}
 use Rattle.std.specs.Prelude.{codes, IsTrue}
 use Rattle.std.proofs.lemmas.Bool.{cases_Bool, or_left, or_right}
 use Rattle.qw_token.specs.Token.{Lexeme}
 use Rattle.qw_token.specs.declared.token.Kind.TheVariants.{Word}
 use Rattle.qw_ast.specs.Grammar.{folded}
 use Rattle.qw_ast.specs.Syntax.{Entry}
-use Rattle.qw_ast.specs.ScriptGrammar.{is_word, is_symbol, is_name, is_regular, is_comma, is_delimited_kind, is_number, is_string, IsOperator, operator, IsNaming, unnamed, named, named_as, IsEntry, an_entry, IsJoin, a_join, an_inner_join}
-use Rattle.qw_parse.specs.Inner.Readers.{token_at, word_at, octets_if, naming_at, entry_at, join_at}
+use Rattle.qw_ast.specs.ScriptGrammar.{is_word, is_symbol, is_name, is_regular, is_comma, is_delimited_kind, is_number, is_string, IsOperator, operator, IsNaming, unnamed, named, named_as, IsEntry, an_entry, IsJoin, a_join, an_inner_join, a_left_join, a_left_outer_join}
+use Rattle.qw_parse.specs.Inner.Readers.{token_at, word_at, octets_if, naming_at, entry_at, inner_join_at, left_join_at, join_at}
 use Rattle.qw_parse.proofs.LoopLemmas.{Shortens, bind_some, cases_option, some_same}
 use Rattle.qw_parse.proofs.TokenLemmas.{word_is, symbol_is, Front, front, one_takes, one_is, one_not, one_none, Found, found, token_takes, token_is, token_not, token_none, octets_found, octets_are, strength, Stops, stops_at, stops_none}
 use Rattle.qw_parse.proofs.ExactLemmas.{starts_at, Starts, other_word, no_word, word_stops, symbol_stops}
@@ -115,41 +115,80 @@ pub entry_begins : (e : Entry) (ts rest : List Lexeme) → IsEntry e ts rest →
 entry_begins _ _ _ (an_entry t alias us rest h i) =
     starts_at t us (or_right (is_number t || is_string t) _ (or_left (is_name t) _ (or_left (is_regular t) (is_delimited_kind t.kind) h)))
 
-join_made : (ts rest : List Lexeme) → Front (is_word (codes "JOIN")) ts rest → IsJoin tt ts rest
+join_made : (ts rest : List Lexeme) → Front (is_word (codes "JOIN")) ts rest → IsJoin false ts rest
 join_made _ _ (front t rest h) = a_join t rest h
 
-inner_join_made : (ts us rest : List Lexeme) → Front (is_word (codes "INNER")) ts us → Front (is_word (codes "JOIN")) us rest → IsJoin tt ts rest
+inner_join_made : (ts us rest : List Lexeme) → Front (is_word (codes "INNER")) ts us → Front (is_word (codes "JOIN")) us rest → IsJoin false ts rest
 inner_join_made _ _ _ (front w _ h) (front t rest i) = an_inner_join w t rest h i
 
-pub join_takes : (ts : List Lexeme) (x : Unit {0} × List Lexeme) → join_at ts ≡ Some x → IsJoin x.0 ts x.1
-unfolding join_at
-join_takes ts x e =
+left_join_made : (ts us rest : List Lexeme) → Front (is_word (codes "LEFT")) ts us → Front (is_word (codes "JOIN")) us rest → IsJoin true ts rest
+left_join_made _ _ _ (front w _ h) (front t rest i) = a_left_join w t rest h i
+
+left_outer_join_made : (ts us vs rest : List Lexeme) → Front (is_word (codes "LEFT")) ts us → Front (is_word (codes "OUTER")) us vs → Front (is_word (codes "JOIN")) vs rest → IsJoin true ts rest
+left_outer_join_made _ _ _ _ (front w _ h) (front o _ g) (front t rest i) = a_left_outer_join w o t rest h g i
+
+inner_join_takes : (ts rest : List Lexeme) → inner_join_at ts ≡ Some rest → IsJoin false ts rest
+unfolding inner_join_at
+inner_join_takes ts rest e =
     elim (cases_option (word_at (codes "JOIN") ts)) [
-      | inr us ↦ subst (λ (y : Unit {0} × List Lexeme). IsJoin y.0 ts y.1) (some_same (tt, us.0) x (rw us.1 at e)) (join_made ts us.0 (one_takes (is_word (codes "JOIN")) ts us.0 us.1))
+      | inr us ↦ subst (IsJoin false ts) (some_same us.0 rest (rw us.1 at e)) (join_made ts us.0 (one_takes (is_word (codes "JOIN")) ts us.0 us.1))
       | inl none ↦ (
-          let us = bind_some (word_at (codes "INNER") ts) _ x (rw none at e) in
-          let vs = bind_some (word_at (codes "JOIN") us.0) _ x us.2 in
-          subst (λ (y : Unit {0} × List Lexeme). IsJoin y.0 ts y.1) (some_same (tt, vs.0) x vs.2)
-          (inner_join_made ts us.0 vs.0 (one_takes (is_word (codes "INNER")) ts us.0 us.1) (one_takes (is_word (codes "JOIN")) us.0 vs.0 vs.1)))
+          let us = bind_some (word_at (codes "INNER") ts) _ rest (rw none at e) in
+          inner_join_made ts us.0 rest (one_takes (is_word (codes "INNER")) ts us.0 us.1) (one_takes (is_word (codes "JOIN")) us.0 rest us.2))
     ]
 
-pub join_is : (o : Unit {0}) (ts rest : List Lexeme) → IsJoin o ts rest → join_at ts ≡ Some (o, rest)
+left_join_takes : (ts rest : List Lexeme) → left_join_at ts ≡ Some rest → IsJoin true ts rest
+unfolding left_join_at
+left_join_takes ts rest e =
+    let us = bind_some (word_at (codes "LEFT") ts) _ rest e in
+    let left = one_takes (is_word (codes "LEFT")) ts us.0 us.1 in
+    elim (cases_option (word_at (codes "JOIN") us.0)) [
+      | inr vs ↦ subst (IsJoin true ts) (some_same vs.0 rest (rw vs.1 at us.2)) (left_join_made ts us.0 vs.0 left (one_takes (is_word (codes "JOIN")) us.0 vs.0 vs.1))
+      | inl none ↦ (
+          let vs = bind_some (word_at (codes "OUTER") us.0) _ rest (rw none at us.2) in
+          left_outer_join_made ts us.0 vs.0 rest left (one_takes (is_word (codes "OUTER")) us.0 vs.0 vs.1) (one_takes (is_word (codes "JOIN")) vs.0 rest vs.2))
+    ]
+
+pub join_takes : (ts : List Lexeme) (x : Bool × List Lexeme) → join_at ts ≡ Some x → IsJoin x.0 ts x.1
 unfolding join_at
+join_takes ts x e =
+    elim (cases_option (inner_join_at ts)) [
+      | inr us ↦ subst (λ (y : Bool × List Lexeme). IsJoin y.0 ts y.1) (some_same (false, us.0) x (rw us.1 at e)) (inner_join_takes ts us.0 us.1)
+      | inl none ↦ (
+          let us = bind_some (left_join_at ts) _ x (rw none at e) in
+          subst (λ (y : Bool × List Lexeme). IsJoin y.0 ts y.1) (some_same (true, us.0) x us.2) (left_join_takes ts us.0 us.1))
+    ]
+
+pub join_is : (o : Bool) (ts rest : List Lexeme) → IsJoin o ts rest → join_at ts ≡ Some (o, rest)
+unfolding join_at inner_join_at left_join_at
 join_is _ _ _ (a_join t rest h) = rw (one_is (is_word (codes "JOIN")) t rest h) refl
 join_is _ _ _ (an_inner_join w t rest h i) =
     rw (other_word (codes "INNER") (codes "JOIN") w (t ∷ rest) refl refl h, one_is (is_word (codes "INNER")) w (t ∷ rest) h, one_is (is_word (codes "JOIN")) t rest i) refl
+join_is _ _ _ (a_left_join w t rest h i) =
+    rw (other_word (codes "LEFT") (codes "JOIN") w (t ∷ rest) refl refl h, other_word (codes "LEFT") (codes "INNER") w (t ∷ rest) refl refl h, one_is (is_word (codes "LEFT")) w (t ∷ rest) h, one_is (is_word (codes "JOIN")) t rest i) refl
+join_is _ _ _ (a_left_outer_join w o t rest h g i) =
+    rw (other_word (codes "LEFT") (codes "JOIN") w (o ∷ t ∷ rest) refl refl h, other_word (codes "LEFT") (codes "INNER") w (o ∷ t ∷ rest) refl refl h, one_is (is_word (codes "LEFT")) w (o ∷ t ∷ rest) h)
+    (rw (other_word (codes "OUTER") (codes "JOIN") o (t ∷ rest) refl refl g, one_is (is_word (codes "OUTER")) o (t ∷ rest) g, one_is (is_word (codes "JOIN")) t rest i) refl)
 
-pub join_shorter : (o : Unit {0}) (ts rest : List Lexeme) → IsJoin o ts rest → length rest < length ts
+pub join_shorter : (o : Bool) (ts rest : List Lexeme) → IsJoin o ts rest → length rest < length ts
 join_shorter _ _ _ (a_join t rest h) = omega arith
 join_shorter _ _ _ (an_inner_join w t rest h i) = omega arith
+join_shorter _ _ _ (a_left_join w t rest h i) = omega arith
+join_shorter _ _ _ (a_left_outer_join w o t rest h g i) = omega arith
 
 pub join_shortens : Shortens join_at
 join_shortens ts x e = join_shorter x.0 ts x.1 (join_takes ts x e)
 
+-- a key word that ends an expression and a name
+word_ends_item : (w : List ℕ) (t : Lexeme) (rest : List Lexeme) → strength (record { kind = Word; octets = w }) ≡ 0 → folded w ≡ w → is_name (record { kind = Word; octets = w }) ≡ false → is_word (codes "AS") (record { kind = Word; octets = w }) ≡ false → IsTrue (is_word w t) → EndsItem (t ∷ rest)
+word_ends_item w t rest weak f no_name no_as h = record { stops = word_stops w 1 t rest weak f (omega arith) h; name = word_ends w t rest f no_name no_as h }
+
 -- what goes on with a join ends what stands before it
-pub join_ends : (o : Unit {0}) (ts rest : List Lexeme) → IsJoin o ts rest → EndsItem ts
-join_ends _ _ _ (a_join t rest h) = record { stops = word_stops (codes "JOIN") 1 t rest refl refl (omega arith) h; name = word_ends (codes "JOIN") t rest refl refl refl h }
-join_ends _ _ _ (an_inner_join w t rest h i) = record { stops = word_stops (codes "INNER") 1 w (t ∷ rest) refl refl (omega arith) h; name = word_ends (codes "INNER") w (t ∷ rest) refl refl refl h }
+pub join_ends : (o : Bool) (ts rest : List Lexeme) → IsJoin o ts rest → EndsItem ts
+join_ends _ _ _ (a_join t rest h) = word_ends_item (codes "JOIN") t rest refl refl refl refl h
+join_ends _ _ _ (an_inner_join w t rest h i) = word_ends_item (codes "INNER") w (t ∷ rest) refl refl refl refl h
+join_ends _ _ _ (a_left_join w t rest h i) = word_ends_item (codes "LEFT") w (t ∷ rest) refl refl refl refl h
+join_ends _ _ _ (a_left_outer_join w o t rest h g i) = word_ends_item (codes "LEFT") w (o ∷ t ∷ rest) refl refl refl refl h
 
 -- what ends a source: nothing that goes on with a condition or a name, and no JOIN
 pub record EndsSource (ts : List Lexeme) : Type 0 where
@@ -157,16 +196,16 @@ pub record EndsSource (ts : List Lexeme) : Type 0 where
   pub no_join : join_at ts ≡ None
 
 no_join_none : join_at [] ≡ None
-unfolding join_at
-no_join_none = rw (one_none (is_word (codes "JOIN")), one_none (is_word (codes "INNER"))) refl
+unfolding join_at inner_join_at left_join_at
+no_join_none = rw (one_none (is_word (codes "JOIN")), one_none (is_word (codes "INNER")), one_none (is_word (codes "LEFT"))) refl
 
-pub no_join_word : (w : List ℕ) (t : Lexeme) (rest : List Lexeme) → folded w ≡ w → is_word (codes "JOIN") (record { kind = Word; octets = w }) ≡ false → is_word (codes "INNER") (record { kind = Word; octets = w }) ≡ false → IsTrue (is_word w t) → join_at (t ∷ rest) ≡ None
-unfolding join_at
-no_join_word w t rest f a b h = rw (other_word w (codes "JOIN") t rest f a h, other_word w (codes "INNER") t rest f b h) refl
+pub no_join_word : (w : List ℕ) (t : Lexeme) (rest : List Lexeme) → folded w ≡ w → is_word (codes "JOIN") (record { kind = Word; octets = w }) ≡ false → is_word (codes "INNER") (record { kind = Word; octets = w }) ≡ false → is_word (codes "LEFT") (record { kind = Word; octets = w }) ≡ false → IsTrue (is_word w t) → join_at (t ∷ rest) ≡ None
+unfolding join_at inner_join_at left_join_at
+no_join_word w t rest f a b c h = rw (other_word w (codes "JOIN") t rest f a h, other_word w (codes "INNER") t rest f b h, other_word w (codes "LEFT") t rest f c h) refl
 
 no_join_symbol : (s : List ℕ) (t : Lexeme) (rest : List Lexeme) → IsTrue (is_symbol s t) → join_at (t ∷ rest) ≡ None
-unfolding join_at
-no_join_symbol s t rest h = rw (no_word s (codes "JOIN") t rest h, no_word s (codes "INNER") t rest h) refl
+unfolding join_at inner_join_at left_join_at
+no_join_symbol s t rest h = rw (no_word s (codes "JOIN") t rest h, no_word s (codes "INNER") t rest h, no_word s (codes "LEFT") t rest h) refl
 
 pub comma_source : (o : Unit {0}) (ts rest : List Lexeme) → IsOperator is_comma o ts rest → EndsSource ts
 comma_source o ts rest h = record { item = comma_ends o ts rest h; no_join = by_comma o ts rest h }
@@ -190,13 +229,13 @@ none_filter = record { source = record { item = record { stops = stops_none 1; n
 
 -- a key word that goes on with nothing of the sort
 pub word_filter : (w : List ℕ) (t : Lexeme) (rest : List Lexeme) → strength (record { kind = Word; octets = w }) ≡ 0 → folded w ≡ w → is_name (record { kind = Word; octets = w }) ≡ false → is_word (codes "AS") (record { kind = Word; octets = w }) ≡ false
-    → is_word (codes "JOIN") (record { kind = Word; octets = w }) ≡ false → is_word (codes "INNER") (record { kind = Word; octets = w }) ≡ false → is_word (codes "WHERE") (record { kind = Word; octets = w }) ≡ false → IsTrue (is_word w t) → EndsFilter (t ∷ rest)
-word_filter w t rest weak f no_name no_as no_join no_inner no_where h =
+    → is_word (codes "JOIN") (record { kind = Word; octets = w }) ≡ false → is_word (codes "INNER") (record { kind = Word; octets = w }) ≡ false → is_word (codes "LEFT") (record { kind = Word; octets = w }) ≡ false → is_word (codes "WHERE") (record { kind = Word; octets = w }) ≡ false → IsTrue (is_word w t) → EndsFilter (t ∷ rest)
+word_filter w t rest weak f no_name no_as no_join no_inner no_left no_where h =
     let i = word_is w t h in
     record {
       source = record {
-        item = record { stops = word_stops w 1 t rest weak f (omega arith) h; name = word_ends w t rest f no_name no_as h };
-        no_join = no_join_word w t rest f no_join no_inner h;
+        item = word_ends_item w t rest weak f no_name no_as h;
+        no_join = no_join_word w t rest f no_join no_inner no_left h;
       };
       no_comma = token_not is_comma t rest (rw i.0 refl);
       no_where = other_word w (codes "WHERE") t rest f no_where h;

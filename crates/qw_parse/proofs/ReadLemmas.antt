@@ -5,15 +5,16 @@ use Rattle.std.specs.Prelude.{codes, if◌then◌else◌}
 use Rattle.std.proofs.lemmas.Bool.{cases_Bool}
 use Rattle.std.proofs.lemmas.List.{map_push}
 use Rattle.qw_token.specs.Token.{Lexeme}
-use Rattle.qw_ast.specs.Syntax.{Clause, Expression, Expressions, last, further, Branching, otherwise, when}
+use Rattle.qw_ast.specs.Syntax.{Clause, Expression, Expressions, Joined, last, further, Branching, otherwise, when}
 use Rattle.qw_ast.specs.ScriptGrammar.{Branch, Dated, branching, arguments, is_comma, is_string, is_when, IsNested}
-use Rattle.qw_ast.specs.SyntaxTree.{clause_of, days_of, expression_of}
+use Rattle.qw_ast.specs.SyntaxTree.{clause_of, condition_of, days_of, entry_of, expression_of, joined_of}
 use Rattle.qw_ast.specs.declared.script.Expr.{Expr}
 use Rattle.qw_ast.specs.declared.script.Interval.{Interval}
+use Rattle.qw_ast.specs.declared.script.Joined as coded_join
 use Rattle.qw_ast.specs.declared.script.Phrase.{Phrase}
 use Rattle.qw_parse.specs.declared.read.case.Branch.{Branch as Tried}
 use Rattle.qw_parse.specs.Inner.Parser.{branch_of, first_of, behind}
-use Rattle.qw_parse.specs.Inner.Readers.{one_at, token_at, word_at, octets_if, given, append, further_at, join_at, joined_at, joins_at, source_at, branches_at, date_at, date_string_at, days_at, interval_sign_at, move, series_at, series_from, factor_at, term_at, expression_at, branch_at, boolean_factor_at, boolean_term_at, clause_at, item_at, nested_at, reference_at, sort_at}
+use Rattle.qw_parse.specs.Inner.Readers.{one_at, token_at, word_at, octets_if, given, append, further_at, join_at, joined_at, join_on, joins_at, source_at, branches_at, date_at, date_string_at, days_at, interval_sign_at, move, series_at, series_from, factor_at, term_at, expression_at, branch_at, boolean_factor_at, boolean_term_at, clause_at, item_at, nested_at, reference_at, sort_at}
 use Rattle.qw_parse.proofs.LoopLemmas.{Shortens, loop_end, loop_stop, loop_clash, loop_more}
 use Rattle.qw_parse.proofs.ExactLemmas.{days_shortens, exact_shortens, sign_shortens}
 use Rattle.qw_parse.proofs.PrimaryLemmas.{expression_exact, branch_exact}
@@ -21,6 +22,7 @@ use Rattle.qw_parse.proofs.SumLemmas as sums
 use Rattle.qw_parse.proofs.ConditionLemmas as conditions
 use Rattle.qw_parse.proofs.ConditionLemmas.{nested_exact}
 use Rattle.qw_parse.proofs.GroupLemmas.{reference_exact}
+use Rattle.qw_parse.proofs.NameLemmas.{join_shortens}
 use Rattle.qw_parse.proofs.OrderLemmas.{sort_exact}
 use Rattle.qw_parse.proofs.SelectLemmas as queries
 use Rattle.qw_parse.proofs.SelectLemmas.{item_exact, source_exact}
@@ -194,9 +196,16 @@ pub further_start : {A : Type 0} (item : List Lexeme → Option (A × List Lexem
 unfolding further_at
 further_start item ts = going_start (token_at is_comma) item append (given []) ts ts [] refl
 
-pub joins_start : (inner : List Lexeme → Option (Clause × List Lexeme)) (ts : List Lexeme) → Goes join_at (joined_at inner) append (joins_at inner ts) [] ts
+pub joins_start : (inner : List Lexeme → Option (Clause × List Lexeme)) (ts : List Lexeme) → Goes join_at (joined_at inner) join_on (joins_at inner ts) [] ts
 unfolding joins_at
-joins_start inner ts = going_start join_at (joined_at inner) append (given []) ts ts [] refl
+joins_start inner ts = going_start join_at (joined_at inner) join_on (given []) ts ts [] refl
+
+-- one more join
+pub joins_on : (inner : List Lexeme → Option (Clause × List Lexeme)) → Shortens (joined_at inner) → (whole : Option (List Joined × List Lexeme)) (xs ys : List coded_join.Joined) (x : coded_join.Joined) (ts us vs : List Lexeme) → Goes join_at (joined_at inner) join_on whole (map joined_of xs) ts
+    → ys ≡ xs ++ x ∷ [] → join_at ts ≡ Some (x.outer, us) → joined_at inner us ≡ Some ((entry_of x.entry, condition_of x.on), vs) → Goes join_at (joined_at inner) join_on whole (map joined_of ys) vs
+joins_on inner lesser whole xs ys x ts us vs so_far is e some =
+    rw (is, map_push joined_of xs x)
+    (going_on join_at (joined_at inner) join_on whole (map joined_of xs) ts so_far join_shortens lesser (map joined_of xs ++ joined_of x ∷ []) x.outer (entry_of x.entry, condition_of x.on) us vs e some refl)
 
 pub branches_start : (inner : List Lexeme → Option (Clause × List Lexeme)) (searched : Bool) (ts : List Lexeme) → Goes (token_at is_when) (branch_at inner searched) append (branches_at inner searched ts) [] ts
 unfolding branches_at

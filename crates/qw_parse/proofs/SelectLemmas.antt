@@ -3,8 +3,8 @@ use Rattle.std.proofs.Common.{◌≡◌, ◌<◌, ◌≤◌, Bool, true, false, 
 use Rattle.std.specs.Prelude.{codes, IsTrue}
 use Rattle.qw_token.specs.Token.{Lexeme}
 use Rattle.qw_ast.specs.Syntax.{Condition, Clause, condition, expression, SelectItem, Selected, all_columns, items, Entry, Joined, Source, Reference, SortSpecification, Select}
-use Rattle.qw_ast.specs.ScriptGrammar.{is_word, is_symbol, is_comma, appended, first, more, IsNothing, nothing, AreFurther, IsNested, IsItem, item, IsSelectList, asterisk, some_items, IsQuantifier, no_quantifier, all_rows, distinct_rows, IsFilter, unfiltered, filtered, IsEntry, IsJoin, IsJoined, a_joined, AreJoins, IsSource, a_source, AreSources, some_sources, IsGrouping, IsHaving, no_having, a_having, IsOrder, IsSelect, a_select, IsSelectOf}
-use Rattle.qw_parse.specs.Inner.Readers.{token_at, word_at, symbol_at, given, append, further_at, expression_at, condition_at, the_condition, nested_at, naming_at, item_at, select_list_at, quantifier_at, filter_at, entry_at, join_at, joined_at, joins_at, source_at, sources_at, grouping_at, having_at, order_at, select_at, whole, select_of}
+use Rattle.qw_ast.specs.ScriptGrammar.{is_word, is_symbol, is_comma, appended, first, more, IsNothing, nothing, AreFurther, IsNested, IsItem, item, IsSelectList, asterisk, some_items, IsQuantifier, no_quantifier, all_rows, distinct_rows, IsFilter, unfiltered, filtered, IsEntry, IsJoin, IsJoined, a_joined, with_join, AreJoins, IsSource, a_source, AreSources, some_sources, IsGrouping, IsHaving, no_having, a_having, IsOrder, IsSelect, a_select, IsSelectOf}
+use Rattle.qw_parse.specs.Inner.Readers.{token_at, word_at, symbol_at, given, append, further_at, expression_at, condition_at, the_condition, nested_at, naming_at, item_at, select_list_at, quantifier_at, filter_at, entry_at, join_at, joined_at, join_on, joins_at, source_at, sources_at, grouping_at, having_at, order_at, select_at, whole, select_of}
 use Rattle.qw_parse.proofs.LoopLemmas.{Shortens, bind_some, cases_option, series_holds, series_is, some_same}
 use Rattle.qw_parse.proofs.TokenLemmas.{word_is, Front, front, one_takes, one_is, token_not, Stops}
 use Rattle.qw_parse.proofs.ExactLemmas.{Starts, starts_not, starts_no_asterisk, Exact, series_front, list_takes, list_is, no_word, other_word, word_stops}
@@ -143,7 +143,7 @@ module _ (Inner : Clause → List Lexeme → List Lexeme → Type 0) (inner : Li
       let i = word_is (codes "WHERE") w f in (
         record {
           item = record { stops = word_stops (codes "WHERE") 1 w ts refl refl (omega arith) f; name = word_ends (codes "WHERE") w ts refl refl refl f };
-          no_join = no_join_word (codes "WHERE") w ts refl refl refl f;
+          no_join = no_join_word (codes "WHERE") w ts refl refl refl refl f;
         },
         token_not is_comma w ts (rw i.0 refl),
       )
@@ -169,31 +169,31 @@ module _ (Inner : Clause → List Lexeme → List Lexeme → Type 0) (inner : Li
   having_next : (h : Option Condition) (ts rest : List Lexeme) → IsHaving Inner h ts rest → EndsHaving rest → EndsGrouping ts
   having_next _ _ _ (no_having rest) ends = ends.grouping
   having_next _ _ _ (a_having c w ts rest f h) ends = record {
-    filter = word_filter (codes "HAVING") w ts refl refl refl refl refl refl refl f;
+    filter = word_filter (codes "HAVING") w ts refl refl refl refl refl refl refl refl f;
     no_point = word_no_point (codes "HAVING") w ts f;
     no_group = other_word (codes "HAVING") (codes "GROUP") w ts refl refl f;
   }
 
   -- ---- FROM
 
-  joined_made : (e : Entry) (c : Condition) (ts us vs rest : List Lexeme) → IsEntry e ts us → Front (is_word (codes "ON")) us vs → Inner (condition c) vs rest → IsJoined Inner (record { entry = e; on = c }) ts rest
+  joined_made : (e : Entry) (c : Condition) (ts us vs rest : List Lexeme) → IsEntry e ts us → Front (is_word (codes "ON")) us vs → Inner (condition c) vs rest → IsJoined Inner (e, c) ts rest
   joined_made e c ts _ vs rest h (front w _ f) i = a_joined e c w ts vs rest h f i
 
-  joined_takes : (ts : List Lexeme) (x : Joined × List Lexeme) → joined_at inner ts ≡ Some x → IsJoined Inner x.0 ts x.1
+  joined_takes : (ts : List Lexeme) (x : (Entry × Condition) × List Lexeme) → joined_at inner ts ≡ Some x → IsJoined Inner x.0 ts x.1
   unfolding joined_at
   joined_takes ts x e =
       let h = bind_some (entry_at ts) _ x e in
       let us = bind_some (word_at (codes "ON") h.0.1) _ x h.2 in
       let c = bind_some (condition_at inner us.0) _ x us.2 in
-      subst (λ (y : Joined × List Lexeme). IsJoined Inner y.0 ts y.1) (some_same (record { entry = h.0.0; on = c.0.0 }, c.0.1) x c.2)
+      subst (λ (y : (Entry × Condition) × List Lexeme). IsJoined Inner y.0 ts y.1) (some_same ((h.0.0, c.0.0), c.0.1) x c.2)
       (joined_made h.0.0 c.0.0 ts h.0.1 us.0 c.0.1 (entry_takes ts h.0 h.1) (one_takes (is_word (codes "ON")) h.0.1 us.0 us.1) (inner_condition_takes us.0 c.0 c.1))
 
-  joined_is : (j : Joined) (ts rest : List Lexeme) → IsJoined Inner j ts rest → Stops 1 rest → joined_at inner ts ≡ Some (j, rest)
+  joined_is : (j : Entry × Condition) (ts rest : List Lexeme) → IsJoined Inner j ts rest → Stops 1 rest → joined_at inner ts ≡ Some (j, rest)
   unfolding joined_at condition_at
   joined_is _ _ _ (a_joined e c w ts us rest h f i) ends =
       rw (entry_is e ts (w ∷ us) h (word_ends (codes "ON") w us refl refl refl f), one_is (is_word (codes "ON")) w us f, reads.is (condition c) us rest i ends) refl
 
-  joined_shorter : (j : Joined) (ts rest : List Lexeme) → IsJoined Inner j ts rest → length rest < length ts
+  joined_shorter : (j : Entry × Condition) (ts rest : List Lexeme) → IsJoined Inner j ts rest → length rest < length ts
   joined_shorter _ _ _ (a_joined e c w ts us rest h f i) =
       let p = entry_shorter e ts (w ∷ us) h in
       let q = reads.shorter (condition c) us rest i in
@@ -205,9 +205,9 @@ module _ (Inner : Clause → List Lexeme → List Lexeme → Type 0) (inner : Li
   joins_take : (ts : List Lexeme) (x : List Joined × List Lexeme) → joins_at inner ts ≡ Some x → AreJoins Inner x.0 ts x.1
   unfolding joins_at
   joins_take =
-      series_holds join_at (joined_at inner) append (AreJoins Inner)
+      series_holds join_at (joined_at inner) join_on (AreJoins Inner)
       (λ xs ys o b ts us vs rest h link item joins.
-      subst (λ (y : List Joined). AreJoins Inner y ts rest) (some_same (appended o xs b) ys joins)
+      subst (λ (y : List Joined). AreJoins Inner y ts rest) (some_same (with_join o xs b) ys joins)
       (more xs o b ts us vs rest h (join_takes us (o, vs) link) (joined_takes vs (b, rest) item)))
       (given [])
       (λ ts x e. let same = some_same ([], ts) x e in subst (λ (y : List Joined × List Lexeme). AreJoins Inner y.0 ts y.1) same (first [] ts ts (nothing ts)))
@@ -215,7 +215,7 @@ module _ (Inner : Clause → List Lexeme → List Lexeme → Type 0) (inner : Li
   joins_are : (js : List Joined) (ts rest : List Lexeme) → AreJoins Inner js ts rest → Stops 1 rest → join_at rest ≡ None → joins_at inner ts ≡ Some (js, rest)
   unfolding joins_at
   joins_are js ts rest h ends none =
-      series_is join_at (joined_at inner) append (λ (ys : List Joined). ys) (λ (y : Joined). y) IsNothing IsJoin (IsJoined Inner) appended (Stops 1)
+      series_is join_at (joined_at inner) join_on (λ (ys : List Joined). ys) (λ (y : Entry × Condition). y) IsNothing IsJoin (IsJoined Inner) with_join (Stops 1)
       (λ o a c. refl)
       join_is
       joined_is

@@ -1,5 +1,5 @@
 -- Token lists of worked cases, and what they say.
-use Rattle.std.specs.Prelude.{ℕ, Bool, List, [], ◌∷◌, ◌++◌, false, Option, None, codes}
+use Rattle.std.specs.Prelude.{ℕ, Bool, List, [], ◌∷◌, ◌++◌, false, true, Option, None, codes}
 use Rattle.qw_scalar.specs.declared.comparison.Comparison.TheVariants.{Equal}
 use Rattle.qw_token.specs.declared.token.Kind.TheVariants.{Word, CharacterString, Number, Symbol}
 use Rattle.qw_token.specs.Token.{Lexeme}
@@ -76,7 +76,11 @@ a_of_t distinct = record { distinct = distinct; selected = items (record { value
 
 -- JOIN entry ON column = number
 abbrev pub joined : Entry → List ℕ → List ℕ → Joined
-joined entry name digits = record { entry = entry; on = equals name digits }
+joined entry name digits = record { entry = entry; outer = false; on = equals name digits }
+
+-- LEFT JOIN entry ON column = number
+abbrev pub left_joined : Entry → List ℕ → List ℕ → Joined
+left_joined entry name digits = record { entry = entry; outer = true; on = equals name digits }
 
 -- the tokens are this condition or expression
 abbrev pub Says : List Lexeme → Clause → Type 0

@@ -12,7 +12,7 @@ ghost use Rattle.qw_parse.specs.declared.fault.ParseFault.{ParseFault};
 ghost use Rattle.qw_ast.specs.Limits.{nodes, nodes_condition, octets, octets_condition, query_nodes};
 ghost use Rattle.qw_parse.specs.declared.fault.Count.TheVariants.{FromEntries, GroupColumns, LiteralOctets, Nodes, SelectItems, SortKeys};
 ghost use Rattle.qw_parse.specs.Script.{IsPassedFirst, IsScriptRefused, Limit, ReadsScript, limits};
-ghost use Rattle.qw_parse.specs.Worked.{Says, a_of_t, all_from, all_of_a, all_grouped, all_in_order, alone, by_name, equals, from, joined, key_named, n, of_t, quoted, reference_named, s, the_column, the_table, w};
+ghost use Rattle.qw_parse.specs.Worked.{Says, a_of_t, all_from, all_of_a, all_grouped, all_in_order, alone, by_name, equals, from, joined, key_named, left_joined, n, of_t, quoted, reference_named, s, the_column, the_table, w};
 
 /// Tokens are one query at most.
 pub fn one_query_specification()
@@ -74,16 +74,32 @@ pub fn worked_limits()
     ensures none { (limit : Limit) → IsPassedFirst (limits 64 8 64 64 1000 16384) limit → ⊥ }
 {}
 
-/// FROM is sources between commas, each an entry and its inner joins (ISO/IEC 9075:1992, 7.4, 7.5): INNER says nothing more than JOIN, and an
-/// outer join is no query here.
+/// FROM is sources between commas, each an entry and its joins (ISO/IEC 9075:1992, 7.4, 7.5): INNER says nothing more than JOIN, and none
+/// stands without ON.
 pub fn worked_sources()
     ensures product { IsSelectOf (from (w (codes "a") ∷ s (codes ",") ∷ w (codes "b") ∷ [])) (all_from (alone (the_table (codes "a")) ∷ alone (the_table (codes "b")) ∷ [])) }
     ensures join { IsSelectOf (from (w (codes "a") ∷ w (codes "x") ∷ w (codes "JOIN") ∷ w (codes "b") ∷ w (codes "ON") ∷ w (codes "k") ∷ s (codes "=") ∷ n (codes "1") ∷ []))
         (all_from (record { first = record { table = codes "a"; alias = Some (codes "x") }; joins = joined (the_table (codes "b")) (codes "k") (codes "1") ∷ [] } ∷ [])) }
     ensures inner_join { IsSelectOf (from (w (codes "a") ∷ w (codes "INNER") ∷ w (codes "JOIN") ∷ w (codes "b") ∷ w (codes "ON") ∷ w (codes "k") ∷ s (codes "=") ∷ n (codes "1") ∷ s (codes ",") ∷ w (codes "c") ∷ []))
         (all_from (record { first = the_table (codes "a"); joins = joined (the_table (codes "b")) (codes "k") (codes "1") ∷ [] } ∷ alone (the_table (codes "c")) ∷ [])) }
-    ensures left_join { (query : Select) → IsSelectOf (from (w (codes "a") ∷ w (codes "LEFT") ∷ w (codes "JOIN") ∷ w (codes "b") ∷ w (codes "ON") ∷ w (codes "k") ∷ s (codes "=") ∷ n (codes "1") ∷ [])) query → ⊥ }
     ensures no_condition { (query : Select) → IsSelectOf (from (w (codes "a") ∷ w (codes "JOIN") ∷ w (codes "b") ∷ [])) query → ⊥ }
+{}
+
+/// LEFT JOIN is an outer join wherever JOIN stands (ISO/IEC 9075:1992, 7.5 "join type"), and OUTER behind LEFT says nothing more. RIGHT and FULL
+/// joins are no queries here, nor is LEFT without JOIN, OUTER without LEFT, LEFT with INNER, or LEFT JOIN without ON.
+pub fn worked_left_joins()
+    ensures left_join { IsSelectOf (from (w (codes "a") ∷ w (codes "LEFT") ∷ w (codes "JOIN") ∷ w (codes "b") ∷ w (codes "ON") ∷ w (codes "k") ∷ s (codes "=") ∷ n (codes "1") ∷ []))
+        (all_from (record { first = the_table (codes "a"); joins = left_joined (the_table (codes "b")) (codes "k") (codes "1") ∷ [] } ∷ [])) }
+    ensures left_outer_join { IsSelectOf (from (w (codes "a") ∷ w (codes "x") ∷ w (codes "left") ∷ w (codes "Outer") ∷ w (codes "join") ∷ w (codes "b") ∷ w (codes "y") ∷ w (codes "on") ∷ w (codes "k") ∷ s (codes "=") ∷ n (codes "1") ∷ s (codes ",") ∷ w (codes "c") ∷ []))
+        (all_from (record { first = record { table = codes "a"; alias = Some (codes "x") }; joins = left_joined (record { table = codes "b"; alias = Some (codes "y") }) (codes "k") (codes "1") ∷ [] } ∷ alone (the_table (codes "c")) ∷ [])) }
+    ensures in_a_row { IsSelectOf (from (w (codes "a") ∷ w (codes "JOIN") ∷ w (codes "b") ∷ w (codes "ON") ∷ w (codes "k") ∷ s (codes "=") ∷ n (codes "1") ∷ w (codes "LEFT") ∷ w (codes "JOIN") ∷ w (codes "c") ∷ w (codes "ON") ∷ w (codes "k") ∷ s (codes "=") ∷ n (codes "2") ∷ w (codes "INNER") ∷ w (codes "JOIN") ∷ w (codes "d") ∷ w (codes "ON") ∷ w (codes "k") ∷ s (codes "=") ∷ n (codes "3") ∷ []))
+        (all_from (record { first = the_table (codes "a"); joins = joined (the_table (codes "b")) (codes "k") (codes "1") ∷ left_joined (the_table (codes "c")) (codes "k") (codes "2") ∷ joined (the_table (codes "d")) (codes "k") (codes "3") ∷ [] } ∷ [])) }
+    ensures right_join { (query : Select) → IsSelectOf (from (w (codes "a") ∷ w (codes "RIGHT") ∷ w (codes "JOIN") ∷ w (codes "b") ∷ w (codes "ON") ∷ w (codes "k") ∷ s (codes "=") ∷ n (codes "1") ∷ [])) query → ⊥ }
+    ensures full_join { (query : Select) → IsSelectOf (from (w (codes "a") ∷ w (codes "FULL") ∷ w (codes "OUTER") ∷ w (codes "JOIN") ∷ w (codes "b") ∷ w (codes "ON") ∷ w (codes "k") ∷ s (codes "=") ∷ n (codes "1") ∷ [])) query → ⊥ }
+    ensures no_join { (query : Select) → IsSelectOf (from (w (codes "a") ∷ w (codes "LEFT") ∷ w (codes "b") ∷ w (codes "ON") ∷ w (codes "k") ∷ s (codes "=") ∷ n (codes "1") ∷ [])) query → ⊥ }
+    ensures no_left { (query : Select) → IsSelectOf (from (w (codes "a") ∷ w (codes "OUTER") ∷ w (codes "JOIN") ∷ w (codes "b") ∷ w (codes "ON") ∷ w (codes "k") ∷ s (codes "=") ∷ n (codes "1") ∷ [])) query → ⊥ }
+    ensures left_inner_join { (query : Select) → IsSelectOf (from (w (codes "a") ∷ w (codes "LEFT") ∷ w (codes "INNER") ∷ w (codes "JOIN") ∷ w (codes "b") ∷ w (codes "ON") ∷ w (codes "k") ∷ s (codes "=") ∷ n (codes "1") ∷ [])) query → ⊥ }
+    ensures no_condition { (query : Select) → IsSelectOf (from (w (codes "a") ∷ w (codes "LEFT") ∷ w (codes "JOIN") ∷ w (codes "b") ∷ [])) query → ⊥ }
 {}
 
 /// A key of ORDER BY is a name, behind a qualifier or not, or a number without a point; without DESC it ascends (ISO/IEC 9075:1992, 13.1).

@@ -21,7 +21,7 @@ use Rattle.qw_leaves.proofs.LeafLists.{all_joined}
 abbrev pub KeysAlike : Node → Type 0
 KeysAlike (scan entry table) = Unit {0}
 KeysAlike (filter conjuncts below) = KeysAlike below
-KeysAlike (join left right on keys) = AllByRecursion IsAlike (filter_map (λ k. slice_get on k) keys) × KeysAlike left × KeysAlike right
+KeysAlike (join outer left right on keys) = AllByRecursion IsAlike (filter_map (λ k. slice_get on k) keys) × KeysAlike left × KeysAlike right
 KeysAlike (project below items) = KeysAlike below
 
 alike_found : (l r : ℕ → Bool) (front cs : List Condition) → AllByRecursion IsAlike (filter_map (λ k. slice_get (front ++ cs) k) (keys_from l r (length front) cs))
@@ -46,7 +46,7 @@ join_alike clean left right on = one (is_clean_on clean left right)
 pub keyed_alike : (clean : Bool) (node : Node) → KeysAlike (keyed clean node)
 keyed_alike clean (scan entry table) = tt
 keyed_alike clean (filter conjuncts below) = keyed_alike clean below
-keyed_alike clean (join left right on keys) = (join_alike clean left right on, keyed_alike clean left, keyed_alike (clean && is_quiet left) right)
+keyed_alike clean (join outer left right on keys) = (join_alike clean left right on, keyed_alike clean left, keyed_alike (clean && is_quiet left) right)
 keyed_alike clean (project below items) = keyed_alike clean below
 
 -- ---- of its pipelines
@@ -62,7 +62,7 @@ HasAlike p = HaveAlike p.steps
 split_alike : (next : ℕ) (node : Node) → KeysAlike node → AllByRecursion HasAlike (split next node).builds × HasAlike (split next node).last
 split_alike next (scan entry table) alike = (tt, tt)
 split_alike next (filter conjuncts below) alike = let rest = split_alike next below alike in (rest.0, alike_then (split next below).last.steps (test conjuncts) rest.1 tt)
-split_alike next (join left right on keys) alike =
+split_alike next (join outer left right on keys) alike =
     let built = split_alike next right alike.2 in
     let m : ℕ = next + length (split next right).builds in
     let rest = split_alike (m + 1) left alike.1 in (

@@ -1,6 +1,6 @@
 -- Pipelines that mean the same, expression by expression, feed the same and take as many units.
-use Rattle.std.proofs.Common.{◌≡◌, ◌∙◌, ℕ, ◌+◌, Bool, if◌then◌else◌, List, [], ◌∷◌, ◌++◌, drop, get_or, length, map, take, Result, Ok, Err, refl, ap, ap₂, subst}
-use Rattle.std.specs.List.{AllZip}
+use Rattle.std.proofs.Common.{◌≡◌, ◌∙◌, ℕ, ◌+◌, Bool, ◌&&◌, if◌then◌else◌, List, [], ◌∷◌, ◌++◌, drop, get_or, length, map, take, Result, Ok, Err, refl, ap, ap₂, subst}
+use Rattle.std.specs.List.{AllZip, list_any}
 use Rattle.std.specs.List.Sorted.{IsPermutation}
 use Rattle.qw_types.specs.ValueOrder.{is_same_row}
 use Rattle.qw_types.specs.declared.code.Code.{Code}
@@ -19,9 +19,10 @@ use Rattle.qw_table.specs.Joins.{keyed, where_values}
 use Rattle.qw_table.specs.Keys.{text_octets}
 use Rattle.qw_table.specs.Tables.{in_slot}
 use Rattle.qw_physical.specs.Physical.{Operator, Pipeline, Probe, Sink, build, filter, probe, select}
-use Rattle.qw_physical.specs.Courses.{AreBuilt, by_values, column_of, cost, costs, fed, met, met_cost, pair_of, pipeline_cost, pipeline_fed, placed, row_of, sink_key, sink_values, where_passed}
+use Rattle.qw_physical.specs.Courses.{AreBuilt, alone_cost, by_values, column_of, cost, costs, fed, is_alone, isnt_failed, meets, met, met_cost, pair_of, pipeline_cost, pipeline_fed, placed, row_of, sink_key, sink_values, where_passed}
 use Rattle.qw_physical.specs.Spelled.{IsSameOperator, IsSamePipeline, IsSameProbe, IsSameSink}
 use Rattle.qw_physical.specs.declared.pipeline.ReadColumn.{ReadColumn}
+use Rattle.qw_physical.proofs.Alone.{alone_is, any_same}
 use Rattle.qw_physical.proofs.Orders.{over_same}
 use Rattle.qw_physical.proofs.Through.{by_same}
 
@@ -90,14 +91,28 @@ module _ (built : List (List (List Val))) where
       ∙ ap₂ (λ (r : Result Bool Code) (made : Flow (List Val)). if is_same_row key (take (length q.key) entry) then flow_by r (where_true made) else nothing)
       (passes_same p.on q.on (at_row (pair_of q row entry)) h.on) (same (pair_of q row entry))
 
+  -- whether a row goes on by itself
+  meets_same : (p q : Probe) → IsSameProbe p q → (row key entry : List Val) → meets p row key entry ≡ meets q row key entry
+  meets_same p q h row key entry =
+      ap₂ (λ (n : ℕ) (x : List Val). is_same_row key (take n entry) && isnt_failed (passes p.on (at_row x))) (item_count p.key q.key h.key) (pair_same p q h row entry)
+      ∙ ap (λ (r : Result Bool Code). is_same_row key (take (length q.key) entry) && isnt_failed r) (passes_same p.on q.on (at_row (pair_of q row entry)) h.on)
+
+  alone_same : (p q : Probe) → IsSameProbe p q → (row key : List Val) → is_alone p row key (get_or built p.table []) ≡ is_alone q row key (get_or built q.table [])
+  alone_same p q h row key =
+      alone_is p q row row key (get_or built p.table []) (get_or built q.table []) h.outer
+      (ap (λ (n : ℕ). list_any (meets p row key) (get_or built n [])) h.table ∙ any_same (meets p row key) (meets q row key) (get_or built q.table []) (meets_same p q h row key))
+
   probe_same : (p q : Probe) → IsSameProbe p q → (f g : List Val → Flow (List Val)) → ((r : List Val) → f r ≡ g r) → (row : List Val)
-      → flow_by (values_of p.key (at_row row)) (λ key. where_values (flow_over (met f p row key) (get_or built p.table [])) key)
-      ≡ flow_by (values_of q.key (at_row row)) (λ key. where_values (flow_over (met g q row key) (get_or built q.table [])) key)
+      → flow_by (values_of p.key (at_row row)) (λ key. if is_alone p row key (get_or built p.table []) then f row else where_values (flow_over (met f p row key) (get_or built p.table [])) key)
+      ≡ flow_by (values_of q.key (at_row row)) (λ key. if is_alone q row key (get_or built q.table []) then g row else where_values (flow_over (met g q row key) (get_or built q.table [])) key)
   probe_same p q h f g same row =
-      ap (λ (r : Result (List Val) Code). flow_by r (λ key. where_values (flow_over (met f p row key) (get_or built p.table [])) key)) (values_same p.key q.key (at_row row) h.key)
-      ∙ by_same (values_of q.key (at_row row)) (λ key. where_values (flow_over (met f p row key) (get_or built p.table [])) key)
-      (λ key. where_values (flow_over (met g q row key) (get_or built q.table [])) key)
-      (λ key. ap (λ (made : Flow (List Val)). where_values made key)
+      ap (λ (r : Result (List Val) Code). flow_by r (λ key. if is_alone p row key (get_or built p.table []) then f row else where_values (flow_over (met f p row key) (get_or built p.table [])) key))
+      (values_same p.key q.key (at_row row) h.key)
+      ∙ by_same (values_of q.key (at_row row)) (λ key. if is_alone p row key (get_or built p.table []) then f row else where_values (flow_over (met f p row key) (get_or built p.table [])) key)
+      (λ key. if is_alone q row key (get_or built q.table []) then g row else where_values (flow_over (met g q row key) (get_or built q.table [])) key)
+      (λ key.
+      ap (λ (b : Bool). if b then f row else where_values (flow_over (met f p row key) (get_or built p.table [])) key) (alone_same p q h row key)
+      ∙ ap₂ (λ (itself made : Flow (List Val)). if is_alone q row key (get_or built q.table []) then itself else where_values made key) (same row)
       (ap (λ (n : ℕ). flow_over (met f p row key) (get_or built n [])) h.table ∙ over_same (met f p row key) (met g q row key) (get_or built q.table []) (met_same p q h f g same row key)))
 
   pub fed_same : (os qs : List Operator) (s t : Sink) → AllZip IsSameOperator os qs → IsSameSink s t → (row : List Val) → fed built os s row ≡ fed built qs t row
@@ -127,17 +142,27 @@ module _ (built : List (List (List Val))) where
   abbrev entries_at : Probe → List Val → List (List Val)
   entries_at p key = in_slot (keyed (length p.key)) (slot key) (get_or built p.table [])
 
-  probe_cost_same : (p q : Probe) → IsSameProbe p q → (f g : List Val → ℕ) → ((r : List Val) → f r ≡ g r) → (row : List Val)
-      → units_of_items p.key (at_row row) + by_values (values_of p.key (at_row row)) (λ key. text_octets key + spend (met_cost f p row key) (entries_at p key))
-      ≡ units_of_items q.key (at_row row) + by_values (values_of q.key (at_row row)) (λ key. text_octets key + spend (met_cost g q row key) (entries_at q key))
-  probe_cost_same p q h f g same row =
-      ap₂ (λ (u : ℕ) (r : Result (List Val) Code). u + by_values r (λ key. text_octets key + spend (met_cost f p row key) (entries_at p key)))
-      (items_units p.key q.key (at_row row) h.key) (values_same p.key q.key (at_row row) h.key)
-      ∙ ap (λ (n : ℕ). units_of_items q.key (at_row row) + n)
-      (by_values_same (values_of q.key (at_row row)) (λ key. text_octets key + spend (met_cost f p row key) (entries_at p key)) (λ key. text_octets key + spend (met_cost g q row key) (entries_at q key))
-      (λ key. ap (λ (n : ℕ). text_octets key + n)
+  -- of the entries of a row's slot, and of the row by itself
+  abbrev looks : (List Val → ℕ) → Probe → (row key : List Val) → ℕ
+  looks f p row key = text_octets key + spend (met_cost f p row key) (entries_at p key) + alone_cost f p row key (get_or built p.table [])
+
+  alone_cost_same : (p q : Probe) → IsSameProbe p q → (f g : List Val → ℕ) → ((r : List Val) → f r ≡ g r) → (row key : List Val)
+      → alone_cost f p row key (get_or built p.table []) ≡ alone_cost g q row key (get_or built q.table [])
+  alone_cost_same p q h f g same row key =
+      ap₂ (λ (o b : Bool). if o then 1 + (if b then f row else 0) else 0) h.outer (alone_same p q h row key)
+      ∙ ap (λ (n : ℕ). if q.outer then 1 + (if is_alone q row key (get_or built q.table []) then n else 0) else 0) (same row)
+
+  looks_same : (p q : Probe) → IsSameProbe p q → (f g : List Val → ℕ) → ((r : List Val) → f r ≡ g r) → (row key : List Val) → looks f p row key ≡ looks g q row key
+  looks_same p q h f g same row key =
+      ap₂ (λ (n m : ℕ). text_octets key + n + m)
       (ap₂ (λ (k t : ℕ). spend (met_cost f p row key) (in_slot (keyed k) (slot key) (get_or built t []))) (item_count p.key q.key h.key) h.table
-      ∙ spend_same (met_cost f p row key) (met_cost g q row key) (entries_at q key) (met_cost_same p q h f g same row key))))
+      ∙ spend_same (met_cost f p row key) (met_cost g q row key) (entries_at q key) (met_cost_same p q h f g same row key)) (alone_cost_same p q h f g same row key)
+
+  probe_cost_same : (p q : Probe) → IsSameProbe p q → (f g : List Val → ℕ) → ((r : List Val) → f r ≡ g r) → (row : List Val)
+      → units_of_items p.key (at_row row) + by_values (values_of p.key (at_row row)) (looks f p row) ≡ units_of_items q.key (at_row row) + by_values (values_of q.key (at_row row)) (looks g q row)
+  probe_cost_same p q h f g same row =
+      ap₂ (λ (u : ℕ) (r : Result (List Val) Code). u + by_values r (looks f p row)) (items_units p.key q.key (at_row row) h.key) (values_same p.key q.key (at_row row) h.key)
+      ∙ ap (λ (n : ℕ). units_of_items q.key (at_row row) + n) (by_values_same (values_of q.key (at_row row)) (looks f p row) (looks g q row) (looks_same p q h f g same row))
 
   pub cost_same : (os qs : List Operator) (s t : Sink) → AllZip IsSameOperator os qs → IsSameSink s t → (row : List Val) → cost built os s row ≡ cost built qs t row
   cost_same [] [] s t h g row =

@@ -47,8 +47,8 @@ keep_less (probe p ∷ operators) taken less more h = (
 
 module _ (entries : List Entry) (tables : List (List (List Val))) (columns : List ReadColumn)
     (sized : AllByRecursion (λ (e : Entry). AllByRecursion (λ (c : ColumnType). IsSized c.ty) e.columns) entries) where
-  abbrev lookup : Node → List Condition → List ℕ → Lookup
-  lookup right on keys = record { entries = entries_below right; on = on; keys = keys }
+  abbrev lookup : Bool → Node → List Condition → List ℕ → Lookup
+  lookup outer right on keys = record { entries = entries_below right; outer = outer; on = on; keys = keys }
 
   steps_with : (steps : List pipes.Step) (s : pipes.Step) (o : Operator) (more : List Operator) → spelled_steps columns (s ∷ []) ≡ o ∷ [] → spelled_steps columns steps ++ o ∷ more ≡ spelled_steps columns (steps ++ s ∷ []) ++ more
   steps_with steps s o more e =
@@ -63,19 +63,19 @@ module _ (entries : List Entry) (tables : List (List (List Val))) (columns : Lis
   steps_apart (filter conjuncts below) next more ready h =
       subst (KeepApart (λ i. nat_eq (split next below).last.entry (i / 64))) (steps_with (split next below).last.steps (test conjuncts) (filter_by conjuncts) more refl)
       (steps_apart below next (filter_by conjuncts ∷ more) ready.1 h)
-  steps_apart (join left right on keys) next more ready h =
+  steps_apart (join outer left right on keys) next more ready h =
       let m : ℕ = next + length (split next right).builds in
-      let kept : List ReadColumn = kept_columns columns (lookup right on keys) in
-      let o : Operator = probe (record { table = m; key = keys_sought (lookup right on keys); kept = kept; on = beside_keys keys 0 on }) in
+      let kept : List ReadColumn = kept_columns columns (lookup outer right on keys) in
+      let o : Operator = probe (record { table = m; outer = outer; key = keys_sought (lookup outer right on keys); kept = kept; on = beside_keys keys 0 on }) in
       let here : AllByRecursion (λ (c : ReadColumn). owns left c.number ≡ false) kept =
       all_more (λ (c : ReadColumn). owns right c.number ≡ true) (λ (c : ReadColumn). owns left c.number ≡ false) kept
       (λ (c : ReadColumn) t. other_side (owns left c.number) (owns right c.number) (ready.0.apart c.number) t) (filter_holds (λ (c : ReadColumn). owns right c.number) columns) in
       let later : KeepApart (λ i. owns left i || is_read kept i) more =
-      keep_less more (owns (join left right on keys)) (λ i. owns left i || is_read kept i)
+      keep_less more (owns (join outer left right on keys)) (λ i. owns left i || is_read kept i)
       (λ i no.
-      let parts = or_falses (owns left i) (owns right i) (sym (owns_join left right on keys i) ∙ no) in
+      let parts = or_falses (owns left i) (owns right i) (sym (owns_join outer left right on keys i) ∙ no) in
       both_false (owns left i) (is_read kept i) parts.0 (filtered_number (owns right) columns i ∙ ap (λ (b : Bool). b && is_read columns i) parts.1)) h in
-      subst (KeepApart (λ i. nat_eq (split (m + 1) left).last.entry (i / 64))) (steps_with (split (m + 1) left).last.steps (pipes.probe m (lookup right on keys)) o more refl)
+      subst (KeepApart (λ i. nat_eq (split (m + 1) left).last.entry (i / 64))) (steps_with (split (m + 1) left).last.steps (pipes.probe m (lookup outer right on keys)) o more refl)
       (steps_apart left (m + 1) (o ∷ more) ready.1.0 (here, later))
   steps_apart (project below items) next more ready h = absurd ready
 
@@ -87,10 +87,10 @@ module _ (entries : List Entry) (tables : List (List (List Val))) (columns : Lis
   pub builds_apart : (node : Node) (next : ℕ) → IsReady entries tables columns sized node → AllByRecursion IsApart (all_spelled columns next (split next node).builds)
   builds_apart (scan entry table) next ready = tt
   builds_apart (filter conjuncts below) next ready = builds_apart below next ready.1
-  builds_apart (join left right on keys) next ready =
+  builds_apart (join outer left right on keys) next ready =
       let m : ℕ = next + length (split next right).builds in
-      subst (AllByRecursion IsApart) (sym (spelled_join entries tables columns sized left right on keys next))
-      (all_append IsApart (all_spelled columns next (split next right).builds) (spelled columns m (building entries tables columns sized next right on keys) ∷ all_spelled columns (m + 1) (split (m + 1) left).builds)
+      subst (AllByRecursion IsApart) (sym (spelled_join entries tables columns sized outer left right on keys next))
+      (all_append IsApart (all_spelled columns next (split next right).builds) (spelled columns m (building entries tables columns sized next outer right on keys) ∷ all_spelled columns (m + 1) (split (m + 1) left).builds)
       (builds_apart right next ready.1.1) (last_apart right next ready.1.1, builds_apart left (m + 1) ready.1.0))
   builds_apart (project below items) next ready = absurd ready
 
@@ -104,7 +104,7 @@ module _ (entries : List Entry) (tables : List (List (List Val))) (columns : Lis
       (all_more (λ row. IsOver tables (F entries tables columns sized) (owns (scan entry table)) (at_places entry row)) (λ row. (i : ℕ) → nat_eq entry (i / 64) ≡ false → cell (at_places entry row) i ≡ Null)
       (rows_of tables table) (λ row over i no. over.elsewhere i (both_false (nat_eq entry (i / 64)) false no refl)) ready)
   rows_null (filter conjuncts below) next ready = rows_null below next ready.1
-  rows_null (join left right on keys) next ready = rows_null left (next + length (split next right).builds + 1) ready.1.0
+  rows_null (join outer left right on keys) next ready = rows_null left (next + length (split next right).builds + 1) ready.1.0
   rows_null (project below items) next ready = absurd ready
 
   null_kept : (operators : List Operator) (taken : ℕ → Bool) (row : List Val) → ((i : ℕ) → taken i ≡ false → cell row i ≡ Null) → KeepApart taken operators → IsNullAtKept row operators
@@ -127,9 +127,9 @@ module _ (entries : List Entry) (tables : List (List (List Val))) (columns : Lis
   pub builds_nulls : (node : Node) (next : ℕ) → IsReady entries tables columns sized node → AllByRecursion (ScansNulls tables) (all_spelled columns next (split next node).builds)
   builds_nulls (scan entry table) next ready = tt
   builds_nulls (filter conjuncts below) next ready = builds_nulls below next ready.1
-  builds_nulls (join left right on keys) next ready =
+  builds_nulls (join outer left right on keys) next ready =
       let m : ℕ = next + length (split next right).builds in
-      subst (AllByRecursion (ScansNulls tables)) (sym (spelled_join entries tables columns sized left right on keys next))
-      (all_append (ScansNulls tables) (all_spelled columns next (split next right).builds) (spelled columns m (building entries tables columns sized next right on keys) ∷ all_spelled columns (m + 1) (split (m + 1) left).builds)
+      subst (AllByRecursion (ScansNulls tables)) (sym (spelled_join entries tables columns sized outer left right on keys next))
+      (all_append (ScansNulls tables) (all_spelled columns next (split next right).builds) (spelled columns m (building entries tables columns sized next outer right on keys) ∷ all_spelled columns (m + 1) (split (m + 1) left).builds)
       (builds_nulls right next ready.1.1) (last_nulls right next ready.1.1, builds_nulls left (m + 1) ready.1.0))
   builds_nulls (project below items) next ready = absurd ready

@@ -119,35 +119,35 @@ module _ (same_rows : (row other : List Val) → is_same_row row other ≡ true 
   begun_bound (scan entry table) next built [] g long h = omega arith
   begun_bound (scan entry table) next built (e ∷ more) g long h = absurd h
   begun_bound (filter conjuncts below) next built more g long h = let rest = begun_bound below next built more g.1 long h in omega (arith, rest)
-  begun_bound (join left right on keys) next built more g long h =
+  begun_bound (join outer left right on keys) next built more g long h =
       let m : ℕ = next + length (split next right).builds in
-      let y : Pipeline = spelled columns m (building tables next right on keys) in
+      let y : Pipeline = spelled columns m (building tables outer next right on keys) in
       let first : (more : List (List (List Val))) → AreBegun tables built (builds_of next right) more → costs tables built (builds_of next right) more ≤ units_of general_hashing tables right =
       λ more begun. begun_bound right next built more g.1.1 long begun in
       let second : (b back : List (List (List Val))) → length b ≡ m + 1 → AreBegun tables b (builds_of (m + 1) left) back → costs tables b (builds_of (m + 1) left) back ≤ units_of general_hashing tables left =
       λ b back after begun. begun_bound left (m + 1) b back g.1.0 after begun in
-      subst (λ (ps : List Pipeline). costs tables built ps more ≤ units_of general_hashing tables (join left right on keys)) (sym (joined_builds same_rows same_value columns tables next left right on keys))
+      subst (λ (ps : List Pipeline). costs tables built ps more ≤ units_of general_hashing tables (join outer left right on keys)) (sym (joined_builds same_rows same_value columns tables next outer left right on keys))
       (one first second (begun_at tables built (builds_of next right) y (builds_of (m + 1) left) more
-      (subst (λ (ps : List Pipeline). AreBegun tables built ps more) (joined_builds same_rows same_value columns tables next left right on keys) h)))
+      (subst (λ (ps : List Pipeline). AreBegun tables built ps more) (joined_builds same_rows same_value columns tables next outer left right on keys) h)))
     where
       built_first : (front : List (List (List Val))) → AreBuilt tables built (builds_of next right) front
-          → costs tables built (builds_of next right) front + pipeline_cost tables (built ++ front) (spelled columns (next + length (split next right).builds) (building tables next right on keys)) ≤ units_of general_hashing tables right + total (sink_cost (spelled columns (next + length (split next right).builds) (building tables next right on keys)).sink) (node_flow tables right).rows
+          → costs tables built (builds_of next right) front + pipeline_cost tables (built ++ front) (spelled columns (next + length (split next right).builds) (building tables outer next right on keys)) ≤ units_of general_hashing tables right + total (sink_cost (spelled columns (next + length (split next right).builds) (building tables outer next right on keys)).sink) (node_flow tables right).rows
       built_first front are =
-          side_bound right next built front (spelled columns (next + length (split next right).builds) (building tables next right on keys)) g.1.1 long are refl refl (cost_respects (is_read columns) (spelled columns (next + length (split next right).builds) (building tables next right on keys)).sink (names_kept same_rows same_value columns tables (next + length (split next right).builds) left right on keys g.0))
+          side_bound right next built front (spelled columns (next + length (split next right).builds) (building tables outer next right on keys)) g.1.1 long are refl refl (cost_respects (is_read columns) (spelled columns (next + length (split next right).builds) (building tables outer next right on keys)).sink (names_kept same_rows same_value columns tables (next + length (split next right).builds) outer left right on keys g.0))
 
       one : ((more : List (List (List Val))) → AreBegun tables built (builds_of next right) more → costs tables built (builds_of next right) more ≤ units_of general_hashing tables right)
           → ((b back : List (List (List Val))) → length b ≡ (next + length (split next right).builds) + 1 → AreBegun tables b (builds_of ((next + length (split next right).builds) + 1) left) back → costs tables b (builds_of ((next + length (split next right).builds) + 1) left) back ≤ units_of general_hashing tables left)
-          → IsBegunAt tables built (builds_of next right) (spelled columns (next + length (split next right).builds) (building tables next right on keys)) (builds_of ((next + length (split next right).builds) + 1) left) more
-          → costs tables built (builds_of next right ++ (spelled columns (next + length (split next right).builds) (building tables next right on keys)) ∷ builds_of ((next + length (split next right).builds) + 1) left) more ≤ units_of general_hashing tables (join left right on keys)
+          → IsBegunAt tables built (builds_of next right) (spelled columns (next + length (split next right).builds) (building tables outer next right on keys)) (builds_of ((next + length (split next right).builds) + 1) left) more
+          → costs tables built (builds_of next right ++ (spelled columns (next + length (split next right).builds) (building tables outer next right on keys)) ∷ builds_of ((next + length (split next right).builds) + 1) left) more ≤ units_of general_hashing tables (join outer left right on keys)
       one first second (before begun cost) = let less = first more begun in omega (arith, cost, less)
-      one first second (at are cost) = let less = built_first more are in let table = table_bound same_rows same_value columns tables (next + length (split next right).builds) left right on keys g.0 in omega (arith, cost, less, table)
+      one first second (at are cost) = let less = built_first more are in let table = table_bound same_rows same_value columns tables (next + length (split next right).builds) outer left right on keys g.0 in omega (arith, cost, less, table)
       one first second (behind front entries back are begun cost) =
           let less = built_first front are in
           let after : length ((built ++ front) ++ entries ∷ []) ≡ (next + length (split next right).builds) + 1 =
           length-append (built ++ front) (entries ∷ [])
           ∙ ap (λ k. k + 1) (length-append built front ∙ ap₂ (λ a b. a + b) long (built_long tables built (builds_of next right) front are ∙ spelled_count columns next (split next right).builds)) in
           let rest = second ((built ++ front) ++ entries ∷ []) back after begun in
-          let table = table_bound same_rows same_value columns tables (next + length (split next right).builds) left right on keys g.0 in
+          let table = table_bound same_rows same_value columns tables (next + length (split next right).builds) outer left right on keys g.0 in
           omega (arith, cost, less, rest, table)
   begun_bound (project below items) next built more g long h = absurd g
 

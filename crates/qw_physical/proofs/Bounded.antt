@@ -22,15 +22,17 @@ use Rattle.qw_pipe.specs.Pipes.{make, probe, split, test}
 use Rattle.qw_pipe.specs.Units.{table_units, tested_units, units_of}
 use Rattle.qw_pipe.proofs.Splitting.{building, lookup, table_built}
 use Rattle.qw_rewrite.specs.Probed.{beside_keys}
+use Rattle.qw_feed.specs.Feeds.{flow_over}
 use Rattle.qw_physical.specs.Courses.{AreBuilt, cost, costs, fed, pipeline_cost, pipeline_fed, where_passed}
 use Rattle.qw_physical.specs.Physical as physical
-use Rattle.qw_physical.specs.Physical.{Operator, Pipeline}
+use Rattle.qw_physical.specs.Physical.{Operator, Pipeline, Sink}
 use Rattle.qw_physical.specs.Reads.{is_read}
 use Rattle.qw_physical.specs.Spelled.{all_spelled, kept_columns, keys_sought, spelled, spelled_steps}
 use Rattle.qw_physical.specs.declared.pipeline.ReadColumn.{ReadColumn}
-use Rattle.qw_physical.proofs.Charges.{Respects, charge, charges, charges_more, cost_less, cost_respects, count, fed_less, fed_respects, filter_charge, filter_respects, probe_charge, probe_respects, sink_cost, sink_fed}
+use Rattle.qw_physical.proofs.Charges.{Respects, charge, charges, charges_more, cost_less, cost_respects, count, fed_less, fed_respects, filter_charge, filter_respects, passed_rows, probe_charge, probe_respects, sink_cost, sink_fed}
 use Rattle.qw_physical.proofs.Grounded.{IsGround, IsKeyedJoin}
-use Rattle.qw_physical.proofs.JoinBound.{AreLeft, IsKnown, kept_total, names_beside, names_kept, names_sought, probes_bound, probing, sought_units, table_bound, total_count}
+use Rattle.qw_physical.proofs.JoinBound.{AreAll, AreLeft, IsKnown, kept_total, names_beside, names_kept, names_sought, probes_bound, probing, sought_units, table_bound, total_count}
+use Rattle.qw_physical.proofs.Scanned.{IsScanned}
 use Rattle.qw_physical.proofs.Totals.{spend_is, sum_is, total, total_flat, total_less, total_ones, total_permuted, total_plus, total_same}
 use Rattle.qw_physical.proofs.Feeding.{pipelines_append, spelled_count}
 
@@ -40,7 +42,7 @@ pub spelled_more : (columns : List ReadColumn) (steps : List pipes.Step) (s : pi
 spelled_more columns [] s = refl
 spelled_more columns (test conjuncts ∷ steps) s = ap (λ (os : List Operator). physical.filter conjuncts ∷ os) (spelled_more columns steps s)
 spelled_more columns (probe table look ∷ steps) s =
-    ap (λ (os : List Operator). physical.probe (record { table = table; key = keys_sought look; kept = kept_columns columns look; on = beside_keys look.keys 0 look.on }) ∷ os) (spelled_more columns steps s)
+    ap (λ (os : List Operator). physical.probe (record { table = table; outer = look.outer; key = keys_sought look; kept = kept_columns columns look; on = beside_keys look.keys 0 look.on }) ∷ os) (spelled_more columns steps s)
 spelled_more columns (make items ∷ steps) s = spelled_more columns steps s
 
 module _ (tables : List (List (List Val))) where
@@ -174,6 +176,21 @@ module _ (same_rows : (row other : List Val) → is_same_row row other ≡ true 
       (λ row. let one = fed_less built g p.operators p.sink row in omega (arith, one)) in
       omega (arith, flat, less)
 
+  -- what the rows of a scan that come through its filters leave, operators behind them
+  scanned_fed : (node : Node) → IsScanned node → (next : ℕ) (built : List (List (List Val))) (sink : Sink) (g : List Val → ℕ) (back : List Operator)
+      → total g (flow_over (fed built (steps_of next node ++ back) sink) (scanned (split next node).last)).rows ≡ total (λ row. total g (fed built back sink row).rows) (node_flow tables node).rows
+  scanned_fed (scan entry table) h next built sink g back = total_flat g (λ row. (fed built back sink row).rows) (entry_flow tables entry table).rows
+  scanned_fed (filter conjuncts below) h next built sink g back =
+      let after : List Val → ℕ = λ row. total g (fed built back sink row).rows in
+      ap (λ (os : List Operator). total g (flow_over (fed built os sink) (scanned (split next below).last)).rows)
+      (ap (λ (os : List Operator). os ++ back) (spelled_more columns (split next below).last.steps (test conjuncts)) ∙ append_assoc (steps_of next below) (physical.filter conjuncts ∷ []) back)
+      ∙ scanned_fed below h next built sink g (physical.filter conjuncts ∷ back)
+      ∙ total_same (λ row. total g (fed built (physical.filter conjuncts ∷ back) sink row).rows) (λ row. total after (rows_given (kept conjuncts row))) (node_flow tables below).rows
+      (λ row. passed_rows built g (passes conjuncts (at_row row)) (fed built back sink row) ∙ sym (kept_total after conjuncts row))
+      ∙ sym (total_flat after (λ row. rows_given (kept conjuncts row)) (node_flow tables below).rows)
+  scanned_fed (join outer left right on keys) h next built sink g back = absurd h
+  scanned_fed (project below items) h next built sink g back = absurd h
+
   module _ (counted : Bool) where
     filter_bound : (conjuncts : List Condition) (below : Node) (next : ℕ) (built more full : List (List (List Val))) (after : List Val → ℕ)
         → Bound counted below next built more full (filter_charge counted after conjuncts) → Bound counted (filter conjuncts below) next built more full after
@@ -189,13 +206,13 @@ module _ (same_rows : (row other : List Val) → is_same_row row other ≡ true 
         (filter_total counted after conjuncts (node_flow tables below).rows)
 
   -- a join, by what is known of its sides
-  module _ (left right : Node) (on : List Condition) (keys : List ℕ) (ground : IsKeyedJoin tables (IsKnown columns) left right on keys) (next : ℕ) (built more full tail : List (List (List Val)))
+  module _ (outer : Bool) (left right : Node) (on : List Condition) (keys : List ℕ) (ground : IsKeyedJoin tables (IsKnown columns) outer left right on keys) (next : ℕ) (built more full tail : List (List (List Val)))
       (long : length built ≡ next) (whole : full ≡ (built ++ more) ++ tail) where
     abbrev m : ℕ
     m = next + length (split next right).builds
 
     abbrev y : Pipeline
-    y = spelled columns m (building tables next right on keys)
+    y = spelled columns m (building tables outer next right on keys)
 
     module _ (h : IsParted tables built (builds_of next right) y (builds_of (m + 1) left) more) where
       abbrev before : List (List (List Val))
@@ -220,8 +237,16 @@ module _ (same_rows : (row other : List Val) → is_same_row row other ≡ true 
       there : get_or full m [] ≡ h.entries
       there = table_built tables before h.entries (h.back ++ tail) m full (whole_after ∙ append_assoc after_it h.back tail) before_long
 
-      -- what the rows of the right side leave
-      left_by : ((g : List Val → ℕ) → Bound false right next built h.front before (λ r. total g (sink_fed y.sink r).rows)) → AreLeft same_rows same_value columns tables m left right on keys ground h.entries
+      -- what the rows of the right side leave, and all of it where that is a scan
+      all_by : outer ≡ true → AreAll same_rows same_value columns tables m outer left right on keys ground h.entries
+      all_by is_outer g =
+          let permuted = total_permuted g (pipeline_fed tables before y).rows h.entries h.same in
+          let exact : total g (pipeline_fed tables before y).rows ≡ total (λ r. total g (sink_fed y.sink r).rows) (node_flow tables right).rows =
+          ap (λ (os : List Operator). total g (flow_over (fed before os y.sink) (scanned (split next right).last)).rows) (sym (append-nil (steps_of next right)))
+          ∙ scanned_fed right (ground.scanned is_outer) next before y.sink g [] in
+          omega (arith, permuted, exact)
+
+      left_by : ((g : List Val → ℕ) → Bound false right next built h.front before (λ r. total g (sink_fed y.sink r).rows)) → AreLeft same_rows same_value columns tables m outer left right on keys ground h.entries
       left_by fed_bound g =
           let permuted = total_permuted g (pipeline_fed tables before y).rows h.entries h.same in
           let fed_less = build_fed before y g in
@@ -230,27 +255,27 @@ module _ (same_rows : (row other : List Val) → is_same_row row other ≡ true 
 
       join_bound : (counted : Bool) (after : List Val → ℕ) → Respects read after
           → ((g : List Val → ℕ) → Bound false right next built h.front before (λ r. total g (sink_fed y.sink r).rows)) → Bound true right next built h.front before (sink_cost y.sink)
-          → Bound counted left (m + 1) after_it h.back full (probe_charge counted after (probing same_rows same_value columns tables m left right on keys ground) h.entries)
+          → Bound counted left (m + 1) after_it h.back full (probe_charge counted after (probing same_rows same_value columns tables m outer left right on keys ground) h.entries)
           → count counted (costs tables built (builds_of next right ++ y ∷ builds_of (m + 1) left) more)
-          + total (λ row. count counted 1 + charges counted full (steps_of next (join left right on keys)) after row) (scanned (split (m + 1) left).last)
-          ≤ count counted (units_of general_hashing tables (join left right on keys)) + total after (node_flow tables (join left right on keys)).rows
+          + total (λ row. count counted 1 + charges counted full (steps_of next (join outer left right on keys)) after row) (scanned (split (m + 1) left).last)
+          ≤ count counted (units_of general_hashing tables (join outer left right on keys)) + total after (node_flow tables (join outer left right on keys)).rows
       join_bound counted after respects fed_bound right_bound left_bound =
-          let p = probing same_rows same_value columns tables m left right on keys ground in
+          let p = probing same_rows same_value columns tables m outer left right on keys ground in
           let K : List Val → ℕ = probe_charge counted after p h.entries in
           let charged : charge counted full (physical.probe p) after ≡ K = ap (probe_charge counted after p) there in
-          let steps : charges counted full (steps_of next (join left right on keys)) after ≡ charges counted full (steps_of (m + 1) left) K =
-          ap (λ (os : List Operator). charges counted full os after) (spelled_more columns (split (m + 1) left).last.steps (probe m (lookup tables right on keys)))
+          let steps : charges counted full (steps_of next (join outer left right on keys)) after ≡ charges counted full (steps_of (m + 1) left) K =
+          ap (λ (os : List Operator). charges counted full os after) (spelled_more columns (split (m + 1) left).last.steps (probe m (lookup tables outer right on keys)))
           ∙ charges_more counted full (steps_of (m + 1) left) (physical.probe p) after ∙ ap (charges counted full (steps_of (m + 1) left)) charged in
-          let probes = probes_bound same_rows same_value columns tables m left right on keys ground h.entries (left_by fed_bound) counted after respects in
-          let table = table_bound same_rows same_value columns tables m left right on keys ground in
+          let probes = probes_bound same_rows same_value columns tables m outer left right on keys ground h.entries (left_by fed_bound) all_by counted after respects in
+          let table = table_bound same_rows same_value columns tables m outer left right on keys ground in
           join_step counted (costs tables built (builds_of next right ++ y ∷ builds_of (m + 1) left) more) (costs tables built (builds_of next right) h.front) (pipeline_cost tables before y)
           (costs tables after_it (builds_of (m + 1) left) h.back)
-          (total (λ row. count counted 1 + charges counted full (steps_of next (join left right on keys)) after row) (scanned (split (m + 1) left).last))
+          (total (λ row. count counted 1 + charges counted full (steps_of next (join outer left right on keys)) after row) (scanned (split (m + 1) left).last))
           (total (λ row. 1 + charges true before (steps_of next right) (sink_cost y.sink) row) (scanned (split next right).last))
           (units_of general_hashing tables right) (total (sink_cost y.sink) (node_flow tables right).rows) (units_of general_hashing tables left) (total K (node_flow tables left).rows)
-          (sought_units same_rows same_value columns tables m left right on keys ground h.entries (left_by fed_bound) counted after respects)
-          (total after (node_flow tables (join left right on keys)).rows)
-          (table_units general_hashing (lookup tables right on keys) (node_flow tables left).rows (node_flow tables right).rows)
+          (sought_units same_rows same_value columns tables m outer left right on keys ground h.entries (left_by fed_bound) all_by counted after respects)
+          (total after (node_flow tables (join outer left right on keys)).rows)
+          (table_units general_hashing (lookup tables outer right on keys) (node_flow tables left).rows (node_flow tables right).rows)
           h.cost (build_cost before y) right_bound
           (subst (λ (c : List Val → ℕ). count counted (costs tables after_it (builds_of (m + 1) left) h.back) + total (λ row. count counted 1 + c row) (scanned (split (m + 1) left).last)
           ≤ count counted (units_of general_hashing tables left) + total K (node_flow tables left).rows) (sym steps) left_bound)
@@ -258,10 +283,10 @@ module _ (same_rows : (row other : List Val) → is_same_row row other ≡ true 
 
   -- ---- all plans without a select list
 
-  pub joined_builds : (next : ℕ) (left right : Node) (on : List Condition) (keys : List ℕ)
-      → builds_of next (join left right on keys)
-      ≡ builds_of next right ++ spelled columns (next + length (split next right).builds) (building tables next right on keys) ∷ builds_of (next + length (split next right).builds + 1) left
-  joined_builds next left right on keys = pipelines_append columns next (split next right).builds (building tables next right on keys ∷ (split (next + length (split next right).builds + 1) left).builds)
+  pub joined_builds : (next : ℕ) (outer : Bool) (left right : Node) (on : List Condition) (keys : List ℕ)
+      → builds_of next (join outer left right on keys)
+      ≡ builds_of next right ++ spelled columns (next + length (split next right).builds) (building tables outer next right on keys) ∷ builds_of (next + length (split next right).builds + 1) left
+  joined_builds next outer left right on keys = pipelines_append columns next (split next right).builds (building tables outer next right on keys ∷ (split (next + length (split next right).builds + 1) left).builds)
 
   pub bounds : (node : Node) (counted : Bool) (next : ℕ) (built more full tail : List (List (List Val))) (after : List Val → ℕ) → IsGround tables (IsKnown columns) node → length built ≡ next
       → full ≡ (built ++ more) ++ tail → Respects read after → AreBuilt tables built (builds_of next node) more → Bound counted node next built more full after
@@ -273,23 +298,23 @@ module _ (same_rows : (row other : List Val) → is_same_row row other ≡ true 
       filter_bound counted conjuncts below next built more full after
       (bounds below counted next built more full tail (filter_charge counted after conjuncts) g.1 long whole
       (filter_respects read counted after conjuncts (all_more (IsKnown columns) (λ c. condition_names_only read c ≡ true) conjuncts (λ c k. k.0) g.0) respects) h)
-  bounds (join left right on keys) counted next built more full tail after g long whole respects h =
+  bounds (join outer left right on keys) counted next built more full tail after g long whole respects h =
       let m : ℕ = next + length (split next right).builds in
-      let y : Pipeline = spelled columns m (building tables next right on keys) in
-      let s = parted_built tables built (builds_of next right) y (builds_of (m + 1) left) more (subst (λ (ps : List Pipeline). AreBuilt tables built ps more) (joined_builds next left right on keys) h) in
+      let y : Pipeline = spelled columns m (building tables outer next right on keys) in
+      let s = parted_built tables built (builds_of next right) y (builds_of (m + 1) left) more (subst (λ (ps : List Pipeline). AreBuilt tables built ps more) (joined_builds next outer left right on keys) h) in
       let before : List (List (List Val)) = built ++ s.front in
       let own : before ≡ (built ++ s.front) ++ [] = sym (append-nil (built ++ s.front)) in
       let fed_bound : (f : List Val → ℕ) → Bound false right next built s.front before (λ r. total f (sink_fed y.sink r).rows) =
       λ f. bounds right false next built s.front before [] (λ r. total f (sink_fed y.sink r).rows) g.1.1 long own
-      (fed_respects read f y.sink (names_kept same_rows same_value columns tables m left right on keys g.0)) s.front_built in
+      (fed_respects read f y.sink (names_kept same_rows same_value columns tables m outer left right on keys g.0)) s.front_built in
       let right_bound : Bound true right next built s.front before (sink_cost y.sink) =
-      bounds right true next built s.front before [] (sink_cost y.sink) g.1.1 long own (cost_respects read y.sink (names_kept same_rows same_value columns tables m left right on keys g.0)) s.front_built in
-      let p = probing same_rows same_value columns tables m left right on keys g.0 in
+      bounds right true next built s.front before [] (sink_cost y.sink) g.1.1 long own (cost_respects read y.sink (names_kept same_rows same_value columns tables m outer left right on keys g.0)) s.front_built in
+      let p = probing same_rows same_value columns tables m outer left right on keys g.0 in
       let left_bound = bounds left counted (m + 1) (before ++ s.entries ∷ []) s.back full tail (probe_charge counted after p s.entries) g.1.0
-      (after_long left right on keys g.0 next built more full tail long whole s) (whole_after left right on keys g.0 next built more full tail long whole s)
-      (probe_respects read counted after p s.entries (names_sought same_rows same_value columns tables m left right on keys g.0) (names_beside same_rows same_value columns tables m left right on keys g.0) respects)
+      (after_long outer left right on keys g.0 next built more full tail long whole s) (whole_after outer left right on keys g.0 next built more full tail long whole s)
+      (probe_respects read counted after p s.entries (names_sought same_rows same_value columns tables m outer left right on keys g.0) (names_beside same_rows same_value columns tables m outer left right on keys g.0) respects)
       s.back_built in
-      subst (λ (ps : List Pipeline). count counted (costs tables built ps more) + total (λ row. count counted 1 + charges counted full (steps_of next (join left right on keys)) after row) (scanned (split (m + 1) left).last)
-      ≤ count counted (units_of general_hashing tables (join left right on keys)) + total after (node_flow tables (join left right on keys)).rows) (sym (joined_builds next left right on keys))
-      (join_bound left right on keys g.0 next built more full tail long whole s counted after respects fed_bound right_bound left_bound)
+      subst (λ (ps : List Pipeline). count counted (costs tables built ps more) + total (λ row. count counted 1 + charges counted full (steps_of next (join outer left right on keys)) after row) (scanned (split (m + 1) left).last)
+      ≤ count counted (units_of general_hashing tables (join outer left right on keys)) + total after (node_flow tables (join outer left right on keys)).rows) (sym (joined_builds next outer left right on keys))
+      (join_bound outer left right on keys g.0 next built more full tail long whole s counted after respects fed_bound right_bound left_bound)
   bounds (project below items) counted next built more full tail after g long whole respects h = absurd g

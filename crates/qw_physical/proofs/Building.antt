@@ -13,6 +13,7 @@ use Rattle.qw_types.specs.declared.value.Val.{Val}
 use Rattle.qw_scalar.specs.Expression.{Condition, Expression}
 use Rattle.qw_scalar.specs.Typing.{IsValueOf, kind_of}
 use Rattle.qw_meaning.specs.Flow.{Flow, codes_given, kept, selected, spread}
+use Rattle.qw_meaning.specs.From.{completed_pairs, crossed, joined}
 use Rattle.qw_meaning.specs.Select.{Entry}
 use Rattle.qw_algebra.specs.Columns.{owns}
 use Rattle.qw_algebra.specs.Node.{Node, scan, filter, join, project, node_flow}
@@ -33,6 +34,7 @@ use Rattle.qw_physical.proofs.Entries.{front_dropped, front_taken, kept_values}
 use Rattle.qw_physical.proofs.Feeding.{Feeds, built_count, building, feeds, lookup, side_fed, spelled_count, spelled_join}
 use Rattle.qw_physical.proofs.Joining.{entry_is, entry_key, filtered_all, kept_are, kept_count, the_build}
 use Rattle.qw_physical.proofs.Placed.{F, IsReady, ReadyJoin}
+use Rattle.qw_physical.proofs.QueryNulls.{NullAt, OuterRights}
 use Rattle.qw_leaves.proofs.LeafLists.{all_pairs}
 
 -- ---- pipelines in order
@@ -98,15 +100,16 @@ kinds_mapped : (es fs : List Expression) (vs : List Val) → es ≡ fs → AllZi
 kinds_mapped es fs vs e h = subst (λ (xs : List Expression). AllZip (λ (e : Expression) (v : Val). IsValueOf (kind_of e) v) xs vs) (sym e) h
 
 module _ (entries : List Entry) (tables : List (List (List Val))) (columns : List ReadColumn)
-    (sized : AllByRecursion (λ (e : Entry). AllByRecursion (λ (c : ColumnType). IsSized c.ty) e.columns) entries) (there : AllByRecursion (IsOfEntries entries) columns) where
-  kept_typed : (owned : ℕ → Bool) (cs : List ReadColumn) (r : List Val) → AllByRecursion (λ (c : ReadColumn). owned c.number ≡ true) cs → AllByRecursion (IsOfEntries entries) cs → IsDeclared entries owned r
+    (sized : AllByRecursion (λ (e : Entry). AllByRecursion (λ (c : ColumnType). IsSized c.ty) e.columns) entries)
+    (known : List Entry) (there : AllByRecursion (IsOfEntries known) columns) where
+  kept_typed : (owned : ℕ → Bool) (cs : List ReadColumn) (r : List Val) → AllByRecursion (λ (c : ReadColumn). owned c.number ≡ true) cs → AllByRecursion (IsOfEntries known) cs → IsDeclared known owned r
       → AllZip (λ (c : ReadColumn) (v : Val). IsOfTypeOrNull c.ty c.not_null v) cs (kept_values cs r)
   kept_typed owned [] r h g d = tt
   kept_typed owned (c ∷ cs) r h g d = (d c.number h.0 (record { ty = c.ty; not_null = c.not_null }) g.0, kept_typed owned cs r h.1 g.1 d)
 
-  module _ (left right : Node) (on : List Condition) (keys : List ℕ) (m : ℕ) (j : ReadyJoin entries tables columns sized left right on keys) (before : List (List (List Val))) where
+  module _ (outer : Bool) (left right : Node) (on : List Condition) (keys : List ℕ) (m : ℕ) (j : ReadyJoin entries tables columns sized outer left right on keys) (before : List (List (List Val))) where
     abbrev b : Build
-    b = the_build entries tables columns sized left right on keys m j
+    b = the_build entries tables columns sized outer left right on keys m j
 
     abbrev of_row : List Val → Flow (List Val)
     of_row r = fed before [] (build b) r
@@ -114,32 +117,32 @@ module _ (entries : List Entry) (tables : List (List (List Val))) (columns : Lis
     -- the values that a row is entered with
     abbrev entry_of : (r : List Val) → IsOver tables (F entries tables columns sized) (owns right) r → List Val
     entry_of r over =
-        (entry_key entries tables columns sized left right on keys m j r over).values ++ kept_values (kept_columns columns (lookup entries tables columns sized right on keys)) r
+        (entry_key entries tables columns sized outer left right on keys m j r over).values ++ kept_values (kept_columns columns (lookup entries tables columns sized outer right on keys)) r
 
-    entry_made : (r : List Val) → IsOver tables (F entries tables columns sized) (owns right) r → IsDeclared entries (owns right) r → AllByRecursion (IsMadeFor (build b)) (of_row r).rows
+    entry_made : (r : List Val) → IsOver tables (F entries tables columns sized) (owns right) r → IsDeclared known (owns right) r → AllByRecursion (IsMadeFor (build b)) (of_row r).rows
     entry_made r over declared =
-        subst (λ (f : Flow (List Val)). AllByRecursion (IsEntryOf b) f.rows) (sym (entry_is entries tables columns sized left right on keys m j before r over)) (one (have_values ws) refl)
+        subst (λ (f : Flow (List Val)). AllByRecursion (IsEntryOf b) f.rows) (sym (entry_is entries tables columns sized outer left right on keys m j before r over)) (one (have_values ws) refl)
       where
         ws : List Val
-        ws = (entry_key entries tables columns sized left right on keys m j r over).values
+        ws = (entry_key entries tables columns sized outer left right on keys m j r over).values
 
         kv : List Val
-        kv = kept_values (kept_columns columns (lookup entries tables columns sized right on keys)) r
+        kv = kept_values (kept_columns columns (lookup entries tables columns sized outer right on keys)) r
 
         front : take (length b.key) (ws ++ kv) ≡ ws
-        front = front_taken (length b.key) ws kv (kept_count entries tables columns sized left right on keys m j r over)
+        front = front_taken (length b.key) ws kv (kept_count entries tables columns sized outer left right on keys m j r over)
 
         one : (q : Bool) → have_values ws ≡ q → AllByRecursion (IsEntryOf b) (if q then one_row (ws ++ kv) else nothing).rows
         one true e = (
           record {
             key = subst (AllZip (λ (x : Expression) (v : Val). IsValueOf (kind_of x) v) b.key) (sym front)
-                (kinds_mapped b.key (map (operand_of (owns right)) (at_keys keys 0 on)) ws (kept_are entries tables columns sized left right on keys m j)
-                (entry_key entries tables columns sized left right on keys m j r over).kinds);
+                (kinds_mapped b.key (map (operand_of (owns right)) (at_keys keys 0 on)) ws (kept_are entries tables columns sized outer left right on keys m j)
+                (entry_key entries tables columns sized outer left right on keys m j r over).kinds);
             present = ap have_values front ∙ e;
             kept = subst (AllZip (λ (c : ReadColumn) (v : Val). IsOfTypeOrNull c.ty c.not_null v) b.kept)
-                (sym (front_dropped (length b.key) ws kv (kept_count entries tables columns sized left right on keys m j r over)))
+                (sym (front_dropped (length b.key) ws kv (kept_count entries tables columns sized outer left right on keys m j r over)))
                 (kept_typed (owns right) b.kept r (filter_holds (λ (c : ReadColumn). owns right c.number) columns)
-                (filtered_all (IsOfEntries entries) (λ (c : ReadColumn). owns right c.number) columns there) declared);
+                (filtered_all (IsOfEntries known) (λ (c : ReadColumn). owns right c.number) columns there) declared);
           },
           tt,
         )
@@ -147,7 +150,7 @@ module _ (entries : List Entry) (tables : List (List (List Val))) (columns : Lis
 
     entry_few : (r : List Val) → IsOver tables (F entries tables columns sized) (owns right) r → length (of_row r).rows ≤ 1
     entry_few r over =
-        subst (λ (f : Flow (List Val)). length f.rows ≤ 1) (sym (entry_is entries tables columns sized left right on keys m j before r over)) (one (have_values (entry_key entries tables columns sized left right on keys m j r over).values))
+        subst (λ (f : Flow (List Val)). length f.rows ≤ 1) (sym (entry_is entries tables columns sized outer left right on keys m j before r over)) (one (have_values (entry_key entries tables columns sized outer left right on keys m j r over).values))
       where
         one : (q : Bool) → length (if q then one_row (entry_of r over) else nothing).rows ≤ 1
         one true = omega arith
@@ -155,7 +158,7 @@ module _ (entries : List Entry) (tables : List (List (List Val))) (columns : Lis
 
     entry_quiet : (r : List Val) → IsOver tables (F entries tables columns sized) (owns right) r → (of_row r).codes ≡ []
     entry_quiet r over =
-        ap (λ (f : Flow (List Val)). f.codes) (entry_is entries tables columns sized left right on keys m j before r over) ∙ one (have_values (entry_key entries tables columns sized left right on keys m j r over).values)
+        ap (λ (f : Flow (List Val)). f.codes) (entry_is entries tables columns sized outer left right on keys m j before r over) ∙ one (have_values (entry_key entries tables columns sized outer left right on keys m j r over).values)
       where
         one : (q : Bool) → (if q then one_row (entry_of r over) else nothing).codes ≡ []
         one true = refl
@@ -163,54 +166,58 @@ module _ (entries : List Entry) (tables : List (List (List Val))) (columns : Lis
 
   -- ---- the pipelines that build
 
-  side_feeds : (left right : Node) (on : List Condition) (keys : List ℕ) (next m : ℕ) (built : List (List (List Val))) (ready : IsReady entries tables columns sized (join left right on keys))
-      → AllScans (ScanDeclared entries tables) right → Feeds entries tables columns sized next right built
-      → FeedsSide tables built (spelled columns m (building entries tables columns sized next right on keys)) right
-  side_feeds left right on keys next m built ready scans r =
-      let work : List Val → Flow (List Val) = of_row left right on keys m ready.0 built in
-      let p : Pipeline = spelled columns m (building entries tables columns sized next right on keys) in
+  side_feeds : (outer : Bool) (left right : Node) (on : List Condition) (keys : List ℕ) (next m : ℕ) (built : List (List (List Val))) (ready : IsReady entries tables columns sized (join outer left right on keys))
+      → AllScans (ScanDeclared known tables) right → OuterRights (NullAt known) right → Feeds entries tables columns sized next right built
+      → FeedsSide tables built (spelled columns m (building entries tables columns sized next outer right on keys)) right
+  side_feeds outer left right on keys next m built ready scans nulls r =
+      let work : List Val → Flow (List Val) = of_row outer left right on keys m ready.0 built in
+      let p : Pipeline = spelled columns m (building entries tables columns sized next outer right on keys) in
       let over : List Val → Type 0 = IsOver tables (F entries tables columns sized) (owns right) in
       let R : List (List Val) = (node_flow tables right).rows in
-      let a = side_fed entries tables columns sized left right on keys next m built ready r in
+      let a = side_fed entries tables columns sized outer left right on keys next m built ready r in
       let quiet : flat_map (λ row. (work row).codes) R ≡ [] =
-      flat_map_none (λ row. (work row).codes) R (all_more over (λ row. (work row).codes ≡ []) R (λ row o. entry_quiet left right on keys m ready.0 built row o) ready.0.over_right) in
+      flat_map_none (λ row. (work row).codes) R (all_more over (λ row. (work row).codes ≡ []) R (λ row o. entry_quiet outer left right on keys m ready.0 built row o) ready.0.over_right) in
       let all_codes : (spread work (node_flow tables right)).codes ≡ (node_flow tables right).codes =
       ap (λ (cs : List Code). (node_flow tables right).codes ++ cs) quiet ∙ append-nil (node_flow tables right).codes in
       record {
         codes = λ code h. subst (λ (cs : List Code). Contains cs code) all_codes (Contains-permutation (pipeline_fed tables built p).codes (spread work (node_flow tables right)).codes code a.1 h);
         few = subst (λ (n : ℕ). n ≤ length R) (length_permutation (pipeline_fed tables built p).rows (spread work (node_flow tables right)).rows a.0)
-            (few_made (λ row. (work row).rows) R (all_more over (λ row. length (work row).rows ≤ 1) R (λ row o. entry_few left right on keys m ready.0 built row o) ready.0.over_right));
+            (few_made (λ row. (work row).rows) R (all_more over (λ row. length (work row).rows ≤ 1) R (λ row o. entry_few outer left right on keys m ready.0 built row o) ready.0.over_right));
         entries = all_shuffled (IsMadeFor p.sink) (spread work (node_flow tables right)).rows (pipeline_fed tables built p).rows (IsPermutation-sym (pipeline_fed tables built p).rows (spread work (node_flow tables right)).rows a.0)
             (all_flat_map (IsMadeFor p.sink) (λ row. (work row).rows) R
-            (all_more (λ row. over row × IsDeclared entries (owns right) row) (λ row. AllByRecursion (IsMadeFor p.sink) (work row).rows) R (λ row o. entry_made left right on keys m ready.0 built row o.0 o.1)
-            (all_pairs over (IsDeclared entries (owns right)) R ready.0.over_right (rows_declared entries tables columns sized right ready.1.1 scans))));
+            (all_more (λ row. over row × IsDeclared known (owns right) row) (λ row. AllByRecursion (IsMadeFor p.sink) (work row).rows) R (λ row o. entry_made outer left right on keys m ready.0 built row o.0 o.1)
+            (all_pairs over (IsDeclared known (owns right)) R ready.0.over_right (rows_declared known tables entries columns sized right ready.1.1 scans nulls))));
       }
 
-  pub feed_sides : (node : Node) (next : ℕ) (start : List (List (List Val))) → length start ≡ next → IsReady entries tables columns sized node → AllScans (ScanDeclared entries tables) node
+  pub feed_sides : (node : Node) (next : ℕ) (start : List (List (List Val))) → length start ≡ next → IsReady entries tables columns sized node → AllScans (ScanDeclared known tables) node → OuterRights (NullAt known) node
       → FeedSides tables start (all_spelled columns next (split next node).builds) (sides node)
-  feed_sides (scan entry table) next start long ready scans = tt
-  feed_sides (filter conjuncts below) next start long ready scans = feed_sides below next start long ready.1 scans
-  feed_sides (join left right on keys) next start long ready scans =
+  feed_sides (scan entry table) next start long ready scans nulls = tt
+  feed_sides (filter conjuncts below) next start long ready scans nulls = feed_sides below next start long ready.1 scans nulls
+  feed_sides (join outer left right on keys) next start long ready scans nulls =
       let m : ℕ = next + length (split next right).builds in
       let firsts : List Pipeline = all_spelled columns next (split next right).builds in
-      let p : Pipeline = spelled columns m (building entries tables columns sized next right on keys) in
+      let p : Pipeline = spelled columns m (building entries tables columns sized next outer right on keys) in
       let lasts : List Pipeline = all_spelled columns (m + 1) (split (m + 1) left).builds in
       let go = feed_sides left (m + 1) in
-      subst (λ (ps : List Pipeline). FeedSides tables start ps (sides right ++ right ∷ sides left)) (sym (spelled_join entries tables columns sized left right on keys next))
-      (feed_append tables firsts (p ∷ lasts) (sides right) (right ∷ sides left) start (feed_sides right next start long ready.1.1 scans.1)
+      subst (λ (ps : List Pipeline). FeedSides tables start ps (sides right ++ right ∷ sides left)) (sym (spelled_join entries tables columns sized outer left right on keys next))
+      (feed_append tables firsts (p ∷ lasts) (sides right) (right ∷ sides left) start (feed_sides right next start long ready.1.1 scans.1 nulls.1.1)
       (λ own built. (
-        side_feeds left right on keys next m (start ++ own) ready scans.1 (feeds entries tables columns sized right next start own long built ready.1.1),
+        side_feeds outer left right on keys next m (start ++ own) ready scans.1 nulls.1.1 (feeds entries tables columns sized right next start own long built ready.1.1),
         λ stored none permuted. go ((start ++ own) ++ stored ∷ [])
             (length-append (start ++ own) (stored ∷ []) ∙ ap (λ (k : ℕ). k + 1) (length-append start own
             ∙ counted (length start) (length own) (length (split next right).builds) next long
-            (built_count tables start firsts own built ∙ spelled_count columns next (split next right).builds))) ready.1.0 scans.0,
+            (built_count tables start firsts own built ∙ spelled_count columns next (split next right).builds))) ready.1.0 scans.0 nulls.1.0,
       )))
     where
       counted : (a b k n : ℕ) → a ≡ n → b ≡ k → a + b ≡ n + k
       counted a b k n e f = omega (arith, e, f)
-  feed_sides (project below items) next start long ready scans = absurd ready
+  feed_sides (project below items) next start long ready scans nulls = absurd ready
 
 -- ---- exceptions of sides are the plan's
+
+joined_front : (outer : Bool) (on : List Condition) (one other : Flow (List Val)) (code : Code) → Contains (one.codes ++ other.codes) code → Contains (joined outer on one other).codes code
+joined_front true on one other code h = Contains-append_left (one.codes ++ other.codes) (flat_map (λ l. (completed_pairs on other.rows l).codes) one.rows) code h
+joined_front false on one other code h = Contains-append_left (one.codes ++ other.codes) (flat_map (λ row. codes_given (kept on row)) (crossed one other).rows) code h
 
 pub side_codes : (tables : List (List (List Val))) (code : Code) (node : Node) → AllByRecursion (λ side. Contains (node_flow tables side).codes code → Contains (node_flow tables node).codes code) (sides node)
 side_codes tables code (scan entry table) = tt
@@ -218,12 +225,12 @@ side_codes tables code (filter conjuncts below) =
     all_more (λ side. Contains (node_flow tables side).codes code → Contains (node_flow tables below).codes code)
     (λ side. Contains (node_flow tables side).codes code → Contains (node_flow tables (filter conjuncts below)).codes code) (sides below)
     (λ side f h. Contains-append_left (node_flow tables below).codes (flat_map (λ row. codes_given (kept conjuncts row)) (node_flow tables below).rows) code (f h)) (side_codes tables code below)
-side_codes tables code (join left right on keys) =
+side_codes tables code (join outer left right on keys) =
     let L : List Code = (node_flow tables left).codes in
     let R : List Code = (node_flow tables right).codes in
-    let whole : List Code = (node_flow tables (join left right on keys)).codes in
-    let of_left : Contains L code → Contains whole code = λ h. Contains-append_left (L ++ R) _ code (Contains-append_left L R code h) in
-    let of_right : Contains R code → Contains whole code = λ h. Contains-append_left (L ++ R) _ code (Contains-append_right L R code h) in
+    let whole : List Code = (node_flow tables (join outer left right on keys)).codes in
+    let of_left : Contains L code → Contains whole code = λ h. joined_front outer on (node_flow tables left) (node_flow tables right) code (Contains-append_left L R code h) in
+    let of_right : Contains R code → Contains whole code = λ h. joined_front outer on (node_flow tables left) (node_flow tables right) code (Contains-append_right L R code h) in
     all_append (λ side. Contains (node_flow tables side).codes code → Contains whole code) (sides right) (right ∷ sides left)
     (all_more (λ side. Contains (node_flow tables side).codes code → Contains R code) (λ side. Contains (node_flow tables side).codes code → Contains whole code) (sides right) (λ side f h. of_right (f h)) (side_codes tables code right))
     (of_right, all_more (λ side. Contains (node_flow tables side).codes code → Contains L code) (λ side. Contains (node_flow tables side).codes code → Contains whole code) (sides left) (λ side f h. of_left (f h)) (side_codes tables code left))

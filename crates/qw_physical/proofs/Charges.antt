@@ -1,7 +1,7 @@
 -- What a row costs at the operators of a pipeline, when it is known what each row that comes out of them costs: bounds of what is fed and of its cost.
--- Where costs are left out (`counted` is false) it is the sum over the rows that come out.
-use Rattle.std.proofs.Common.{◌≡◌, ◌∙◌, ℕ, ◌+◌, ◌≤◌, Bool, true, false, if◌then◌else◌, List, [], ◌∷◌, ◌++◌, ◌==◌, drop, get_or, length, take, Result, Ok, Err, refl, sym, ap, ap₂, subst, arith}
-use Rattle.std.specs.List.{AllByRecursion, filter as filter_list}
+-- Where costs are left out (`counted` is false) it is the sum over the rows that come out. A row that an outer probe has go on by itself is one of them.
+use Rattle.std.proofs.Common.{◌≡◌, ◌∙◌, ℕ, ◌+◌, ◌≤◌, Bool, true, false, not, ◌&&◌, if◌then◌else◌, List, [], ◌∷◌, ◌++◌, ◌==◌, drop, get_or, length, take, Result, Ok, Err, refl, sym, ap, ap₂, subst, arith}
+use Rattle.std.specs.List.{AllByRecursion, filter as filter_list, list_any}
 use Rattle.qw_types.specs.ValueOrder.{is_same_row}
 use Rattle.qw_types.specs.declared.code.Code.{Code}
 use Rattle.qw_types.specs.declared.value.Val.{Val}
@@ -19,8 +19,9 @@ use Rattle.qw_feed.specs.Feeds.{flow_by, flow_over, nothing, spend, where_true}
 use Rattle.qw_table.specs.Joins.{have_values, keyed, where_values}
 use Rattle.qw_table.specs.Keys.{text_octets}
 use Rattle.qw_table.specs.Tables.{in_slot}
-use Rattle.qw_physical.specs.Courses.{by_values, cost, fed, met, met_cost, pair_of, placed, row_of, sink_key, sink_values, where_passed}
+use Rattle.qw_physical.specs.Courses.{alone_cost, by_values, cost, fed, is_alone, isnt_failed, meets, met, met_cost, pair_of, placed, row_of, sink_key, sink_values, where_passed}
 use Rattle.qw_physical.specs.Physical.{Operator, Probe, Sink, filter, probe}
+use Rattle.qw_physical.proofs.Alone.{alone_is, any_same}
 use Rattle.qw_physical.proofs.SeenUnits.{conjuncts_agree, items_agree}
 use Rattle.qw_physical.proofs.Totals.{spend_is, total, total_filter, total_flat, total_less, total_plus, total_same}
 
@@ -35,9 +36,14 @@ matched counted after p row key entry =
     then count counted (units_of_all p.on (at_row (pair_of p row entry))) + where_passed (passes p.on (at_row (pair_of p row entry))) (after (pair_of p row entry))
     else 0
 
+-- of the row itself, where a probe is outer
+abbrev pub alone_charge : (counted : Bool) → (List Val → ℕ) → Probe → (entries : List (List Val)) → (row key : List Val) → ℕ
+alone_charge counted after p entries row key = if p.outer then count counted 1 + (if is_alone p row key entries then after row else 0) else 0
+
 abbrev pub keyed_charge : (counted : Bool) → (List Val → ℕ) → Probe → (entries : List (List Val)) → (row key : List Val) → ℕ
 keyed_charge counted after p entries row key =
-    count counted (text_octets key + total (λ (e : List Val). 1 + text_octets key) (in_slot (keyed (length p.key)) (slot key) entries)) + total (matched counted after p row key) entries
+    (count counted (text_octets key + total (λ (e : List Val). 1 + text_octets key) (in_slot (keyed (length p.key)) (slot key) entries)) + total (matched counted after p row key) entries)
+    + alone_charge counted after p entries row key
 
 abbrev pub probe_charge : (counted : Bool) → (List Val → ℕ) → Probe → (entries : List (List Val)) → (row : List Val) → ℕ
 probe_charge counted after p entries row =
@@ -86,6 +92,9 @@ if_less : (b : Bool) (x y : ℕ) → x ≤ y → (if b then x else 0) ≤ (if b 
 if_less true x y h = h
 if_less false x y h = omega arith
 
+both_less : (a b c d : ℕ) → a ≤ b → c ≤ d → a + c ≤ b + d
+both_less a b c d h g = omega (arith, h, g)
+
 -- ---- the cost of a row
 
 module _ (built : List (List (List Val))) where
@@ -114,6 +123,11 @@ module _ (built : List (List (List Val))) where
       slot_bound t (total (λ (e : List Val). 1 + t) here) (total m here) (total m entries) (spend f here)
       (subst (λ (n : ℕ). n ≤ total (λ (e : List Val). 1 + t) here + total m here) (sym spent) (subst (λ (n : ℕ). total (λ (e : List Val). 1 + f e) here ≤ n) parts each)) (filtered_less m test entries)
 
+  alone_less : (o a : Bool) (x y : ℕ) → x ≤ y → (if o then 1 + (if a then x else 0) else 0) ≤ (if o then 1 + (if a then y else 0) else 0)
+  alone_less true true x y h = omega (arith, h)
+  alone_less true false x y h = omega arith
+  alone_less false a x y h = omega arith
+
   pub cost_less : (operators : List Operator) (sink : Sink) (row : List Val) → cost built operators sink row ≤ charges true built operators (sink_cost sink) row
   cost_less [] sink row = omega arith
   cost_less (filter conjuncts ∷ operators) sink row =
@@ -122,28 +136,33 @@ module _ (built : List (List (List Val))) where
       (where_passed_less (passes conjuncts (at_row row)) (cost built operators sink row) (charges true built operators (sink_cost sink) row) (cost_less operators sink row))
   cost_less (probe p ∷ operators) sink row =
       let entries : List (List Val) = get_or built p.table [] in
+      let before : List Val → ℕ = cost built operators sink in
       let after : List Val → ℕ = charges true built operators (sink_cost sink) in
       plus_less (units_of_items p.key (at_row row))
-      (by_values (values_of p.key (at_row row)) (λ key. text_octets key + spend (met_cost (cost built operators sink) p row key) (in_slot (keyed (length p.key)) (slot key) entries)))
+      (by_values (values_of p.key (at_row row)) (λ key. text_octets key + spend (met_cost before p row key) (in_slot (keyed (length p.key)) (slot key) entries) + alone_cost before p row key entries))
       (by_values (values_of p.key (at_row row)) (keyed_charge true after p entries row))
-      (by_values_less (values_of p.key (at_row row)) (λ key. text_octets key + spend (met_cost (cost built operators sink) p row key) (in_slot (keyed (length p.key)) (slot key) entries))
+      (by_values_less (values_of p.key (at_row row)) (λ key. text_octets key + spend (met_cost before p row key) (in_slot (keyed (length p.key)) (slot key) entries) + alone_cost before p row key entries)
       (keyed_charge true after p entries row)
-      (λ key. in_slot_less (met_cost (cost built operators sink) p row key) (matched true after p row key) (text_octets key) (λ values. keyed (length p.key) values == slot key) entries
+      (λ key. both_less (text_octets key + spend (met_cost before p row key) (in_slot (keyed (length p.key)) (slot key) entries))
+      (text_octets key + total (λ (e : List Val). 1 + text_octets key) (in_slot (keyed (length p.key)) (slot key) entries) + total (matched true after p row key) entries)
+      (alone_cost before p row key entries) (alone_charge true after p entries row key)
+      (in_slot_less (met_cost before p row key) (matched true after p row key) (text_octets key) (λ values. keyed (length p.key) values == slot key) entries
       (λ entry. plus_less (text_octets key)
       (if is_same_row key (take (length p.key) entry)
-      then units_of_all p.on (at_row (pair_of p row entry)) + where_passed (passes p.on (at_row (pair_of p row entry))) (cost built operators sink (pair_of p row entry))
+      then units_of_all p.on (at_row (pair_of p row entry)) + where_passed (passes p.on (at_row (pair_of p row entry))) (before (pair_of p row entry))
       else 0) (matched true after p row key entry)
       (if_less (is_same_row key (take (length p.key) entry))
-      (units_of_all p.on (at_row (pair_of p row entry)) + where_passed (passes p.on (at_row (pair_of p row entry))) (cost built operators sink (pair_of p row entry)))
+      (units_of_all p.on (at_row (pair_of p row entry)) + where_passed (passes p.on (at_row (pair_of p row entry))) (before (pair_of p row entry)))
       (units_of_all p.on (at_row (pair_of p row entry)) + where_passed (passes p.on (at_row (pair_of p row entry))) (after (pair_of p row entry)))
-      (plus_less (units_of_all p.on (at_row (pair_of p row entry))) (where_passed (passes p.on (at_row (pair_of p row entry))) (cost built operators sink (pair_of p row entry)))
+      (plus_less (units_of_all p.on (at_row (pair_of p row entry))) (where_passed (passes p.on (at_row (pair_of p row entry))) (before (pair_of p row entry)))
       (where_passed (passes p.on (at_row (pair_of p row entry))) (after (pair_of p row entry)))
-      (where_passed_less (passes p.on (at_row (pair_of p row entry))) (cost built operators sink (pair_of p row entry)) (after (pair_of p row entry)) (cost_less operators sink (pair_of p row entry))))))))
+      (where_passed_less (passes p.on (at_row (pair_of p row entry))) (before (pair_of p row entry)) (after (pair_of p row entry)) (cost_less operators sink (pair_of p row entry)))))))
+      (alone_less p.outer (is_alone p row key entries) (before row) (after row) (cost_less operators sink row))))
 
   -- ---- the rows that are fed
 
   module _ (g : List Val → ℕ) where
-    passed_rows : (r : Result Bool Code) (f : Flow (List Val)) → total g (flow_by r (where_true f)).rows ≡ where_passed r (total g f.rows)
+    pub passed_rows : (r : Result Bool Code) (f : Flow (List Val)) → total g (flow_by r (where_true f)).rows ≡ where_passed r (total g f.rows)
     passed_rows (Ok true) f = refl
     passed_rows (Ok false) f = refl
     passed_rows (Err code) f = refl
@@ -166,6 +185,13 @@ module _ (built : List (List (List Val))) where
     met_rows true (Err code) f n h = omega arith
     met_rows false r f n h = omega arith
 
+    -- the row itself, or what is met
+    alone_rows : (o a : Bool) (f h : Flow (List Val)) (n m : ℕ) → total g f.rows ≤ n → total g h.rows ≤ m
+        → total g (if o && a then f else h).rows ≤ m + (if o then 0 + (if o && a then n else 0) else 0)
+    alone_rows true true f h n m less others = omega (arith, less)
+    alone_rows true false f h n m less others = omega (arith, others)
+    alone_rows false a f h n m less others = omega (arith, others)
+
     pub fed_less : (operators : List Operator) (sink : Sink) (row : List Val) → total g (fed built operators sink row).rows ≤ charges false built operators (λ r. total g (sink_fed sink r).rows) row
     fed_less [] sink row = omega arith
     fed_less (filter conjuncts ∷ operators) sink row =
@@ -177,14 +203,16 @@ module _ (built : List (List (List Val))) where
         let entries : List (List Val) = get_or built p.table [] in
         let after : List Val → ℕ = charges false built operators (λ r. total g (sink_fed sink r).rows) in
         let work : List Val → List Val → Flow (List Val) = met (fed built operators sink) p row in
-        let less : total g (flow_by (values_of p.key (at_row row)) (λ key. where_values (flow_over (work key) entries) key)).rows ≤ by_values (values_of p.key (at_row row)) (keyed_charge false after p entries row) =
-        valued_rows (values_of p.key (at_row row)) (λ key. where_values (flow_over (work key) entries) key) (keyed_charge false after p entries row)
+        let by_key : List Val → Flow (List Val) = λ key. if is_alone p row key entries then fed built operators sink row else where_values (flow_over (work key) entries) key in
+        let less : total g (flow_by (values_of p.key (at_row row)) by_key).rows ≤ by_values (values_of p.key (at_row row)) (keyed_charge false after p entries row) =
+        valued_rows (values_of p.key (at_row row)) by_key (keyed_charge false after p entries row)
         (λ key.
         let kept = kept_rows (flow_over (work key) entries) key in
         let flat : total g (flow_over (work key) entries).rows ≡ total (λ e. total g (work key e).rows) entries = total_flat g (λ e. (work key e).rows) entries in
         let each = total_less (λ e. total g (work key e).rows) (matched false after p row key) entries
         (λ e. met_rows (is_same_row key (take (length p.key) e)) (passes p.on (at_row (pair_of p row e))) (fed built operators sink (pair_of p row e)) (after (pair_of p row e)) (fed_less operators sink (pair_of p row e))) in
-        omega (arith, kept, flat, each)) in
+        alone_rows p.outer (not (have_values key && list_any (meets p row key) entries)) (fed built operators sink row) (where_values (flow_over (work key) entries) key) (after row)
+        (0 + total (matched false after p row key) entries) (fed_less operators sink row) (omega (arith, kept, flat, each))) in
         omega (arith, less)
 
 -- ---- what a charge sees of a row
@@ -223,13 +251,25 @@ module _ (test : ℕ → Bool) where
   by_values_same (Ok values) f g h = h values
   by_values_same (Err code) f g h = refl
 
+  meets_respects : (p : Probe) → NamesOnly test p.on → (r s : List Val) → Agrees r s → (key entry : List Val) → meets p r key entry ≡ meets p s key entry
+  meets_respects p names r s h key entry =
+      let same : Agrees (pair_of p r entry) (pair_of p s entry) = pair_agrees r s (row_of p.kept (drop (length p.key) entry)) (row_of p.kept (drop (length p.key) entry)) h (same_rows_agree (row_of p.kept (drop (length p.key) entry))) in
+      ap (λ (q : Result Bool Code). is_same_row key (take (length p.key) entry) && isnt_failed q) (passes_agrees test (pair_of p r entry) (pair_of p s entry) same p.on names)
+
+  alone_respects : (counted : Bool) (after : List Val → ℕ) (p : Probe) (entries : List (List Val)) → NamesOnly test p.on → Respects after → (r s : List Val) → Agrees r s → (key : List Val)
+      → alone_charge counted after p entries r key ≡ alone_charge counted after p entries s key
+  alone_respects counted after p entries names after_respects r s h key =
+      ap₂ (λ (a : Bool) (n : ℕ). if p.outer then count counted 1 + (if a then n else 0) else 0)
+      (alone_is p p r s key entries entries refl (any_same (meets p r key) (meets p s key) entries (meets_respects p names r s h key))) (after_respects r s h)
+
   pub probe_respects : (counted : Bool) (after : List Val → ℕ) (p : Probe) (entries : List (List Val)) → NamesItems p.key → NamesOnly test p.on → Respects after → Respects (probe_charge counted after p entries)
   probe_respects counted after p entries key_names on_names after_respects r s h =
       ap₂ (λ (a : ℕ) (q : Result (List Val) Code). count counted a + by_values q (keyed_charge counted after p entries r)) (items_agree test r s h p.key key_names) (values_agrees r s h p.key key_names)
       ∙ ap (λ (n : ℕ). count counted (units_of_items p.key (at_row s)) + n)
       (by_values_same (values_of p.key (at_row s)) (keyed_charge counted after p entries r) (keyed_charge counted after p entries s)
-      (λ key. ap (λ (n : ℕ). count counted (text_octets key + total (λ (e : List Val). 1 + text_octets key) (in_slot (keyed (length p.key)) (slot key) entries)) + n)
-      (total_same (matched counted after p r key) (matched counted after p s key) entries (λ entry. matched_respects counted after p on_names after_respects r s h key entry))))
+      (λ key. ap₂ (λ (n m : ℕ). (count counted (text_octets key + total (λ (e : List Val). 1 + text_octets key) (in_slot (keyed (length p.key)) (slot key) entries)) + n) + m)
+      (total_same (matched counted after p r key) (matched counted after p s key) entries (λ entry. matched_respects counted after p on_names after_respects r s h key entry))
+      (alone_respects counted after p entries on_names after_respects r s h key)))
 
   pub cost_respects : (sink : Sink) → NamesItems (sink_values sink) → Respects (sink_cost sink)
   cost_respects sink names r s h = rw (items_agree test r s h (sink_values sink) names, values_agrees r s h (sink_values sink) names) refl

@@ -1,5 +1,5 @@
 -- The pipelines of a well placed plan feed what its flow makes, over tables whose entries stand in any order.
-use Rattle.std.proofs.Common.{◌≡◌, ◌∙◌, ℕ, suc, ◌+◌, true, List, [], ◌∷◌, ◌++◌, get_or, length, refl, sym, ap, subst, append-nil, append_assoc, length-append, arith}
+use Rattle.std.proofs.Common.{◌≡◌, ◌∙◌, ℕ, suc, ◌+◌, Bool, true, List, [], ◌∷◌, ◌++◌, get_or, length, refl, sym, ap, subst, append-nil, append_assoc, length-append, arith}
 use Rattle.std.specs.List.{AllByRecursion, flat_map}
 use Rattle.std.specs.List.Sorted.{IsPermutation}
 use Rattle.std.proofs.lemmas.List.{get_or_at}
@@ -116,11 +116,11 @@ module _ (entries : List Entry) (tables : List (List (List Val))) (columns : Lis
   rows_of_scan p = (entry_flow tables p.entry p.table).rows
 
   -- how the right side of a join is looked up, and the pipeline that builds it
-  abbrev pub lookup : Node → List Condition → List ℕ → Lookup
-  lookup right on keys = record { entries = entries_below right; on = on; keys = keys }
+  abbrev pub lookup : Bool → Node → List Condition → List ℕ → Lookup
+  lookup outer right on keys = record { entries = entries_below right; outer = outer; on = on; keys = keys }
 
-  abbrev pub building : (next : ℕ) → Node → List Condition → List ℕ → pipes.Pipeline
-  building next right on keys = record (split next right).last { target = to_table (lookup right on keys) }
+  abbrev pub building : (next : ℕ) → Bool → Node → List Condition → List ℕ → pipes.Pipeline
+  building next outer right on keys = record (split next right).last { target = to_table (lookup outer right on keys) }
 
   last_step : (built : List (List (List Val))) (steps : List pipes.Step) (s : pipes.Step) (o : Operator) → spelled_steps columns (s ∷ []) ≡ o ∷ [] → (work : List Val → Flow (List Val)) (rows : List (List Val))
       → flow_over (through built (spelled_steps columns (steps ++ s ∷ [])) work) rows ≡ flow_over (through built (spelled_steps columns steps) (at_operator built o work)) rows
@@ -135,37 +135,37 @@ module _ (entries : List Entry) (tables : List (List (List Val))) (columns : Lis
       → Alike (flow_over (through built (spelled_steps columns (split next node).last.steps) work) (rows_of_scan (split next node).last)) (spread work (node_flow tables node))
 
   -- a table that is built
-  pub side_fed : (left right : Node) (on : List Condition) (keys : List ℕ) (next m : ℕ) (built : List (List (List Val))) → IsReady entries tables columns sized (join left right on keys)
+  pub side_fed : (outer : Bool) (left right : Node) (on : List Condition) (keys : List ℕ) (next m : ℕ) (built : List (List (List Val))) → IsReady entries tables columns sized (join outer left right on keys)
       → (r : Feeds next right built)
-      → Alike (pipeline_fed tables built (spelled columns m (building next right on keys)))
-      (spread (fed built [] (build (record { table = m; key = keys_kept (lookup right on keys); kept = kept_columns columns (lookup right on keys) }))) (node_flow tables right))
-  side_fed left right on keys next m built ready r =
-      let sink : Sink = build (record { table = m; key = keys_kept (lookup right on keys); kept = kept_columns columns (lookup right on keys) }) in
+      → Alike (pipeline_fed tables built (spelled columns m (building next outer right on keys)))
+      (spread (fed built [] (build (record { table = m; key = keys_kept (lookup outer right on keys); kept = kept_columns columns (lookup outer right on keys) }))) (node_flow tables right))
+  side_fed outer left right on keys next m built ready r =
+      let sink : Sink = build (record { table = m; key = keys_kept (lookup outer right on keys); kept = kept_columns columns (lookup outer right on keys) }) in
       let last : pipes.Pipeline = (split next right).last in
       subst (λ (f : Flow (List Val)). Alike f (spread (fed built [] sink) (node_flow tables right)))
       (sym (over_same (fed built (spelled_steps columns last.steps) sink) (through built (spelled_steps columns last.steps) (fed built [] sink)) (rows_of_scan last)
       (fed_through built (spelled_steps columns last.steps) sink)))
-      (r (fed built [] sink) (build_sees entries tables columns sized left right on keys m ready.0 built))
+      (r (fed built [] sink) (build_sees entries tables columns sized outer left right on keys m ready.0 built))
 
-  feeds_join : (left right : Node) (on : List Condition) (keys : List ℕ) (next m : ℕ) (start own : List (List (List Val))) → length start ≡ next → m ≡ next + length (split next right).builds
-      → IsReady entries tables columns sized (join left right on keys)
-      → (c : AreCut tables start (all_spelled columns next (split next right).builds) (spelled columns m (building next right on keys)) (all_spelled columns (m + 1) (split (m + 1) left).builds) own)
+  feeds_join : (outer : Bool) (left right : Node) (on : List Condition) (keys : List ℕ) (next m : ℕ) (start own : List (List (List Val))) → length start ≡ next → m ≡ next + length (split next right).builds
+      → IsReady entries tables columns sized (join outer left right on keys)
+      → (c : AreCut tables start (all_spelled columns next (split next right).builds) (spelled columns m (building next outer right on keys)) (all_spelled columns (m + 1) (split (m + 1) left).builds) own)
       → Feeds next right (start ++ c.before)
       → Feeds (m + 1) left (((start ++ c.before) ++ c.entries ∷ []) ++ c.behind)
       → (work : List Val → Flow (List Val)) → Sees (is_read columns) work
-      → Alike (flow_over (through (start ++ own) (spelled_steps columns ((split (m + 1) left).last.steps ++ pipes.probe m (lookup right on keys) ∷ [])) work) (rows_of_scan (split (m + 1) left).last))
-      (spread work (node_flow tables (join left right on keys)))
-  feeds_join left right on keys next m start own long m_is ready c r l work sees =
-      let sink : Sink = build (record { table = m; key = keys_kept (lookup right on keys); kept = kept_columns columns (lookup right on keys) }) in
+      → Alike (flow_over (through (start ++ own) (spelled_steps columns ((split (m + 1) left).last.steps ++ pipes.probe m (lookup outer right on keys) ∷ [])) work) (rows_of_scan (split (m + 1) left).last))
+      (spread work (node_flow tables (join outer left right on keys)))
+  feeds_join outer left right on keys next m start own long m_is ready c r l work sees =
+      let sink : Sink = build (record { table = m; key = keys_kept (lookup outer right on keys); kept = kept_columns columns (lookup outer right on keys) }) in
       let built : List (List (List Val)) = start ++ own in
-      let o : Operator = probe (record { table = m; key = keys_sought (lookup right on keys); kept = kept_columns columns (lookup right on keys); on = beside_keys keys 0 on }) in
-      let outer : List Val → Flow (List Val) = at_operator built o work in
+      let o : Operator = probe (record { table = m; outer = outer; key = keys_sought (lookup outer right on keys); kept = kept_columns columns (lookup outer right on keys); on = beside_keys keys 0 on }) in
+      let at_last : List Val → Flow (List Val) = at_operator built o work in
       let last : pipes.Pipeline = (split (m + 1) left).last in
       let side : Flow (List Val) = spread (fed (start ++ c.before) [] sink) (node_flow tables right) in
-      let right_is = side_fed left right on keys next m (start ++ c.before) ready r in
+      let right_is = side_fed outer left right on keys next m (start ++ c.before) ready r in
       let none : (node_flow tables right).codes ≡ [] =
       front_none (node_flow tables right).codes (flat_map (λ row. (fed (start ++ c.before) [] sink row).codes) (node_flow tables right).rows)
-      (none_permuted side.codes (subst (IsPermutation side.codes) c.none (IsPermutation-sym (pipeline_fed tables (start ++ c.before) (spelled columns m (building next right on keys))).codes side.codes right_is.1))) in
+      (none_permuted side.codes (subst (IsPermutation side.codes) c.none (IsPermutation-sym (pipeline_fed tables (start ++ c.before) (spelled columns m (building next outer right on keys))).codes side.codes right_is.1))) in
       let front : length (start ++ c.before) ≡ m =
       length-append start c.before ∙ counted (length start) (length c.before) (length (split next right).builds) next m long
       (built_count tables start (all_spelled columns next (split next right).builds) c.before c.first ∙ spelled_count columns next (split next right).builds) m_is in
@@ -176,45 +176,45 @@ module _ (entries : List Entry) (tables : List (List (List Val))) (columns : Lis
       ∙ get_or_at (start ++ c.before) c.entries c.behind [] m front in
       let stands : IsPermutation side.rows (get_or built m []) =
       subst (IsPermutation side.rows) (sym there)
-      (IsPermutation-trans side.rows (pipeline_fed tables (start ++ c.before) (spelled columns m (building next right on keys))).rows c.entries
-      (IsPermutation-sym (pipeline_fed tables (start ++ c.before) (spelled columns m (building next right on keys))).rows side.rows right_is.0) c.permuted) in
-      let left_is : Alike (flow_over (through built (spelled_steps columns last.steps) outer) (rows_of_scan last)) (spread outer (node_flow tables left)) =
-      subst (λ (b : List (List (List Val))). Alike (flow_over (through b (spelled_steps columns last.steps) outer) (rows_of_scan last)) (spread outer (node_flow tables left))) built_is
-      (l outer (probe_sees entries tables columns sized left right on keys m ready.0 work sees (start ++ c.before) built stands)) in
-      subst (λ (f : Flow (List Val)). Alike f (spread work (node_flow tables (join left right on keys))))
-      (sym (last_step built last.steps (pipes.probe m (lookup right on keys)) o refl work (rows_of_scan last)))
-      (alike_trans (flow_over (through built (spelled_steps columns last.steps) outer) (rows_of_scan last)) (spread outer (node_flow tables left)) (spread work (node_flow tables (join left right on keys)))
-      left_is (joined entries tables columns sized left right on keys m ready.0 work sees (start ++ c.before) built stands none))
+      (IsPermutation-trans side.rows (pipeline_fed tables (start ++ c.before) (spelled columns m (building next outer right on keys))).rows c.entries
+      (IsPermutation-sym (pipeline_fed tables (start ++ c.before) (spelled columns m (building next outer right on keys))).rows side.rows right_is.0) c.permuted) in
+      let left_is : Alike (flow_over (through built (spelled_steps columns last.steps) at_last) (rows_of_scan last)) (spread at_last (node_flow tables left)) =
+      subst (λ (b : List (List (List Val))). Alike (flow_over (through b (spelled_steps columns last.steps) at_last) (rows_of_scan last)) (spread at_last (node_flow tables left))) built_is
+      (l at_last (probe_sees entries tables columns sized outer left right on keys m ready.0 work sees (start ++ c.before) built stands)) in
+      subst (λ (f : Flow (List Val)). Alike f (spread work (node_flow tables (join outer left right on keys))))
+      (sym (last_step built last.steps (pipes.probe m (lookup outer right on keys)) o refl work (rows_of_scan last)))
+      (alike_trans (flow_over (through built (spelled_steps columns last.steps) at_last) (rows_of_scan last)) (spread at_last (node_flow tables left)) (spread work (node_flow tables (join outer left right on keys)))
+      left_is (joined entries tables columns sized outer left right on keys m ready.0 work sees (start ++ c.before) built stands none))
     where
       counted : (a b k n m : ℕ) → a ≡ n → b ≡ k → m ≡ n + k → a + b ≡ m
       counted a b k n m e f g = omega (arith, e, f, g)
 
   -- the pipelines of a join's builds
-  pub spelled_join : (left right : Node) (on : List Condition) (keys : List ℕ) (next : ℕ)
-      → all_spelled columns next (split next (join left right on keys)).builds
-      ≡ all_spelled columns next (split next right).builds ++ spelled columns (next + length (split next right).builds) (building next right on keys)
+  pub spelled_join : (outer : Bool) (left right : Node) (on : List Condition) (keys : List ℕ) (next : ℕ)
+      → all_spelled columns next (split next (join outer left right on keys)).builds
+      ≡ all_spelled columns next (split next right).builds ++ spelled columns (next + length (split next right).builds) (building next outer right on keys)
       ∷ all_spelled columns (next + length (split next right).builds + 1) (split (next + length (split next right).builds + 1) left).builds
-  spelled_join left right on keys next =
-      pipelines_append columns next (split next right).builds (building next right on keys ∷ (split (next + length (split next right).builds + 1) left).builds)
+  spelled_join outer left right on keys next =
+      pipelines_append columns next (split next right).builds (building next outer right on keys ∷ (split (next + length (split next right).builds + 1) left).builds)
 
   pub feeds : (node : Node) (next : ℕ) (start own : List (List (List Val))) → length start ≡ next → AreBuilt tables start (all_spelled columns next (split next node).builds) own
       → IsReady entries tables columns sized node → Feeds next node (start ++ own)
   feeds (scan entry table) next start own long built ready work sees = alike_refl (spread work (entry_flow tables entry table))
   feeds (filter conjuncts below) next start own long built ready work sees =
       let all : List (List (List Val)) = start ++ own in
-      let outer : List Val → Flow (List Val) = at_operator all (filter_by conjuncts) work in
+      let at_last : List Val → Flow (List Val) = at_operator all (filter_by conjuncts) work in
       let last : pipes.Pipeline = (split next below).last in
       subst (λ (f : Flow (List Val)). Alike f (spread work (node_flow tables (filter conjuncts below)))) (sym (last_step all last.steps (test conjuncts) (filter_by conjuncts) refl work (rows_of_scan last)))
-      (alike_trans (flow_over (through all (spelled_steps columns last.steps) outer) (rows_of_scan last)) (spread outer (node_flow tables below)) (spread work (node_flow tables (filter conjuncts below)))
-      (feeds below next start own long built ready.1 outer (operator_sees (is_read columns) all (filter_by conjuncts) work ready.0 sees))
-      (spread_twice outer work (λ row. record { rows = rows_given (kept conjuncts row); codes = codes_given (kept conjuncts row) }) (node_flow tables below)
-      (all_of_any (λ row. Alike (outer row) (spread work (record { rows = rows_given (kept conjuncts row); codes = codes_given (kept conjuncts row) }))) (node_flow tables below).rows
+      (alike_trans (flow_over (through all (spelled_steps columns last.steps) at_last) (rows_of_scan last)) (spread at_last (node_flow tables below)) (spread work (node_flow tables (filter conjuncts below)))
+      (feeds below next start own long built ready.1 at_last (operator_sees (is_read columns) all (filter_by conjuncts) work ready.0 sees))
+      (spread_twice at_last work (λ row. record { rows = rows_given (kept conjuncts row); codes = codes_given (kept conjuncts row) }) (node_flow tables below)
+      (all_of_any (λ row. Alike (at_last row) (spread work (record { rows = rows_given (kept conjuncts row); codes = codes_given (kept conjuncts row) }))) (node_flow tables below).rows
       (λ row. passed_on work row true (passes conjuncts (at_row row))))))
-  feeds (join left right on keys) next start own long built ready work sees =
+  feeds (join outer left right on keys) next start own long built ready work sees =
       let m : ℕ = next + length (split next right).builds in
-      let c = cut tables (all_spelled columns next (split next right).builds) (spelled columns m (building next right on keys)) (all_spelled columns (m + 1) (split (m + 1) left).builds) start own
-      (subst (λ (ps : List Pipeline). AreBuilt tables start ps own) (spelled_join left right on keys next) built) in
-      feeds_join left right on keys next m start own long refl ready c (feeds right next start c.before long c.first ready.1.1)
+      let c = cut tables (all_spelled columns next (split next right).builds) (spelled columns m (building next outer right on keys)) (all_spelled columns (m + 1) (split (m + 1) left).builds) start own
+      (subst (λ (ps : List Pipeline). AreBuilt tables start ps own) (spelled_join outer left right on keys next) built) in
+      feeds_join outer left right on keys next m start own long refl ready c (feeds right next start c.before long c.first ready.1.1)
       (feeds left (m + 1) ((start ++ c.before) ++ c.entries ∷ []) c.behind
       (length-append (start ++ c.before) (c.entries ∷ []) ∙ ap (λ (k : ℕ). k + 1) (length-append start c.before
       ∙ counted (length start) (length c.before) (length (split next right).builds) next long

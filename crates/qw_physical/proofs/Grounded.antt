@@ -1,5 +1,5 @@
 -- What is known of each join of a well placed plan: the entries of its sides are apart, the rows of a side are null at the other's columns, and its
--- keys are eligible equalities, by which it comes to its pairs.
+-- keys are eligible equalities, by which it comes to its pairs. The right side of an outer one is a scan.
 use Rattle.std.proofs.Common.{◌≡◌, ◌∙◌, ℕ, ◌+◌, Bool, true, false, not, ◌&&◌, if◌then◌else◌, List, [], ◌∷◌, ◌++◌, length, slice_get, refl, sym, ap, subst, subst₂, append_assoc, length-append}
 use Rattle.std.specs.List.{AllByRecursion, filter_map}
 use Rattle.std.specs.List as list
@@ -16,7 +16,7 @@ use Rattle.qw_algebra.specs.Written.{from_written, written}
 use Rattle.qw_algebra.proofs.Lists.{all_append, all_more}
 use Rattle.qw_rewrite.specs.Placed.{IsSizedPlan}
 use Rattle.qw_rewrite.specs.Probe.{is_eligible, keyed, keys_from, keys_of_join}
-use Rattle.qw_rewrite.specs.Probed.{AreProbes, at_keys, beside_keys, probed}
+use Rattle.qw_rewrite.specs.Probed.{AreProbes, at_keys, beside_keys, probed_by}
 use Rattle.qw_rewrite.specs.Sift.{beyond, is_clean_on, is_quiet, moved, quiet_front, sifted, stayed, within}
 use Rattle.qw_rewrite.proofs.Grounds.{FitsAt, clauses_sound}
 use Rattle.qw_rewrite.proofs.Joins.{tested}
@@ -26,6 +26,7 @@ use Rattle.qw_rewrite.proofs.Moved.{moved_all, stayed_all}
 use Rattle.qw_rewrite.proofs.Probes.{placed_probes}
 use Rattle.qw_rewrite.proofs.Sifting.{IsHonest, IsOver, IsSound, rows_over}
 use Rattle.qw_rewrite.proofs.Stages.{all_filtered}
+use Rattle.qw_physical.proofs.Scanned.{IsScanned, ScansRights, clauses_scan, keyed_scanned, sifted_scan}
 use Rattle.qw_physical.proofs.Throughout.{Throughout, clauses_through, sifted_through}
 use Rattle.qw_physical.proofs.Plans.{at_seam}
 
@@ -70,21 +71,22 @@ abbrev pub IsNullBeside : (owned : ℕ → Bool) → List Val → Type 0
 IsNullBeside owned row = (i : ℕ) → owned i ≡ false → cell row i ≡ Null
 
 module _ (tables : List (List (List Val))) (P : Condition → Type 0) where
-  pub record IsKeyedJoin (left right : Node) (on : List Condition) (keys : List ℕ) : Type 0 where
+  pub record IsKeyedJoin (outer : Bool) (left right : Node) (on : List Condition) (keys : List ℕ) : Type 0 where
     pub conjuncts : AllByRecursion P on
     pub apart : (i : ℕ) → owns left i ≡ true → owns right i ≡ false
     pub lefts : AllByRecursion (IsNullBeside (owns left)) (node_flow tables left).rows
     pub rights : AllByRecursion (IsNullBeside (owns right)) (node_flow tables right).rows
     pub eligible : AllByRecursion (λ c. is_eligible (owns left) (owns right) c ≡ true) (at_keys keys 0 on)
     pub equalities : filter_map (λ k. slice_get on k) keys ≡ at_keys keys 0 on
-    pub probes : node_flow tables (join left right on keys)
-        ≡ probed (owns left) (owns right) (at_keys keys 0 on) (beside_keys keys 0 on) (node_flow tables left) (node_flow tables right)
+    pub probes : node_flow tables (join outer left right on keys)
+        ≡ probed_by outer (owns left) (owns right) (at_keys keys 0 on) (beside_keys keys 0 on) (node_flow tables left) (node_flow tables right)
+    pub scanned : outer ≡ true → IsScanned right
 
   -- of each join below the select list
   abbrev pub IsGround : Node → Type 0
   IsGround (scan entry table) = Unit {0}
   IsGround (filter conjuncts below) = AllByRecursion P conjuncts × IsGround below
-  IsGround (join left right on keys) = IsKeyedJoin left right on keys × (IsGround left × IsGround right)
+  IsGround (join outer left right on keys) = IsKeyedJoin outer left right on keys × (IsGround left × IsGround right)
   IsGround (project below items) = ⊥
 
   rows_beside : (Fits : ℕ → Val → Type 0) (node : Node) (clean : Bool) → IsSound tables Fits node → AllByRecursion (IsNullBeside (owns (keyed clean node))) (node_flow tables (keyed clean node)).rows
@@ -92,10 +94,10 @@ module _ (tables : List (List (List Val))) (P : Condition → Type 0) where
       subst₂ (λ (es : List ℕ) (f : Flow (List Val)). AllByRecursion (IsNullBeside (is_of es)) f.rows) (sym (keyed_entries node clean)) (sym (keyed_flow tables clean node))
       (all_more (IsOver tables Fits (owns node)) (IsNullBeside (owns node)) (node_flow tables node).rows (λ row over. over.elsewhere) (rows_over tables Fits node s))
 
-  pub grounded : (Fits : ℕ → Val → Type 0) (node : Node) (clean : Bool) → IsSound tables Fits node → Throughout P node → AreProbes tables (keyed clean node) → IsGround (keyed clean node)
-  grounded Fits (scan entry table) clean s h p = tt
-  grounded Fits (filter conjuncts below) clean s h p = (h.0, grounded Fits below clean s.1 h.1 p)
-  grounded Fits (join left right on keys) clean s h p = (
+  pub grounded : (Fits : ℕ → Val → Type 0) (node : Node) (clean : Bool) → IsSound tables Fits node → Throughout P node → ScansRights node → AreProbes tables (keyed clean node) → IsGround (keyed clean node)
+  grounded Fits (scan entry table) clean s h z p = tt
+  grounded Fits (filter conjuncts below) clean s h z p = (h.0, grounded Fits below clean s.1 h.1 z p)
+  grounded Fits (join outer left right on keys) clean s h z p = (
     record {
       conjuncts = h.0;
       apart = subst₂ (λ (ls rs : List ℕ). (i : ℕ) → is_of ls i ≡ true → is_of rs i ≡ false) (sym (keyed_entries left clean)) (sym (keyed_entries right (clean && is_quiet left))) s.0.1;
@@ -105,10 +107,11 @@ module _ (tables : List (List (List Val))) (P : Condition → Type 0) where
           (sym (keyed_entries left clean)) (sym (keyed_entries right (clean && is_quiet left))) (keys_eligible clean left right on);
       equalities = equalities_are clean left right on;
       probes = p.0;
+      scanned = λ e. keyed_scanned right (clean && is_quiet left) (z.0 e);
     },
-    (grounded Fits left clean s.1.0 h.1.0 p.1.0, grounded Fits right (clean && is_quiet left) s.1.1 h.1.1 p.1.1),
+    (grounded Fits left clean s.1.0 h.1.0 z.1.0 p.1.0, grounded Fits right (clean && is_quiet left) s.1.1 h.1.1 z.1.1 p.1.1),
   )
-  grounded Fits (project below items) clean s h p = absurd s
+  grounded Fits (project below items) clean s h z p = absurd s
 
 -- sifting keeps plans sound
 sifted_sound : (tables : List (List (List Val))) (Fits : ℕ → Val → Type 0) (node : Node) (clean : Bool) (above : List Condition) → AllByRecursion (IsHonest tables Fits) above → IsSound tables Fits node
@@ -119,7 +122,21 @@ sifted_sound tables Fits (filter conjuncts below) clean above ha s =
       stayed_all (IsHonest tables Fits) own conjuncts s.0,
       sifted_sound tables Fits below clean (moved own conjuncts ++ above) (all_append (IsHonest tables Fits) (moved own conjuncts) above (moved_all (IsHonest tables Fits) own conjuncts s.0) ha) s.1,
     )
-sifted_sound tables Fits (join left right on keys) clean above ha s =
+sifted_sound tables Fits (join true left right on keys) clean above ha s = (
+  all_filtered (IsHonest tables Fits) (λ c. not (condition_names_only (owns left) c)) above ha,
+  (
+    (
+      s.0.0,
+      subst₂ (λ (ls rs : List ℕ). (i : ℕ) → is_of ls i ≡ true → is_of rs i ≡ false) (sym (sifted_entries left clean (within left above)))
+          (sym (sifted_entries right (clean && is_quiet left) [])) s.0.1,
+    ),
+    (
+      sifted_sound tables Fits left clean (within left above) (all_filtered (IsHonest tables Fits) (condition_names_only (owns left)) above ha) s.1.0,
+      sifted_sound tables Fits right (clean && is_quiet left) [] tt s.1.1,
+    ),
+  ),
+)
+sifted_sound tables Fits (join false left right on keys) clean above ha s =
     let own : Bool = is_clean_on clean left right in
     let down : List Condition = moved own on ++ above in
     let hd : AllByRecursion (IsHonest tables Fits) down = all_append (IsHonest tables Fits) (moved own on) above (moved_all (IsHonest tables Fits) own on s.0.0) ha in
@@ -147,4 +164,5 @@ query_grounded P query tables whole of sized h =
     let from : Node = filter query.conjuncts (from_written query.sources) in
     let fits : ℕ → Val → Type 0 = FitsAt (entries_of query.sources) tables in
     let sound : IsSound tables fits (sifted true [] from) = sifted_sound tables fits from true [] tt (clauses_sound query tables whole of sized) in
-    grounded tables P fits (sifted true [] from) true sound (sifted_through P from true [] tt (clauses_through P query h)) (placed_probes query tables (keyed true (sifted true [] (written query))) whole of sized refl)
+    grounded tables P fits (sifted true [] from) true sound (sifted_through P from true [] tt (clauses_through P query h))
+    (sifted_scan from true [] (clauses_scan query)) (placed_probes query tables (keyed true (sifted true [] (written query))) whole of sized refl)

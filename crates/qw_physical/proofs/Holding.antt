@@ -171,14 +171,14 @@ module _ (same_rows : (row other : List Val) → is_same_row row other ≡ true 
 
   -- ---- tables
 
-  module _ (left right : Node) (on : List Condition) (keys : List ℕ) (next : ℕ) where
+  module _ (outer : Bool) (left right : Node) (on : List Condition) (keys : List ℕ) (next : ℕ) where
     abbrev it : Pipeline
-    it = spelled columns (next + length (split next right).builds) (building tables next right on keys)
+    it = spelled columns (next + length (split next right).builds) (building tables outer next right on keys)
 
     it_size : sink_size it.sink ≤ entry_octets (kept_of columns) right keys
     it_size =
         let few = keys_few on keys in
-        let many : length (keys_kept (lookup tables right on keys)) ≡ length (filter_map (λ k. slice_get on k) keys) = length-map (equalities (lookup tables right on keys)) (operand_of (is_of (entries_below right))) in
+        let many : length (keys_kept (lookup tables outer right on keys)) ≡ length (filter_map (λ k. slice_get on k) keys) = length-map (equalities (lookup tables outer right on keys)) (operand_of (is_of (entries_below right))) in
         omega (arith, few, many)
 
     it_octets : (rows : ℕ) → rows ≤ length (node_flow tables right).rows → sink_octets it.sink rows ≤ 4096 + length (node_flow tables right).rows * entry_octets (kept_of columns) right keys
@@ -189,32 +189,32 @@ module _ (same_rows : (row other : List Val) → is_same_row row other ≡ true 
   held_bound (scan entry table) next built [] g long h = omega arith
   held_bound (scan entry table) next built (e ∷ more) g long h = absurd h
   held_bound (filter conjuncts below) next built more g long h = held_bound below next built more g.1 long h
-  held_bound (join left right on keys) next built more g long h =
+  held_bound (join outer left right on keys) next built more g long h =
       let m : ℕ = next + length (split next right).builds in
-      let y : Pipeline = it left right on keys next in
+      let y : Pipeline = it outer left right on keys next in
       let first : (more : List (List (List Val))) → AreBegun tables built (builds_of next right) more → held tables built (builds_of next right) more ≤ table_octets (kept_of columns) tables right =
       λ more begun. held_bound right next built more g.1.1 long begun in
       let second : (b back : List (List (List Val))) → length b ≡ m + 1 → AreBegun tables b (builds_of (m + 1) left) back → held tables b (builds_of (m + 1) left) back ≤ table_octets (kept_of columns) tables left =
       λ b back after begun. held_bound left (m + 1) b back g.1.0 after begun in
-      subst (λ (ps : List Pipeline). held tables built ps more ≤ table_octets (kept_of columns) tables (join left right on keys)) (sym (joined_builds same_rows same_value columns tables next left right on keys))
+      subst (λ (ps : List Pipeline). held tables built ps more ≤ table_octets (kept_of columns) tables (join outer left right on keys)) (sym (joined_builds same_rows same_value columns tables next outer left right on keys))
       (one first second (held_at tables built (builds_of next right) y (builds_of (m + 1) left) more
-      (subst (λ (ps : List Pipeline). AreBegun tables built ps more) (joined_builds same_rows same_value columns tables next left right on keys) h)))
+      (subst (λ (ps : List Pipeline). AreBegun tables built ps more) (joined_builds same_rows same_value columns tables next outer left right on keys) h)))
     where
       few : (front : List (List (List Val))) → AreBuilt tables built (builds_of next right) front
-          → length (pipeline_fed tables (built ++ front) (it left right on keys next)).rows ≤ length (node_flow tables right).rows
+          → length (pipeline_fed tables (built ++ front) (it outer left right on keys next)).rows ≤ length (node_flow tables right).rows
       few front are =
-          fed_few right next built front (it left right on keys next) g.1.1 long are refl refl
-          (names_kept same_rows same_value columns tables (next + length (split next right).builds) left right on keys g.0)
+          fed_few right next built front (it outer left right on keys next) g.1.1 long are refl refl
+          (names_kept same_rows same_value columns tables (next + length (split next right).builds) outer left right on keys g.0)
 
       one : ((more : List (List (List Val))) → AreBegun tables built (builds_of next right) more → held tables built (builds_of next right) more ≤ table_octets (kept_of columns) tables right)
           → ((b back : List (List (List Val))) → length b ≡ (next + length (split next right).builds) + 1 → AreBegun tables b (builds_of ((next + length (split next right).builds) + 1) left) back
           → held tables b (builds_of ((next + length (split next right).builds) + 1) left) back ≤ table_octets (kept_of columns) tables left)
-          → IsHeldAt tables built (builds_of next right) (it left right on keys next) (builds_of ((next + length (split next right).builds) + 1) left) more
-          → held tables built (builds_of next right ++ it left right on keys next ∷ builds_of ((next + length (split next right).builds) + 1) left) more ≤ table_octets (kept_of columns) tables (join left right on keys)
+          → IsHeldAt tables built (builds_of next right) (it outer left right on keys next) (builds_of ((next + length (split next right).builds) + 1) left) more
+          → held tables built (builds_of next right ++ it outer left right on keys next ∷ builds_of ((next + length (split next right).builds) + 1) left) more ≤ table_octets (kept_of columns) tables (join outer left right on keys)
       one first second (before begun is) = let less = first more begun in omega (arith, is, less)
       one first second (at are begun is) =
           let less = first more begun in
-          let own = it_octets left right on keys next (length (pipeline_fed tables (built ++ more) (it left right on keys next)).rows) (few more are) in
+          let own = it_octets outer left right on keys next (length (pipeline_fed tables (built ++ more) (it outer left right on keys next)).rows) (few more are) in
           omega (arith, is, less, own)
       one first second (behind front entries back are begun many rest is) =
           let less = first front begun in
@@ -222,7 +222,7 @@ module _ (same_rows : (row other : List Val) → is_same_row row other ≡ true 
           length-append (built ++ front) (entries ∷ [])
           ∙ ap (λ k. k + 1) (length-append built front ∙ ap₂ (λ a b. a + b) long (built_long tables built (builds_of next right) front are ∙ spelled_count columns next (split next right).builds)) in
           let fed : length entries ≤ length (node_flow tables right).rows = (let n = few front are in omega (arith, many, n)) in
-          let own = it_octets left right on keys next (length entries) fed in
+          let own = it_octets outer left right on keys next (length entries) fed in
           let others = second ((built ++ front) ++ entries ∷ []) back after rest in
           omega (arith, is, less, own, others)
   held_bound (project below items) next built more g long h = absurd g
@@ -235,13 +235,13 @@ module _ (same_rows : (row other : List Val) → is_same_row row other ≡ true 
   sizes_within : (node : Node) (next : ℕ) → AllByRecursion (IsWithin (greatest_entry (kept_of columns) node)) (builds_of next node)
   sizes_within (scan entry table) next = tt
   sizes_within (filter conjuncts below) next = sizes_within below next
-  sizes_within (join left right on keys) next =
+  sizes_within (join outer left right on keys) next =
       let m : ℕ = next + length (split next right).builds in
-      let most : ℕ = greatest_entry (kept_of columns) (join left right on keys) in
-      subst (AllByRecursion (IsWithin most)) (sym (joined_builds same_rows same_value columns tables next left right on keys))
-      (all_append (IsWithin most) (builds_of next right) (it left right on keys next ∷ builds_of (m + 1) left)
+      let most : ℕ = greatest_entry (kept_of columns) (join outer left right on keys) in
+      subst (AllByRecursion (IsWithin most)) (sym (joined_builds same_rows same_value columns tables next outer left right on keys))
+      (all_append (IsWithin most) (builds_of next right) (it outer left right on keys next ∷ builds_of (m + 1) left)
       (all_more (IsWithin (greatest_entry (kept_of columns) right)) (IsWithin most) (builds_of next right) (λ p h. omega (arith, h)) (sizes_within right next)) (
-        (let own = it_size left right on keys next in omega (arith, own)),
+        (let own = it_size outer left right on keys next in omega (arith, own)),
         all_more (IsWithin (greatest_entry (kept_of columns) left)) (IsWithin most) (builds_of (m + 1) left) (λ p h. omega (arith, h)) (sizes_within left (m + 1)),
       ))
   sizes_within (project below items) next = sizes_within below next
@@ -249,11 +249,11 @@ module _ (same_rows : (row other : List Val) → is_same_row row other ≡ true 
   builds_count : (node : Node) (next : ℕ) → length (split next node).builds ≡ table_count node
   builds_count (scan entry table) next = refl
   builds_count (filter conjuncts below) next = builds_count below next
-  builds_count (join left right on keys) next =
+  builds_count (join outer left right on keys) next =
       let m : ℕ = next + length (split next right).builds in
       let first = builds_count right next in
       let second = builds_count left (m + 1) in
-      let both = length-append (split next right).builds (building tables next right on keys ∷ (split (m + 1) left).builds) in
+      let both = length-append (split next right).builds (building tables outer next right on keys ∷ (split (m + 1) left).builds) in
       omega (arith, first, second, both)
   builds_count (project below items) next = builds_count below next
 

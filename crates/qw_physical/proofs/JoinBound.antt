@@ -1,7 +1,7 @@
 -- What the rows of a join's left side cost where they look up the entries that the rows of its right side left in a table, in whatever order; and that
--- this is within the units of the table.
-use Rattle.std.proofs.Common.{◌≡◌, ◌∙◌, ℕ, ◌+◌, ◌≤◌, ◌==◌, nat_eq, max, Bool, true, false, not, ◌&&◌, ◌||◌, if◌then◌else◌, List, [], ◌∷◌, drop, length, map, sum_by, take, Result, Ok, Err, refl, sym, ap, ap₂, subst, arith, length-append}
-use Rattle.std.specs.List.{AllByRecursion, filter as filter_list, flat_map}
+-- this is within the units of the table. A row that an outer probe has go on by itself has no partner in the plan, where it is completed.
+use Rattle.std.proofs.Common.{◌≡◌, ◌∙◌, ℕ, ◌+◌, ◌≤◌, ◌==◌, nat_eq, max, Bool, true, false, not, ◌&&◌, ◌||◌, if◌then◌else◌, List, [], ◌∷◌, ◌++◌, drop, length, map, sum_by, take, Result, Ok, Err, refl, sym, ap, ap₂, subst, arith, length-append}
+use Rattle.std.specs.List.{AllByRecursion, filter as filter_list, flat_map, list_any}
 use Rattle.std.specs.declared.cmp.Ordering.TheVariants as ordering
 use Rattle.std.proofs.lemmas.List.{length-map}
 use Rattle.qw_types.specs.Arithmetic.{◌>>=◌}
@@ -16,35 +16,38 @@ use Rattle.qw_scalar.specs.Evaluation.{Environment, at_row, value_of}
 use Rattle.qw_scalar.specs.Expression.{Condition, Expression}
 use Rattle.qw_scalar.specs.Units.{units_of, units_of_all, units_of_items}
 use Rattle.qw_leaves.proofs.ComparedLemmas.{by_compared}
-use Rattle.qw_meaning.specs.Flow.{Flow, kept, rows_given, values_of}
-use Rattle.qw_meaning.specs.From.{merged}
+use Rattle.qw_leaves.proofs.LeafLists.{all_pairs}
+use Rattle.qw_meaning.specs.Flow.{Flow, codes_given, kept, rows_given, values_of}
+use Rattle.qw_meaning.specs.From.{completed, merged}
 use Rattle.qw_meaning.proofs.FromLemmas.{cell}
 use Rattle.qw_algebra.specs.Columns.{condition_names_only, entries_below, is_of, names_only, owns}
 use Rattle.qw_algebra.specs.Node.{Node, join, node_flow}
-use Rattle.qw_algebra.proofs.Lists.{all_append, all_more}
+use Rattle.qw_algebra.proofs.Lists.{all_append, all_more, all_of_any}
 use Rattle.qw_pipe.specs.General.{general_hashing}
 use Rattle.qw_pipe.specs.Pipes.{Lookup}
 use Rattle.qw_pipe.specs.Units.{equalities, is_passed, key_kept, key_sought, meets, operand_among, operand_of, table_units, value_or_null}
 use Rattle.qw_rewrite.specs.Probe.{is_eligible}
-use Rattle.qw_rewrite.specs.Probed.{all_meet, at_keys, beside_keys, found, is_key}
+use Rattle.qw_rewrite.specs.Probed.{all_meet, at_keys, beside_keys, found, is_key, probed_by}
 use Rattle.qw_rewrite.proofs.Names.{and_left, and_right}
 use Rattle.qw_rewrite.proofs.Rows.{NamesOnly, passes_agrees}
 use Rattle.qw_feed.specs.Feeds.{flow_by, nothing, one_row}
 use Rattle.qw_table.specs.Joins.{have_values, keyed}
 use Rattle.qw_table.specs.Keys.{text_octets}
 use Rattle.qw_table.specs.Tables.{in_slot}
-use Rattle.qw_physical.specs.Courses.{by_values, column_of, pair_of, placed, row_of, sink_key, sink_values, where_passed}
+use Rattle.qw_physical.specs.Courses.{by_values, column_of, is_alone, isnt_failed, meets as meets_entry, pair_of, placed, row_of, sink_key, sink_values, where_passed}
 use Rattle.qw_physical.specs.Physical.{Probe, Sink, build}
 use Rattle.qw_physical.specs.Reads.{IsScaled, is_read}
 use Rattle.qw_physical.specs.Spelled.{kept_columns, keys_kept, keys_sought}
 use Rattle.qw_physical.specs.declared.pipeline.ReadColumn.{ReadColumn}
-use Rattle.qw_physical.proofs.Charges.{Agrees, NamesItems, Respects, count, keyed_charge, matched, pair_agrees, probe_charge, sink_cost, sink_fed}
+use Rattle.qw_physical.proofs.Alone.{any_none, none_found}
+use Rattle.qw_physical.proofs.Charges.{Agrees, NamesItems, Respects, alone_charge, count, keyed_charge, matched, pair_agrees, probe_charge, sink_cost, sink_fed}
 use Rattle.qw_physical.proofs.EntryRows.{Values, all_filter, all_read, columns_units, drop_front, made_again, take_front, values_append, values_long}
 use Rattle.qw_physical.proofs.Grounded.{IsKeyedJoin, IsNullBeside}
 use Rattle.qw_physical.proofs.Meeting.{keys_pair, parted}
 use Rattle.qw_physical.proofs.SeenUnits.{conjuncts_agree}
-use Rattle.qw_physical.proofs.Totals.{sum_is, total, total_filter, total_flat, total_less, total_less_all, total_map, total_plus, total_same}
-use Rattle.qw_physical.proofs.Entries.{nat_is}
+use Rattle.qw_physical.proofs.Partners.{met_keys, met_values}
+use Rattle.qw_physical.proofs.Totals.{none_counted, sum_is, total, total_filter, total_flat, total_less, total_less_all, total_map, total_none, total_ones, total_plus, total_same, total_zero}
+use Rattle.qw_physical.proofs.Entries.{columns_values, kept_values, nat_is, values_append as values_joined}
 
 -- what is known of each conjunct
 abbrev pub IsKnown : List ReadColumn → Condition → Type 0
@@ -156,13 +159,29 @@ total_count true f xs = refl
 total_count false f [] = refl
 total_count false f (x ∷ xs) = let rest = total_count false f xs in omega (arith, rest)
 
-err_case : (counted : Bool) (u f s t : ℕ) → count counted u + 0 ≤ count counted (u + f + s) + t
-err_case true u f s t = omega arith
-err_case false u f s t = omega arith
+err_case : (counted : Bool) (u f s o w t : ℕ) → count counted u + 0 ≤ count counted (u + f + s + o) + (w + t)
+err_case true u f s o w t = omega arith
+err_case false u f s o w t = omega arith
 
-ok_case : (counted : Bool) (u t s m f q w : ℕ) → t ≤ f → s ≤ q → m ≤ w → count counted u + (count counted (t + s) + m) ≤ count counted (u + f + q) + w
-ok_case true u t s m f q w ht hs hm = omega (arith, ht, hs, hm)
-ok_case false u t s m f q w ht hs hm = omega (arith, ht, hs, hm)
+ok_case : (counted : Bool) (u t s m a f q o w r : ℕ) → t ≤ f → s ≤ q → m + a ≤ (count counted w + count counted o) + r
+    → count counted u + ((count counted (t + s) + m) + a) ≤ count counted (u + f + q + o) + (count counted w + r)
+ok_case true u t s m a f q o w r ht hs hm = omega (arith, ht, hs, hm)
+ok_case false u t s m a f q o w r ht hs hm = omega (arith, ht, hs, hm)
+
+-- what is met, and the row itself where it goes on alone, since nothing is met then
+alone_case : (counted o a : Bool) (m w f n r : ℕ) → m ≤ count counted w + f → f ≤ r → (a ≡ true → (f ≡ 0) × (n ≤ r))
+    → m + (if o then count counted 1 + (if a then n else 0) else 0) ≤ (count counted w + count counted (if o then 1 else 0)) + r
+alone_case counted false a m w f n r h g k = omega (arith, h, g)
+alone_case counted true false m w f n r h g k = omega (arith, h, g)
+alone_case counted true true m w f n r h g k = (let none : f ≡ 0 = (k refl).0 in let less : n ≤ r = (k refl).1 in omega (arith, h, none, less))
+
+not_true : (b : Bool) → not b ≡ true → b ≡ false
+not_true true h = absurd cc
+not_true false h = refl
+
+none_of_one : (b : Bool) → (if b then 1 else 0) + 0 ≡ 0 → b ≡ false
+none_of_one true h = absurd (omega (arith, h))
+none_of_one false h = refl
 
 pub less_trans : (a b c : ℕ) → a ≤ b → b ≤ c → a ≤ c
 less_trans a b c h g = omega (arith, h, g)
@@ -181,16 +200,16 @@ kept_total after cs row = one (passes cs (at_row row))
 -- ---- a join
 
 module _ (same_rows : (row other : List Val) → is_same_row row other ≡ true → row ≡ other) (same_value : (a : Val) → value_order a a ≡ ordering.Equal)
-    (columns : List ReadColumn) (tables : List (List (List Val))) (number : ℕ) (left right : Node) (on : List Condition) (keys : List ℕ)
-    (ground : IsKeyedJoin tables (IsKnown columns) left right on keys) where
+    (columns : List ReadColumn) (tables : List (List (List Val))) (number : ℕ) (outer : Bool) (left right : Node) (on : List Condition) (keys : List ℕ)
+    (ground : IsKeyedJoin tables (IsKnown columns) outer left right on keys) where
   abbrev pub look : Lookup
-  look = record { entries = entries_below right; on = on; keys = keys }
+  look = record { entries = entries_below right; outer = outer; on = on; keys = keys }
 
   abbrev pub building : Sink
   building = build (record { table = number; key = keys_kept look; kept = kept_columns columns look })
 
   abbrev pub probing : Probe
-  probing = record { table = number; key = keys_sought look; kept = kept_columns columns look; on = beside_keys keys 0 on }
+  probing = record { table = number; outer = outer; key = keys_sought look; kept = kept_columns columns look; on = beside_keys keys 0 on }
 
   abbrev read : ℕ → Bool
   read = is_read columns
@@ -347,21 +366,135 @@ module _ (same_rows : (row other : List Val) → is_same_row row other ≡ true 
   abbrev R : List (List Val)
   R = (node_flow tables right).rows
 
+  -- of an outer lookup one more
+  abbrev outer_units : ℕ
+  outer_units = if outer then 1 else 0
+
   abbrev left_units : List Val → ℕ
-  left_units l = units_of_items (keys_sought look) (at_row l) + folded (key_sought look l) + total (slot_units (key_sought look l)) R
+  left_units l = units_of_items (keys_sought look) (at_row l) + folded (key_sought look l) + total (slot_units (key_sought look l)) R + outer_units
+
+  -- what the pairs of a left row whose keys meet come to, and what the join makes of the row
+  abbrev partners : List Val → Flow (List Val)
+  partners l = record {
+    rows = found rows_given (owns left) (owns right) (at_keys keys 0 on) (beside_keys keys 0 on) l R;
+    codes = found codes_given (owns left) (owns right) (at_keys keys 0 on) (beside_keys keys 0 on) l R;
+  }
+
+  abbrev made_of : (outer : Bool) → List Val → Flow (List Val)
+  made_of false l = partners l
+  made_of true l = completed l (partners l).rows (partners l).codes
 
   -- entries that weigh no more than what the rows of the right side leave
   abbrev pub AreLeft : List (List Val) → Type 0
   AreLeft entries = (g : List Val → ℕ) → total g entries ≤ total (λ r. total g (sink_fed building r).rows) R
 
-  module _ (entries : List (List Val)) (left_by : AreLeft entries) (counted : Bool) (after : List Val → ℕ) (respects : Respects read after) where
-    left_bound : (l : List Val) → IsNullBeside (owns left) l → probe_charge counted after probing entries l ≤ count counted (left_units l) + total (pair_bound counted after l) R
+  -- and no less
+  abbrev pub AreAll : List (List Val) → Type 0
+  AreAll entries = (g : List Val → ℕ) → total (λ r. total g (sink_fed building r).rows) R ≤ total g entries
+
+  module _ (entries : List (List Val)) (left_by : AreLeft entries) (all_by : outer ≡ true → AreAll entries) (counted : Bool) (after : List Val → ℕ) (respects : Respects read after) where
+    -- ---- a row that goes on by itself
+
+    abbrev once_met : (l key entry : List Val) → ℕ
+    once_met l key entry = if meets_entry probing l key entry then 1 else 0
+
+    abbrev is_partner : (l r : List Val) → Bool
+    is_partner l r = all_meet (owns left) (owns right) (at_keys keys 0 on) l r && isnt_failed (passes (beside_keys keys 0 on) (at_row (merged l r)))
+
+    -- a row of the right side whose keys meet left an entry, which isn't met: so the pair fails the others of ON
+    no_partner : (l r key : List Val) → IsNullBeside (owns left) l → IsNullBeside (owns right) r → values_of (keys_sought look) (at_row l) ≡ Ok key
+        → (have_values key ≡ true → total (once_met l key) (sink_fed building r).rows ≡ 0) → is_partner l r ≡ false
+    no_partner l r key lefts rights el unfed = one (all_meet (owns left) (owns right) (at_keys keys 0 on) l r) refl
+      where
+        one : (b : Bool) → all_meet (owns left) (owns right) (at_keys keys 0 on) l r ≡ b → (b && isnt_failed (passes (beside_keys keys 0 on) (at_row (merged l r)))) ≡ false
+        one false e = refl
+        one true e =
+            let all : all_meet (owns left) (owns right) (equalities look) l r ≡ true = subst (λ (cs : List Condition). all_meet (owns left) (owns right) cs l r ≡ true) (sym ground.equalities) e in
+            let found_key = met_values (owns left) (owns right) ground.apart l r (equalities look) eligible_equal all in
+            let ws : List Val = found_key.0 in
+            let same_keys = met_keys (owns left) (owns right) ground.apart l r (equalities look) key ws eligible_equal scaled_equal el found_key.1 all in
+            let rest : List Val = kept_values (kept_columns columns look) r in
+            let values : List Val = ws ++ rest in
+            let er : values_of (sink_values building) (at_row r) ≡ Ok values =
+            values_joined (keys_kept look) (map column_of (kept_columns columns look)) (at_row r) ws rest found_key.1 (columns_values (kept_columns columns look) r) in
+            let taken : take (length (keys_kept look)) values ≡ ws = take_front ws rest (length (keys_kept look)) (values_long (keys_kept look) (at_row r) ws found_key.1) in
+            let has : have_values (take (length (keys_kept look)) values) ≡ true = ap have_values taken ∙ same_keys.1.0 in
+            let fed_is : sink_fed building r ≡ one_row values =
+            ap (λ (q : Result (List Val) Code). flow_by q (placed building)) er ∙ ap (λ (b : Bool). if b then one_row values else nothing) has in
+            let zero : (if meets_entry probing l key values then 1 else 0) + 0 ≡ 0 = sym (ap (λ (f : Flow (List Val)). total (once_met l key) f.rows) fed_is) ∙ unfed same_keys.0 in
+            let same : is_same_row key (take (length (keys_sought look)) values) ≡ true =
+            ap (λ (n : ℕ). is_same_row key (take n values)) same_length ∙ ap (is_same_row key) taken ∙ same_keys.1.1 in
+            let failed : isnt_failed (passes (beside_keys keys 0 on) (at_row (pair_of probing l values))) ≡ false =
+            sym (ap (λ (b : Bool). b && isnt_failed (passes (beside_keys keys 0 on) (at_row (pair_of probing l values)))) same) ∙ none_of_one (meets_entry probing l key values) zero in
+            ap isnt_failed (sym (passes_agrees read (pair_of probing l values) (merged l r) (same_pair counted after respects l r key values lefts rights el er has) (beside_keys keys 0 on) names_beside)) ∙ failed
+
+    -- where no entry is met, no row of the right side left one that is
+    none_left : (l key : List Val) → outer ≡ true → (have_values key && list_any (meets_entry probing l key) entries) ≡ false
+        → AllByRecursion (λ r. have_values key ≡ true → total (once_met l key) (sink_fed building r).rows ≡ 0) R
+    none_left l key is_outer h = one (have_values key) refl h
+      where
+        one : (b : Bool) → have_values key ≡ b → (b && list_any (meets_entry probing l key) entries) ≡ false
+            → AllByRecursion (λ r. have_values key ≡ true → total (once_met l key) (sink_fed building r).rows ≡ 0) R
+        one false e g =
+            all_of_any (λ r. have_values key ≡ true → total (once_met l key) (sink_fed building r).rows ≡ 0) R (λ r t. absurd (let no : false ≡ true = sym e ∙ t in cc))
+        one true e g =
+            let none = none_counted (meets_entry probing l key) entries g in
+            let less = all_by is_outer (once_met l key) in
+            all_more (λ r. total (once_met l key) (sink_fed building r).rows ≡ 0) (λ r. have_values key ≡ true → total (once_met l key) (sink_fed building r).rows ≡ 0) R (λ r z t. z)
+            (total_none (λ r. total (once_met l key) (sink_fed building r).rows) R (omega (arith, none, less)))
+
+    -- so the join completes the row
+    alone_made : (l key : List Val) → IsNullBeside (owns left) l → values_of (keys_sought look) (at_row l) ≡ Ok key → is_alone probing l key entries ≡ true
+        → (total after (partners l).rows ≡ 0) × (after l ≤ total after (made_of outer l).rows)
+    alone_made l key lefts el h =
+        let is_outer : outer ≡ true = and_left outer (not (have_values key && list_any (meets_entry probing l key) entries)) h in
+        let unmet = not_true (have_values key && list_any (meets_entry probing l key) entries) (and_right outer (not (have_values key && list_any (meets_entry probing l key) entries)) h) in
+        let none : list_any (is_partner l) R ≡ false =
+        any_none (is_partner l) R
+        (all_more (λ r. IsNullBeside (owns right) r × (have_values key ≡ true → total (once_met l key) (sink_fed building r).rows ≡ 0)) (λ r. is_partner l r ≡ false) R
+        (λ r known. no_partner l r key lefts known.0 el known.1)
+        (all_pairs (IsNullBeside (owns right)) (λ r. have_values key ≡ true → total (once_met l key) (sink_fed building r).rows ≡ 0) R ground.rights (none_left l key is_outer unmet))) in
+        let gone = none_found (all_meet (owns left) (owns right) (at_keys keys 0 on) l) (λ r. passes (beside_keys keys 0 on) (at_row (merged l r))) (merged l) R none in
+        let made : made_of outer l ≡ record { rows = l ∷ []; codes = [] } =
+        ap (λ (o : Bool). made_of o l) is_outer ∙ ap₂ (λ (rows : List (List Val)) (codes : List Code). completed l rows codes) gone.0 gone.1 in
+        let all : total after (made_of outer l).rows ≡ after l + 0 = ap (λ (f : Flow (List Val)). total after f.rows) made in
+        (ap (total after) gone.0, omega (arith, all))
+
+    made_more : (l : List Val) (o : Bool) → total after (partners l).rows ≤ total after (made_of o l).rows
+    made_more l false = omega arith
+    made_more l true = one (partners l).rows (partners l).codes
+      where
+        one : (rows : List (List Val)) (codes : List Code) → total after rows ≤ total after (completed l rows codes).rows
+        one [] [] = omega arith
+        one [] (code ∷ codes) = omega arith
+        one (row ∷ rows) codes = omega arith
+
+    -- ---- a row
+
+    partners_total : (l : List Val) → total (joined after l) R ≡ total after (partners l).rows
+    partners_total l =
+        total_same (joined after l) (λ r. total after (if all_meet (owns left) (owns right) (at_keys keys 0 on) l r then rows_given (kept (beside_keys keys 0 on) (merged l r)) else [])) R
+        (λ r. one r (all_meet (owns left) (owns right) (at_keys keys 0 on) l r))
+        ∙ sym (total_flat after (λ r. if all_meet (owns left) (owns right) (at_keys keys 0 on) l r then rows_given (kept (beside_keys keys 0 on) (merged l r)) else []) R)
+      where
+        one : (r : List Val) (b : Bool) → (if b then where_passed (passes (beside_keys keys 0 on) (at_row (merged l r))) (after (merged l r)) else 0)
+            ≡ total after (if b then rows_given (kept (beside_keys keys 0 on) (merged l r)) else [])
+        one r true = sym (kept_total after (beside_keys keys 0 on) (merged l r))
+        one r false = refl
+
+    pairs_total : (l : List Val) → total (pair_bound counted after l) R ≡ count counted (total (on_units l) R) + total after (partners l).rows
+    pairs_total l = total_plus (λ r. count counted (on_units l r)) (joined after l) R ∙ ap₂ (λ a b. a + b) (total_count counted (on_units l) R) (partners_total l)
+
+    left_bound : (l : List Val) → IsNullBeside (owns left) l
+        → probe_charge counted after probing entries l ≤ count counted (left_units l) + (count counted (total (on_units l) R) + total after (made_of outer l).rows)
     left_bound l lefts = one (values_of (keys_sought look) (at_row l)) refl
       where
         one : (q : Result (List Val) Code) → values_of (keys_sought look) (at_row l) ≡ q
-            → count counted (units_of_items (keys_sought look) (at_row l)) + by_values q (keyed_charge counted after probing entries l) ≤ count counted (left_units l) + total (pair_bound counted after l) R
+            → count counted (units_of_items (keys_sought look) (at_row l)) + by_values q (keyed_charge counted after probing entries l)
+            ≤ count counted (left_units l) + (count counted (total (on_units l) R) + total after (made_of outer l).rows)
         one (Err code) e =
-            err_case counted (units_of_items (keys_sought look) (at_row l)) (folded (key_sought look l)) (total (slot_units (key_sought look l)) R) (total (pair_bound counted after l) R)
+            err_case counted (units_of_items (keys_sought look) (at_row l)) (folded (key_sought look l)) (total (slot_units (key_sought look l)) R) outer_units
+            (count counted (total (on_units l) R)) (total after (made_of outer l).rows)
         one (Ok key) e =
             let sought : key_sought look l ≡ key = key_is (λ i. not (is_of look.entries i)) (equalities look) (at_row l) key e in
             let in_one : List Val → ℕ = λ (v : List Val). if keyed (length (keys_sought look)) v == slot key then 1 + text_octets key else 0 in
@@ -377,63 +510,60 @@ module _ (same_rows : (row other : List Val) → is_same_row row other ≡ true 
             (all_more (IsNullBeside (owns right)) (λ r. total (matched counted after probing l key) (sink_fed building r).rows ≤ pair_bound counted after l r) R
             (λ r rights. entry_total (matched counted after probing l key) r (pair_bound counted after l r)
             (λ values er has. matched_bound counted after respects l r key values lefts rights e er has)) ground.rights)) in
+            let pairs = pairs_total l in
+            let itself = alone_case counted outer (is_alone probing l key entries) (total (matched counted after probing l key) entries) (total (on_units l) R) (total after (partners l).rows) (after l)
+            (total after (made_of outer l).rows) (omega (arith, met, pairs)) (made_more l outer) (alone_made l key lefts e) in
             subst (λ (k : List Val). count counted (units_of_items (keys_sought look) (at_row l)) + keyed_charge counted after probing entries l key
-            ≤ count counted (units_of_items (keys_sought look) (at_row l) + folded k + total (slot_units k) R) + total (pair_bound counted after l) R) (sym sought)
+            ≤ count counted (units_of_items (keys_sought look) (at_row l) + folded k + total (slot_units k) R + outer_units) + (count counted (total (on_units l) R) + total after (made_of outer l).rows)) (sym sought)
             (ok_case counted (units_of_items (keys_sought look) (at_row l)) (text_octets key) (total (λ (v : List Val). 1 + text_octets key) (in_slot (keyed (length (keys_sought look))) (slot key) entries))
-            (total (matched counted after probing l key) entries) (folded key) (total (slot_units key) R) (total (pair_bound counted after l) R) (folded_texts key) slots met)
+            (total (matched counted after probing l key) entries) (alone_charge counted after probing entries l key) (folded key) (total (slot_units key) R) outer_units (total (on_units l) R)
+            (total after (made_of outer l).rows) (folded_texts key) slots itself)
 
-    -- the pairs that a join comes to
-    joined_total : total (λ l. total (joined after l) R) L ≡ total after (node_flow tables (join left right on keys)).rows
-    joined_total =
-        total_same (λ l. total (joined after l) R) (λ l. total after (found rows_given (owns left) (owns right) (at_keys keys 0 on) (beside_keys keys 0 on) l R)) L
-        (λ l. total_same (joined after l) (λ r. total after (if all_meet (owns left) (owns right) (at_keys keys 0 on) l r then rows_given (kept (beside_keys keys 0 on) (merged l r)) else [])) R
-        (λ r. one l r (all_meet (owns left) (owns right) (at_keys keys 0 on) l r))
-        ∙ sym (total_flat after (λ r. if all_meet (owns left) (owns right) (at_keys keys 0 on) l r then rows_given (kept (beside_keys keys 0 on) (merged l r)) else []) R))
-        ∙ sym (total_flat after (λ l. found rows_given (owns left) (owns right) (at_keys keys 0 on) (beside_keys keys 0 on) l R) L)
-        ∙ ap (λ (f : Flow (List Val)). total after f.rows) (sym ground.probes)
+    -- ---- all rows
+
+    -- what a join comes to
+    made_total : total (λ l. total after (made_of outer l).rows) L ≡ total after (node_flow tables (join outer left right on keys)).rows
+    made_total =
+        sym (total_flat after (λ l. (made_of outer l).rows) L)
+        ∙ ap (total after) (sym (ap (λ (f : Flow (List Val)). f.rows) ground.probes ∙ one outer))
       where
-        one : (l r : List Val) (b : Bool) → (if b then where_passed (passes (beside_keys keys 0 on) (at_row (merged l r))) (after (merged l r)) else 0)
-            ≡ total after (if b then rows_given (kept (beside_keys keys 0 on) (merged l r)) else [])
-        one l r true = sym (kept_total after (beside_keys keys 0 on) (merged l r))
-        one l r false = refl
-
-    pairs_total : total (λ l. total (pair_bound counted after l) R) L ≡ count counted (total (λ l. total (on_units l) R) L) + total after (node_flow tables (join left right on keys)).rows
-    pairs_total =
-        total_same (λ l. total (pair_bound counted after l) R) (λ l. count counted (total (on_units l) R) + total (joined after l) R) L
-        (λ l. total_plus (λ r. count counted (on_units l r)) (joined after l) R ∙ ap (λ n. n + total (joined after l) R) (total_count counted (on_units l) R))
-        ∙ total_plus (λ l. count counted (total (on_units l) R)) (λ l. total (joined after l) R) L
-        ∙ ap₂ (λ a b. a + b) (total_count counted (λ l. total (on_units l) R) L) joined_total
+        one : (o : Bool) → (probed_by o (owns left) (owns right) (at_keys keys 0 on) (beside_keys keys 0 on) (node_flow tables left) (node_flow tables right)).rows ≡ flat_map (λ l. (made_of o l).rows) L
+        one true = refl
+        one false = refl
 
     abbrev pub sought_units : ℕ
     sought_units = total left_units L + total (λ l. total (on_units l) R) L
 
-    pub probes_bound : total (probe_charge counted after probing entries) L ≤ count counted sought_units + total after (node_flow tables (join left right on keys)).rows
+    pub probes_bound : total (probe_charge counted after probing entries) L ≤ count counted sought_units + total after (node_flow tables (join outer left right on keys)).rows
     probes_bound =
-        let each = total_less_all (probe_charge counted after probing entries) (λ l. count counted (left_units l) + total (pair_bound counted after l) R) L
-        (all_more (IsNullBeside (owns left)) (λ l. probe_charge counted after probing entries l ≤ count counted (left_units l) + total (pair_bound counted after l) R) L left_bound ground.lefts) in
-        let parts = total_plus (λ l. count counted (left_units l)) (λ l. total (pair_bound counted after l) R) L in
+        let made : List Val → ℕ = λ l. total after (made_of outer l).rows in
+        let each = total_less_all (probe_charge counted after probing entries) (λ l. count counted (left_units l) + (count counted (total (on_units l) R) + made l)) L
+        (all_more (IsNullBeside (owns left)) (λ l. probe_charge counted after probing entries l ≤ count counted (left_units l) + (count counted (total (on_units l) R) + made l)) L left_bound ground.lefts) in
+        let parts = total_plus (λ l. count counted (left_units l)) (λ l. count counted (total (on_units l) R) + made l) L in
         let first = total_count counted left_units L in
+        let rest = total_plus (λ l. count counted (total (on_units l) R)) made L in
+        let second = total_count counted (λ l. total (on_units l) R) L in
         let both = count_plus counted (total left_units L) (total (λ l. total (on_units l) R) L) in
-        omega (arith, each, parts, first, both, pairs_total)
+        omega (arith, each, parts, first, rest, second, both, made_total)
 
   -- ---- within the table's units
 
   table_is : table_units general_hashing look L R
       ≡ length R + (total (λ r. folded (key_kept look r)) R + total (λ l. folded (key_sought look l)) L) + 1024
       + (total (λ r. units_of_items (keys_kept look) (at_row r)) R + total (λ l. units_of_items (keys_sought look) (at_row l)) L)
-      + total (λ l. total (slot_units (key_sought look l)) R) L + total (λ l. total (on_units l) R) L
+      + total (λ l. total (slot_units (key_sought look l)) R) L + total (λ l. total (on_units l) R) L + (if outer then length L else 0)
   table_is =
       ap₂ (λ (a b : ℕ). length R + (a + b) + 1024
       + (sum_by (λ (row : List Val). units_of_items (keys_kept look) (at_row row)) R + sum_by (λ (row : List Val). units_of_items (keys_sought look) (at_row row)) L)
       + sum_by (λ (key : List Val). sum_by (λ (other : List Val). if nat_eq (slot other) (slot key) then 1 + value.text_octets key else 0) (map (key_kept look) R)) (map (key_sought look) L)
-      + sum_by (λ (row : List Val). if meets look row then units_of_all on (at_row row) else 0) (flat_map (λ row. map (merged row) R) L))
+      + sum_by (λ (row : List Val). if meets look row then units_of_all on (at_row row) else 0) (flat_map (λ row. map (merged row) R) L) + (if outer then length L else 0))
       (sum_is folded (map (key_kept look) R) ∙ total_map folded (key_kept look) R) (sum_is folded (map (key_sought look) L) ∙ total_map folded (key_sought look) L)
       ∙ ap₂ (λ (a b : ℕ). length R + (total (λ r. folded (key_kept look r)) R + total (λ l. folded (key_sought look l)) L) + 1024 + (a + b)
       + sum_by (λ (key : List Val). sum_by (λ (other : List Val). if nat_eq (slot other) (slot key) then 1 + value.text_octets key else 0) (map (key_kept look) R)) (map (key_sought look) L)
-      + sum_by (λ (row : List Val). if meets look row then units_of_all on (at_row row) else 0) (flat_map (λ row. map (merged row) R) L))
+      + sum_by (λ (row : List Val). if meets look row then units_of_all on (at_row row) else 0) (flat_map (λ row. map (merged row) R) L) + (if outer then length L else 0))
       (sum_is (λ (row : List Val). units_of_items (keys_kept look) (at_row row)) R) (sum_is (λ (row : List Val). units_of_items (keys_sought look) (at_row row)) L)
       ∙ ap₂ (λ (a b : ℕ). length R + (total (λ r. folded (key_kept look r)) R + total (λ l. folded (key_sought look l)) L) + 1024
-      + (total (λ r. units_of_items (keys_kept look) (at_row r)) R + total (λ l. units_of_items (keys_sought look) (at_row l)) L) + a + b) slots pairs
+      + (total (λ r. units_of_items (keys_kept look) (at_row r)) R + total (λ l. units_of_items (keys_sought look) (at_row l)) L) + a + b + (if outer then length L else 0)) slots pairs
     where
       of_key : (key : List Val) → sum_by (λ (other : List Val). if nat_eq (slot other) (slot key) then 1 + value.text_octets key else 0) (map (key_kept look) R) ≡ total (slot_units key) R
       of_key key =
@@ -461,6 +591,12 @@ module _ (same_rows : (row other : List Val) → is_same_row row other ≡ true 
   table_bound =
       let entry = total_less (sink_cost building) (λ r. units_of_items (keys_kept look) (at_row r) + folded (key_kept look r)) R entry_cost in
       let parts = total_plus (λ r. units_of_items (keys_kept look) (at_row r)) (λ r. folded (key_kept look r)) R in
-      let first = total_plus (λ l. units_of_items (keys_sought look) (at_row l) + folded (key_sought look l)) (λ l. total (slot_units (key_sought look l)) R) L in
-      let second = total_plus (λ l. units_of_items (keys_sought look) (at_row l)) (λ l. folded (key_sought look l)) L in
-      omega (arith, entry, parts, first, second, table_is)
+      let first = total_plus (λ l. units_of_items (keys_sought look) (at_row l) + folded (key_sought look l) + total (slot_units (key_sought look l)) R) (λ l. outer_units) L in
+      let second = total_plus (λ l. units_of_items (keys_sought look) (at_row l) + folded (key_sought look l)) (λ l. total (slot_units (key_sought look l)) R) L in
+      let third = total_plus (λ l. units_of_items (keys_sought look) (at_row l)) (λ l. folded (key_sought look l)) L in
+      let alone = all_outer outer in
+      omega (arith, entry, parts, first, second, third, alone, table_is)
+    where
+      all_outer : (o : Bool) → total (λ (l : List Val). if o then 1 else 0) L ≡ (if o then length L else 0)
+      all_outer true = total_ones L
+      all_outer false = total_zero L

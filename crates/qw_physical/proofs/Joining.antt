@@ -1,8 +1,9 @@
 -- A row that looks up a table goes on with the pairs that the join makes of it, in some order.
 use Rattle.std.proofs.Common.{◌≡◌, ◌∙◌, ℕ, nat_eq, Bool, true, false, not, ◌&&◌, ◌||◌, if◌then◌else◌, List, [], ◌∷◌, ◌++◌, get_or, length, map, Result, Ok, Err, refl, sym, ap, ap₂, subst, append-nil, arith}
-use Rattle.std.specs.List.{AllByRecursion, flat_map}
+use Rattle.std.specs.List.{AllByRecursion, flat_map, list_any}
 use Rattle.std.specs.List as list
 use Rattle.std.specs.List.Sorted.{IsPermutation}
+use Rattle.std.proofs.lemmas.List.Sorted.{list_any-IsPermutation}
 use Rattle.std.proofs.lemmas.Bool.Decides.{nat_tests}
 use Rattle.qw_types.specs.Arithmetic.{◌>>=◌}
 use Rattle.qw_types.specs.Value.{IsSized}
@@ -15,7 +16,7 @@ use Rattle.qw_scalar.specs.Conjuncts.{passes}
 use Rattle.qw_scalar.specs.Evaluation.{at_row}
 use Rattle.qw_scalar.specs.Expression.{Condition, Expression}
 use Rattle.qw_meaning.specs.Flow.{Flow, codes_given, kept, rows_given, spread, values_of}
-use Rattle.qw_meaning.specs.From.{merged}
+use Rattle.qw_meaning.specs.From.{completed, merged}
 use Rattle.qw_meaning.specs.Select.{Entry}
 use Rattle.qw_meaning.proofs.FlowLemmas.{flat_map_twice}
 use Rattle.qw_meaning.proofs.FromLemmas.{cell}
@@ -23,7 +24,7 @@ use Rattle.qw_algebra.specs.Columns.{entries_below, names_only, owns}
 use Rattle.qw_algebra.specs.Node.{Node, join, node_flow}
 use Rattle.qw_algebra.proofs.Flows.{same_flow}
 use Rattle.qw_algebra.proofs.Lists.{all_append, all_map, all_more, all_of_any, flat_map_none}
-use Rattle.qw_rewrite.specs.Probed.{all_meet, at_keys, beside_keys, found}
+use Rattle.qw_rewrite.specs.Probed.{all_meet, at_keys, beside_keys, found, probed_by}
 use Rattle.qw_rewrite.proofs.Rows.{passes_agrees}
 use Rattle.qw_rewrite.proofs.Sifting.{IsOver}
 use Rattle.qw_pipe.specs.Pipes.{Lookup}
@@ -31,10 +32,11 @@ use Rattle.qw_pipe.specs.Units.{operand_of}
 use Rattle.qw_feed.specs.Feeds.{flow_by, flow_over, nothing, one_row, where_true}
 use Rattle.qw_table.specs.Joins.{have_values, where_values}
 use Rattle.qw_physical.specs.Physical.{Build, Probe, build, probe}
-use Rattle.qw_physical.specs.Courses.{column_of, fed, met, placed, row_of, sink_values}
+use Rattle.qw_physical.specs.Courses.{column_of, fed, is_alone, isnt_failed, meets, met, placed, row_of, sink_values}
 use Rattle.qw_physical.specs.Reads.{is_read}
 use Rattle.qw_physical.specs.Spelled.{kept_columns, keys_kept, keys_sought}
 use Rattle.qw_physical.specs.declared.pipeline.ReadColumn.{ReadColumn}
+use Rattle.qw_physical.proofs.Alone.{any_flat, any_more, any_none, is_partner, with_partner, without_partner}
 use Rattle.qw_physical.proofs.Entries.{columns_values, filtered_number, front_dropped, front_taken, kept_values, row_of_cell, values_append}
 use Rattle.qw_physical.proofs.EqualKeys.{AreTold, all_meets, all_told, sought}
 use Rattle.qw_physical.proofs.Orders.{Alike, alike_is, alike_refl, alike_sym, alike_trans, over_permuted, spread_same, spread_twice}
@@ -70,6 +72,19 @@ over_one : (work : List Val → Flow (List Val)) (entry : List Val) (b q : Bool)
 over_one work entry true q made e =
     same_flow (flow_over work (entry ∷ [])) (work entry) (append-nil (work entry).rows) (append-nil (work entry).codes) ∙ e
 over_one work entry false q made e = refl
+
+any_one : (f : List Val → Bool) (entry : List Val) (b q : Bool) → f entry ≡ q → list_any f (if b then one_row entry else nothing).rows ≡ (b && q)
+any_one f entry true q e = or_none (f entry) ∙ e
+  where
+    or_none : (a : Bool) → (a || false) ≡ a
+    or_none true = refl
+    or_none false = refl
+any_one f entry false q e = refl
+
+ands_turned : (a b c d : Bool) → (((a && b) && c) && d) ≡ (a && (b && (c && d)))
+ands_turned true true c d = refl
+ands_turned true false c d = refl
+ands_turned false b c d = refl
 
 over_nothing : (f : List Val → Flow (List Val)) (xs : List (List Val)) → AllByRecursion (λ x. f x ≡ nothing) xs → flow_over f xs ≡ nothing
 over_nothing f xs h =
@@ -108,12 +123,12 @@ same_count f g (c ∷ cs) = omega (arith, same_count f g cs)
 
 module _ (entries : List Entry) (tables : List (List (List Val))) (columns : List ReadColumn)
     (sized : AllByRecursion (λ (e : Entry). AllByRecursion (λ (c : ColumnType). IsSized c.ty) e.columns) entries)
-    (left right : Node) (on : List Condition) (keys : List ℕ) (m : ℕ) (ready : ReadyJoin entries tables columns sized left right on keys) where
+    (outer : Bool) (left right : Node) (on : List Condition) (keys : List ℕ) (m : ℕ) (ready : ReadyJoin entries tables columns sized outer left right on keys) where
   abbrev Over : (ℕ → Bool) → List Val → Type 0
   Over owned row = IsOver tables (F entries tables columns sized) owned row
 
   abbrev lookup : Lookup
-  lookup = record { entries = entries_below right; on = on; keys = keys }
+  lookup = record { entries = entries_below right; outer = outer; on = on; keys = keys }
 
   abbrev equalities : List Condition
   equalities = at_keys keys 0 on
@@ -125,7 +140,7 @@ module _ (entries : List Entry) (tables : List (List (List Val))) (columns : Lis
   kept_here = kept_columns columns lookup
 
   abbrev pub the_probe : Probe
-  the_probe = record { table = m; key = keys_sought lookup; kept = kept_columns columns lookup; on = beside_keys keys 0 on }
+  the_probe = record { table = m; outer = outer; key = keys_sought lookup; kept = kept_columns columns lookup; on = beside_keys keys 0 on }
 
   abbrev pub the_build : Build
   the_build = record { table = m; key = keys_kept lookup; kept = kept_columns columns lookup }
@@ -185,6 +200,39 @@ module _ (entries : List Entry) (tables : List (List (List Val))) (columns : Lis
       one : (b : Bool) → owns right i ≡ b → (if b && true then cell r i else Null) ≡ cell r i
       one true e = refl
       one false e = sym (over.elsewhere i e)
+
+  -- ---- entries that a row meets
+
+  -- a pair that passes ON, or raises
+  abbrev pub partner : (l r : List Val) → Bool
+  partner l = is_partner (all_meet (owns left) (owns right) equalities l) (λ r. passes others (at_row (merged l r))) (merged l)
+
+  meets_is : (l vs r : List Val) (over : Over (owns right) r)
+      → meets the_probe l vs ((entry_key r over).values ++ kept_values kept_here r) ≡ (is_same_row vs (entry_key r over).values && isnt_failed (passes others (at_row (merged l r))))
+  meets_is l vs r over =
+      let ws : List Val = (entry_key r over).values in
+      let kv : List Val = kept_values kept_here r in
+      let agree : Agree (is_read columns) (merged l (row_of kept_here kv)) (merged l r) = merged_agree (is_read columns) l l (row_of kept_here kv) r (λ i t. refl) (kept_agree r over) in
+      ap₂ (λ (k d : List Val). is_same_row vs k && isnt_failed (passes others (at_row (merged l (row_of kept_here d)))))
+      (front_taken (length (keys_sought lookup)) ws kv (sought_count r over)) (front_dropped (length (keys_sought lookup)) ws kv (sought_count r over))
+      ∙ ap (λ (q : Result Bool Code). is_same_row vs ws && isnt_failed q) (passes_agrees (is_read columns) (merged l (row_of kept_here kv)) (merged l r) agree others ready.others)
+
+  entry_met : (built : List (List (List Val))) (l vs r : List Val) (over : Over (owns right) r)
+      → list_any (meets the_probe l vs) (fed built [] (build the_build) r).rows
+      ≡ (have_values (entry_key r over).values && (is_same_row vs (entry_key r over).values && isnt_failed (passes others (at_row (merged l r)))))
+  entry_met built l vs r over =
+      let ws : List Val = (entry_key r over).values in
+      ap (λ (f : Flow (List Val)). list_any (meets the_probe l vs) f.rows) (entry_is built r over)
+      ∙ any_one (meets the_probe l vs) (ws ++ kept_values kept_here r) (have_values ws) (is_same_row vs ws && isnt_failed (passes others (at_row (merged l r)))) (meets_is l vs r over)
+
+  partner_is : (l r : List Val) (over_l : Over (owns left) l) (over_r : Over (owns right) r) (h : Bool) → have_values (key_of l over_l).values ≡ h
+      → partner l r ≡ (h && (have_values (entry_key r over_r).values && (is_same_row (key_of l over_l).values (entry_key r over_r).values && isnt_failed (passes others (at_row (merged l r))))))
+  partner_is l r over_l over_r h e =
+      let vs = (key_of l over_l).values in
+      let ws = (entry_key r over_r).values in
+      ap (λ (b : Bool). b && isnt_failed (passes others (at_row (merged l r))))
+      (all_meets (owns left) (owns right) equalities ready.divided l r vs ws (key_of l over_l).is (entry_key r over_r).is ∙ ap (λ (b : Bool). (b && have_values ws) && is_same_row vs ws) e)
+      ∙ ands_turned h (have_values ws) (is_same_row vs ws) (isnt_failed (passes others (at_row (merged l r))))
 
   module _ (work : List Val → Flow (List Val)) (sees : Sees (is_read columns) work) where
     -- what comes of a pair
@@ -246,20 +294,28 @@ module _ (entries : List Entry) (tables : List (List (List Val))) (columns : Lis
           alike_is nothing (flow_over (of_pair l) R)
           (sym (over_nothing (of_pair l) R (all_more (Over (owns right)) (λ r. of_pair l r ≡ nothing) R (λ r over_r. pair_is l r over over_r false e) ready.over_right)))
 
-      looked_up : (l : List Val) → Over (owns left) l → Alike (at_operator built (probe the_probe) work l) (flow_over (of_pair l) R)
-      looked_up l over =
-          let key = key_of l over in
-          let key_is : values_of (keys_sought lookup) (at_row l) ≡ Ok key.values = ap (λ (es : List Expression). values_of es (at_row l)) sought_are ∙ key.is in
-          subst (λ (f : Flow (List Val)). Alike f (flow_over (of_pair l) R))
-          (sym (ap (λ (q : Result (List Val) Code). flow_by q (λ k. where_values (flow_over (met work the_probe l k) (get_or built m [])) k)) key_is))
-          (found_in l over (have_values key.values) refl)
+      -- it meets one exactly where it has a partner
+      any_met : (l : List Val) (over : Over (owns left) l) (h : Bool) → have_values (key_of l over).values ≡ h
+          → (h && list_any (meets the_probe l (key_of l over).values) (get_or built m [])) ≡ list_any (partner l) R
+      any_met l over true e =
+          let vs : List Val = (key_of l over).values in
+          let all : List (List Val) = flat_map (λ r. (fed before [] (build the_build) r).rows) R in
+          sym (list_any-IsPermutation (meets the_probe l vs) all (get_or built m []) stands)
+          ∙ any_flat (meets the_probe l vs) (λ r. (fed before [] (build the_build) r).rows) R
+          ∙ any_more (Over (owns right)) (λ r. list_any (meets the_probe l vs) (fed before [] (build the_build) r).rows) (partner l) R
+          (λ r over_r. entry_met before l vs r over_r ∙ sym (partner_is l r over over_r true e)) ready.over_right
+      any_met l over false e = sym (any_none (partner l) R (all_more (Over (owns right)) (λ r. partner l r ≡ false) R (λ r over_r. partner_is l r over over_r false e) ready.over_right))
 
-      -- what the join makes of a row of its left side
-      abbrev step : List Val → Flow (List Val)
-      step l = record {
+      -- what comes of the pairs of a row of the left side, and what the join makes of it
+      abbrev paired : List Val → Flow (List Val)
+      paired l = record {
         rows = found rows_given (owns left) (owns right) equalities others l R;
         codes = found codes_given (owns left) (owns right) equalities others l R;
       }
+
+      abbrev step : (completes : Bool) → List Val → Flow (List Val)
+      step true l = completed l (paired l).rows (paired l).codes
+      step false l = paired l
 
       abbrev pair_step : (l r : List Val) → Flow (List Val)
       pair_step l r = record {
@@ -267,26 +323,54 @@ module _ (entries : List Entry) (tables : List (List (List Val))) (columns : Lis
         codes = if all_meet (owns left) (owns right) equalities l r then codes_given (kept others (merged l r)) else [];
       }
 
-      row_joined : (l : List Val) → Over (owns left) l → Alike (at_operator built (probe the_probe) work l) (spread work (step l))
-      row_joined l over =
-          alike_trans (at_operator built (probe the_probe) work l) (flow_over (of_pair l) R) (spread work (step l)) (looked_up l over)
+      -- with the entries that it meets
+      abbrev looked_up : (l vs : List Val) → Flow (List Val)
+      looked_up l vs = where_values (flow_over (met work the_probe l vs) (get_or built m [])) vs
+
+      pairs_joined : (l : List Val) (over : Over (owns left) l) → Alike (looked_up l (key_of l over).values) (spread work (paired l))
+      pairs_joined l over =
+          alike_trans (looked_up l (key_of l over).values) (flow_over (of_pair l) R) (spread work (paired l)) (found_in l over (have_values (key_of l over).values) refl)
           (spread_twice (of_pair l) work (pair_step l) (record { rows = R; codes = [] })
           (all_of_any (λ r. Alike (of_pair l r) (spread work (pair_step l r))) R
           (λ r. passed_on work (merged l r) (all_meet (owns left) (owns right) equalities l r) (passes others (at_row (merged l r))))))
 
-      join_is : (node_flow tables right).codes ≡ [] → node_flow tables (join left right on keys) ≡ spread step (node_flow tables left)
-      join_is none =
-          ready.probe
-          ∙ ap (λ (cs : List Code). record {
-            rows = flat_map (λ l. found rows_given (owns left) (owns right) equalities others l R) (node_flow tables left).rows;
-            codes = cs ++ flat_map (λ l. found codes_given (owns left) (owns right) equalities others l R) (node_flow tables left).rows;
-          }) (ap (λ (cs : List Code). (node_flow tables left).codes ++ cs) none ∙ append-nil (node_flow tables left).codes)
+      goes_on : (completes : Bool) (l : List Val) (over : Over (owns left) l) (b : Bool) → list_any (partner l) R ≡ b
+          → Alike (if completes && not b then work l else looked_up l (key_of l over).values) (spread work (step completes l))
+      goes_on false l over b e = pairs_joined l over
+      goes_on true l over true e =
+          subst (λ (f : Flow (List Val)). Alike (looked_up l (key_of l over).values) (spread work f))
+          (sym (with_partner (all_meet (owns left) (owns right) equalities l) (λ r. passes others (at_row (merged l r))) (merged l) l R e)) (pairs_joined l over)
+      goes_on true l over false e =
+          subst (λ (f : Flow (List Val)). Alike (work l) (spread work f))
+          (sym (without_partner (all_meet (owns left) (owns right) equalities l) (λ r. passes others (at_row (merged l r))) (merged l) l R e))
+          (alike_is (work l) (record { rows = (work l).rows ++ []; codes = (work l).codes ++ [] })
+          (same_flow (work l) (record { rows = (work l).rows ++ []; codes = (work l).codes ++ [] }) (sym (append-nil (work l).rows)) (sym (append-nil (work l).codes))))
 
-      pub joined : (node_flow tables right).codes ≡ [] → Alike (spread (at_operator built (probe the_probe) work) (node_flow tables left)) (spread work (node_flow tables (join left right on keys)))
+      row_joined : (l : List Val) → Over (owns left) l → Alike (at_operator built (probe the_probe) work l) (spread work (step outer l))
+      row_joined l over =
+          let key = key_of l over in
+          let key_is : values_of (keys_sought lookup) (at_row l) ≡ Ok key.values = ap (λ (es : List Expression). values_of es (at_row l)) sought_are ∙ key.is in
+          subst (λ (f : Flow (List Val)). Alike f (spread work (step outer l)))
+          (sym (ap (λ (q : Result (List Val) Code). flow_by q (λ k. if is_alone the_probe l k (get_or built m []) then work l else looked_up l k)) key_is
+          ∙ ap (λ (b : Bool). if outer && not b then work l else looked_up l key.values) (any_met l over (have_values key.values) refl)))
+          (goes_on outer l over (list_any (partner l) R) refl)
+
+      probed_is : (completes : Bool) (one : Flow (List Val))
+          → probed_by completes (owns left) (owns right) equalities others one (node_flow tables right) ≡ spread (step completes) (record { rows = one.rows; codes = one.codes ++ (node_flow tables right).codes })
+      probed_is true one = refl
+      probed_is false one = refl
+
+      join_is : (node_flow tables right).codes ≡ [] → node_flow tables (join outer left right on keys) ≡ spread (step outer) (node_flow tables left)
+      join_is none =
+          ready.probe ∙ probed_is outer (node_flow tables left)
+          ∙ ap (λ (cs : List Code). spread (step outer) (record { rows = (node_flow tables left).rows; codes = cs }))
+          (ap (λ (cs : List Code). (node_flow tables left).codes ++ cs) none ∙ append-nil (node_flow tables left).codes)
+
+      pub joined : (node_flow tables right).codes ≡ [] → Alike (spread (at_operator built (probe the_probe) work) (node_flow tables left)) (spread work (node_flow tables (join outer left right on keys)))
       joined none =
           subst (λ (f : Flow (List Val)). Alike (spread (at_operator built (probe the_probe) work) (node_flow tables left)) (spread work f)) (sym (join_is none))
-          (spread_twice (at_operator built (probe the_probe) work) work step (node_flow tables left)
-          (all_more (Over (owns left)) (λ l. Alike (at_operator built (probe the_probe) work l) (spread work (step l))) (node_flow tables left).rows row_joined ready.over_left))
+          (spread_twice (at_operator built (probe the_probe) work) work (step outer) (node_flow tables left)
+          (all_more (Over (owns left)) (λ l. Alike (at_operator built (probe the_probe) work l) (spread work (step outer l))) (node_flow tables left).rows row_joined ready.over_left))
 
       pub probe_sees : Sees (is_read columns) (at_operator built (probe the_probe) work)
       probe_sees = operator_sees (is_read columns) built (probe the_probe) work probe_names sees

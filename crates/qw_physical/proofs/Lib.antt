@@ -2,6 +2,7 @@ pub mod Alikeness
 pub mod Firsts
 pub mod Folds
 pub mod Followed
+pub mod InRows
 pub mod NamedRead
 mod Naming
 pub mod Orders
@@ -18,6 +19,7 @@ pub mod Smaller
 pub mod Steps
 pub mod Through
 pub mod Typing
+mod Alone
 mod Apart
 pub mod Begun
 mod Bounded
@@ -33,8 +35,10 @@ pub mod Holding
 mod JoinBound
 mod Joining
 mod Meeting
+mod Partners
 mod Outcomes
 mod Placed
+mod Scanned
 mod SeenUnits
 mod Throughout
 mod Totals
@@ -44,4 +48,5 @@ mod PlanSeen
 pub mod Shown
 pub mod QuerySeen
 pub mod QueryFew
+pub mod QueryNulls
 pub mod QueryScans

@@ -24,7 +24,7 @@ use Rattle.qw_algebra.specs.Written.{from_written, source_written, with_joins, w
 use Rattle.qw_algebra.proofs.Lists.{all_append, all_map, all_more}
 use Rattle.qw_rewrite.specs.Placed.{IsSizedCondition, IsSizedPlan}
 use Rattle.qw_rewrite.specs.Probe.{are_alike, are_eligible, face, is_eligible, is_equality, keyed, keys_from, keys_of_join}
-use Rattle.qw_rewrite.specs.Probed.{AreProbes, at_keys, beside_keys, is_key, probed}
+use Rattle.qw_rewrite.specs.Probed.{AreProbes, at_keys, beside_keys, is_key, probed_by}
 use Rattle.qw_rewrite.specs.Sift.{beyond, is_clean_on, is_quiet, moved, quiet_front, sifted, stayed, within}
 use Rattle.qw_rewrite.proofs.Grounds.{FitsAt, IsLaid, IsTypedNode}
 use Rattle.qw_rewrite.proofs.Joins.{tested}
@@ -51,7 +51,7 @@ parts_all P (x ∷ xs) ys h = let rest = parts_all P xs ys h.1 in ((h.0, rest.0)
 abbrev pub AllConjuncts : (Condition → Type 0) → Node → Type 0
 AllConjuncts P (scan entry table) = Unit {0}
 AllConjuncts P (filter conjuncts below) = AllByRecursion P conjuncts × AllConjuncts P below
-AllConjuncts P (join left right on keys) = AllByRecursion P on × (AllConjuncts P left × AllConjuncts P right)
+AllConjuncts P (join outer left right on keys) = AllByRecursion P on × (AllConjuncts P left × AllConjuncts P right)
 AllConjuncts P (project below items) = AllConjuncts P below
 
 module _ (P : Condition → Type 0) where
@@ -62,7 +62,17 @@ module _ (P : Condition → Type 0) where
         stayed_all P own conjuncts h.0,
         sifted_all below clean (moved own conjuncts ++ above) (all_append P (moved own conjuncts) above (moved_all P own conjuncts h.0) ha) h.1,
       )
-  sifted_all (join left right on keys) clean above ha h =
+  sifted_all (join true left right on keys) clean above ha h = (
+    all_filtered P (λ c. not (condition_names_only (owns left) c)) above ha,
+    (
+      h.0,
+      (
+        sifted_all left clean (within left above) (all_filtered P (condition_names_only (owns left)) above ha) h.1.0,
+        sifted_all right (clean && is_quiet left) [] tt h.1.1,
+      ),
+    ),
+  )
+  sifted_all (join false left right on keys) clean above ha h =
       let own : Bool = is_clean_on clean left right in
       let down : List Condition = moved own on ++ above in
       let hd : AllByRecursion P down = all_append P (moved own on) above (moved_all P own on h.0) ha in
@@ -78,20 +88,20 @@ module _ (P : Condition → Type 0) where
   pub keyed_all : (node : Node) (clean : Bool) → AllConjuncts P node → AllConjuncts P (keyed clean node)
   keyed_all (scan entry table) clean h = tt
   keyed_all (filter conjuncts below) clean h = (h.0, keyed_all below clean h.1)
-  keyed_all (join left right on keys) clean h = (h.0, (keyed_all left clean h.1.0, keyed_all right (clean && is_quiet left) h.1.1))
+  keyed_all (join outer left right on keys) clean h = (h.0, (keyed_all left clean h.1.0, keyed_all right (clean && is_quiet left) h.1.1))
   keyed_all (project below items) clean h = keyed_all below clean h
 
   joins_all : (joins : List Joined) (next : ℕ) (node : Node) → AllConjuncts P node → AllByRecursion P (flat_map (λ (j : Joined). j.on) joins) → AllConjuncts P (with_joins next node joins)
   joins_all [] next node h g = h
   joins_all (j ∷ joins) next node h g =
       let p = parts_all P j.on (flat_map (λ (i : Joined). i.on) joins) g in
-      joins_all joins (next + 1) (join node (scan next j.entry.table) j.on []) (p.0, (h, tt)) p.1
+      joins_all joins (next + 1) (join j.outer node (scan next j.entry.table) j.on []) (p.0, (h, tt)) p.1
 
   sources_all : (sources : List Source) (next : ℕ) (node : Node) → AllConjuncts P node → AllByRecursion P (conjuncts_on sources) → AllConjuncts P (with_sources next node sources)
   sources_all [] next node h g = h
   sources_all (source ∷ sources) next node h g =
       let p = parts_all P (flat_map (λ (j : Joined). j.on) source.joins) (conjuncts_on sources) g in
-      sources_all sources (next + length (entries_in source)) (join node (source_written next source) [] [])
+      sources_all sources (next + length (entries_in source)) (join false node (source_written next source) [] [])
       (tt, (h, joins_all source.joins (next + 1) (scan next source.first.table) tt p.0)) p.1
 
   pub from_all : (sources : List Source) → AllByRecursion P (conjuncts_on sources) → AllConjuncts P (from_written sources)
@@ -125,7 +135,7 @@ IsKey tl tr c = (is_eligible tl tr c ≡ true) × (condition_can_raise c ≡ fal
 abbrev pub AreKeyed : Node → Type 0
 AreKeyed (scan entry table) = Unit {0}
 AreKeyed (filter conjuncts below) = AreKeyed below
-AreKeyed (join left right on keys) =
+AreKeyed (join outer left right on keys) =
     ((filter_map (λ k. slice_get on k) keys ≡ at_keys keys 0 on) × AllByRecursion (IsKey (owns left) (owns right)) (at_keys keys 0 on)) × (AreKeyed left × AreKeyed right)
 AreKeyed (project below items) = AreKeyed below
 
@@ -193,7 +203,7 @@ keys_of clean left right on = one (is_clean_on clean left right)
 pub keyed_keys : (node : Node) (clean : Bool) → AreKeyed (keyed clean node)
 keyed_keys (scan entry table) clean = tt
 keyed_keys (filter conjuncts below) clean = keyed_keys below clean
-keyed_keys (join left right on keys) clean =
+keyed_keys (join outer left right on keys) clean =
     let k = keys_of clean left right on in (
       (
         k.0,
@@ -234,13 +244,17 @@ module _ (entries : List Entry) (tables : List (List (List Val))) (columns : Lis
   pub laid_of : (node : Node) → IsSound tables F node → IsLaid entries tables node
   laid_of (scan entry table) s = s
   laid_of (filter conjuncts below) s = laid_of below s.1
-  laid_of (join left right on keys) s = (s.0.1, (laid_of left s.1.0, laid_of right s.1.1))
+  laid_of (join outer left right on keys) s = (s.0.1, (laid_of left s.1.0, laid_of right s.1.1))
   laid_of (project below items) s = absurd s
 
   pub sifted_laid : (node : Node) (clean : Bool) (above : List Condition) → IsLaid entries tables node → IsLaid entries tables (sifted clean above node)
   sifted_laid (scan entry table) clean above l = l
   sifted_laid (filter conjuncts below) clean above l = sifted_laid below clean (moved (clean && is_quiet below) conjuncts ++ above) l
-  sifted_laid (join left right on keys) clean above l =
+  sifted_laid (join true left right on keys) clean above l = (
+    subst₂ (λ (ls rs : List ℕ). (i : ℕ) → is_of ls i ≡ true → is_of rs i ≡ false) (sym (sifted_entries left clean (within left above))) (sym (sifted_entries right (clean && is_quiet left) [])) l.0,
+    (sifted_laid left clean (within left above) l.1.0, sifted_laid right (clean && is_quiet left) [] l.1.1),
+  )
+  sifted_laid (join false left right on keys) clean above l =
       let down : List Condition = moved (is_clean_on clean left right) on ++ above in (
         subst₂ (λ (ls rs : List ℕ). (i : ℕ) → is_of ls i ≡ true → is_of rs i ≡ false) (sym (sifted_entries left clean (within left down)))
             (sym (sifted_entries right (clean && is_quiet left) (within right (beyond left down)))) l.0,
@@ -251,7 +265,7 @@ module _ (entries : List Entry) (tables : List (List (List Val))) (columns : Lis
   pub keyed_laid : (node : Node) (clean : Bool) → IsLaid entries tables node → IsLaid entries tables (keyed clean node)
   keyed_laid (scan entry table) clean l = l
   keyed_laid (filter conjuncts below) clean l = keyed_laid below clean l
-  keyed_laid (join left right on keys) clean l = (
+  keyed_laid (join outer left right on keys) clean l = (
     subst₂ (λ (ls rs : List ℕ). (i : ℕ) → is_of ls i ≡ true → is_of rs i ≡ false) (sym (keyed_entries left clean)) (sym (keyed_entries right (clean && is_quiet left))) l.0,
     (keyed_laid left clean l.1.0, keyed_laid right (clean && is_quiet left) l.1.1),
   )
@@ -263,7 +277,7 @@ module _ (entries : List Entry) (tables : List (List (List Val))) (columns : Lis
   pub typed_of : (node : Node) → AllConjuncts IsOver_entries node → IsTypedNode entries tables node
   typed_of (scan entry table) h = tt
   typed_of (filter conjuncts below) h = (h.0, typed_of below h.1)
-  typed_of (join left right on keys) h = (h.0, (typed_of left h.1.0, typed_of right h.1.1))
+  typed_of (join outer left right on keys) h = (h.0, (typed_of left h.1.0, typed_of right h.1.1))
   typed_of (project below items) h = typed_of below h
 
   sized_condition : (c : Condition) → IsOver_entries c → IsSizedCondition c
@@ -272,7 +286,7 @@ module _ (entries : List Entry) (tables : List (List (List Val))) (columns : Lis
   pub sized_of : (node : Node) → AllConjuncts IsOver_entries node → IsSizedPlan node
   sized_of (scan entry table) h = tt
   sized_of (filter conjuncts below) h = (all_more IsOver_entries IsSizedCondition conjuncts sized_condition h.0, sized_of below h.1)
-  sized_of (join left right on keys) h = (all_more IsOver_entries IsSizedCondition on sized_condition h.0, (sized_of left h.1.0, sized_of right h.1.1))
+  sized_of (join outer left right on keys) h = (all_more IsOver_entries IsSizedCondition on sized_condition h.0, (sized_of left h.1.0, sized_of right h.1.1))
   sized_of (project below items) h = sized_of below h
 
   -- ---- operands of keys have values
@@ -311,7 +325,7 @@ module _ (entries : List Entry) (tables : List (List (List Val))) (columns : Lis
   -- ---- ready to be run
 
   -- What a join needs. A key's operands name only columns of their side, since it is divided.
-  pub record ReadyJoin (left right : Node) (on : List Condition) (keys : List ℕ) : Type 0 where
+  pub record ReadyJoin (outer : Bool) (left right : Node) (on : List Condition) (keys : List ℕ) : Type 0 where
     pub apart : (i : ℕ) → owns left i ≡ true → owns right i ≡ false
     pub over_left : AllByRecursion (IsOver tables F (owns left)) (node_flow tables left).rows
     pub over_right : AllByRecursion (IsOver tables F (owns right)) (node_flow tables right).rows
@@ -320,12 +334,12 @@ module _ (entries : List Entry) (tables : List (List (List Val))) (columns : Lis
     pub told : (test : ℕ → Bool) (row : List Val) → IsFine tables F row → AllByRecursion (IsTold row) (map (operand_of test) (at_keys keys 0 on))
     pub named : (test : ℕ → Bool) → AllByRecursion (λ e. names_only (is_read columns) e ≡ true) (map (operand_of test) (at_keys keys 0 on))
     pub others : NamesOnly (is_read columns) (beside_keys keys 0 on)
-    pub probe : node_flow tables (join left right on keys) ≡ probed (owns left) (owns right) (at_keys keys 0 on) (beside_keys keys 0 on) (node_flow tables left) (node_flow tables right)
+    pub probe : node_flow tables (join outer left right on keys) ≡ probed_by outer (owns left) (owns right) (at_keys keys 0 on) (beside_keys keys 0 on) (node_flow tables left) (node_flow tables right)
 
   abbrev pub IsReady : Node → Type 0
   IsReady (scan entry table) = IsSound tables F (scan entry table)
   IsReady (filter conjuncts below) = NamesOnly (is_read columns) conjuncts × IsReady below
-  IsReady (join left right on keys) = ReadyJoin left right on keys × (IsReady left × IsReady right)
+  IsReady (join outer left right on keys) = ReadyJoin outer left right on keys × (IsReady left × IsReady right)
   IsReady (project below items) = ⊥
 
   named_operands : (test : ℕ → Bool) (c : Condition) → condition_names_only (is_read columns) c ≡ true → names_only (is_read columns) (operand_of test c) ≡ true
@@ -338,7 +352,7 @@ module _ (entries : List Entry) (tables : List (List (List Val))) (columns : Lis
       → IsReady node
   ready (scan entry table) s p k t n z = s
   ready (filter conjuncts below) s p k t n z = (n.0, ready below s.1 p k t.1 n.1 z.1)
-  ready (join left right on keys) s p k t n z =
+  ready (join outer left right on keys) s p k t n z =
       let eligible : AllByRecursion (IsKey (owns left) (owns right)) (at_keys keys 0 on) = k.0.1 in
       let typed : AllByRecursion IsOver_entries (at_keys keys 0 on) = (keys_have IsOver_entries keys 0 on t.0).0 in
       let names = keys_have (λ c. condition_names_only (is_read columns) c ≡ true) keys 0 on n.0 in (

@@ -38,8 +38,8 @@ or_true false b h = inr h
 
 module _ (entries : List Entry) (tables : List (List (List Val))) (columns : List ReadColumn)
     (sized : AllByRecursion (λ (e : Entry). AllByRecursion (λ (c : ColumnType). IsSized c.ty) e.columns) entries) where
-  abbrev looked : Node → List Condition → List ℕ → Lookup
-  looked right on keys = record { entries = entries_below right; on = on; keys = keys }
+  abbrev looked : Bool → Node → List Condition → List ℕ → Lookup
+  looked outer right on keys = record { entries = entries_below right; outer = outer; on = on; keys = keys }
 
   abbrev Ready : Node → Type 0
   Ready node = IsReady entries tables columns sized node
@@ -54,28 +54,28 @@ module _ (entries : List Entry) (tables : List (List (List Val))) (columns : Lis
       ∙ ap (λ (os : List Operator). os ++ more) (sym (spelled_append columns steps (s ∷ [])))
 
   -- the keys of a join
-  module _ (left right : Node) (on : List Condition) (keys : List ℕ) (ready : Ready (join left right on keys)) (shows : AllByRecursion (ShowsIn columns) on) where
+  module _ (outer : Bool) (left right : Node) (on : List Condition) (keys : List ℕ) (ready : Ready (join outer left right on keys)) (shows : AllByRecursion (ShowsIn columns) on) where
     key_parts : AllByRecursion (λ c. IsDivided (owns left) (owns right) c × ShowsIn columns c) (at_keys keys 0 on)
     key_parts = all_pairs (IsDivided (owns left) (owns right)) (ShowsIn columns) (at_keys keys 0 on) ready.0.divided (keys_have entries tables columns sized (ShowsIn columns) keys 0 on shows).0
 
-    pub key_sought_shown : AllByRecursion (Shows (owned (owns left) columns)) (keys_sought (looked right on keys))
+    pub key_sought_shown : AllByRecursion (Shows (owned (owns left) columns)) (keys_sought (looked outer right on keys))
     key_sought_shown =
         subst (λ (cs : List Condition). AllByRecursion (Shows (owned (owns left) columns)) (map (sought (owns right)) cs)) (sym ready.0.equal)
         (all_map (Shows (owned (owns left) columns)) (sought (owns right)) (at_keys keys 0 on)
         (all_more (λ c. IsDivided (owns left) (owns right) c × ShowsIn columns c) (λ c. Shows (owned (owns left) columns) (sought (owns right) c)) (at_keys keys 0 on)
         (λ c h. shown (owns left) columns (sought (owns right) c) h.0.left (operand_has (Shows columns) (λ i. not (owns right i)) c (operands_shown columns c h.1))) key_parts))
 
-    pub key_kept_shown : AllByRecursion (Shows (owned (owns right) columns)) (keys_kept (looked right on keys))
+    pub key_kept_shown : AllByRecursion (Shows (owned (owns right) columns)) (keys_kept (looked outer right on keys))
     key_kept_shown =
         subst (λ (cs : List Condition). AllByRecursion (Shows (owned (owns right) columns)) (map (operand_of (owns right)) cs)) (sym ready.0.equal)
         (all_map (Shows (owned (owns right) columns)) (operand_of (owns right)) (at_keys keys 0 on)
         (all_more (λ c. IsDivided (owns left) (owns right) c × ShowsIn columns c) (λ c. Shows (owned (owns right) columns) (operand_of (owns right) c)) (at_keys keys 0 on)
         (λ c h. shown (owns right) columns (operand_of (owns right) c) h.0.right (operand_has (Shows columns) (owns right) c (operands_shown columns c h.1))) key_parts))
 
-  join_within : (left right : Node) (on : List Condition) (keys : List ℕ) → Within (owned (owns (join left right on keys)) columns) (owned (owns right) columns ++ owned (owns left) columns)
-  join_within left right on keys i ty h =
-      let r = owned_among (owns (join left right on keys)) columns i ty h in
-      one r.1 (or_true (owns left i) (owns right i) (sym (owns_join left right on keys i) ∙ r.0))
+  join_within : (outer : Bool) (left right : Node) (on : List Condition) (keys : List ℕ) → Within (owned (owns (join outer left right on keys)) columns) (owned (owns right) columns ++ owned (owns left) columns)
+  join_within outer left right on keys i ty h =
+      let r = owned_among (owns (join outer left right on keys)) columns i ty h in
+      one r.1 (or_true (owns left i) (owns right i) (sym (owns_join outer left right on keys i) ∙ r.0))
     where
       one : IsAmong (typed_numbers columns) i ty → (owns left i ≡ true) ⊎ (owns right i ≡ true) → IsAmong (typed_numbers (owned (owns right) columns ++ owned (owns left) columns)) i ty
       one g (inl e) = within_right (owned (owns right) columns) (owned (owns left) columns) i ty (among_owned (owns left) columns i ty e g)
@@ -92,19 +92,19 @@ module _ (entries : List Entry) (tables : List (List (List Val))) (columns : Lis
   steps_see (filter conjuncts below) next more values ready names shows h =
       subst (λ (os : List Operator). Sees (of_entry (split next below).last.entry columns) os values) (steps_with (split next below).last.steps (test conjuncts) (filter_by conjuncts) more refl)
       (steps_see below next (filter_by conjuncts ∷ more) values ready.1 names.1 shows.1 (all_shown_in (owns below) columns conjuncts names.0 shows.0, h))
-  steps_see (join left right on keys) next more values ready names shows h =
+  steps_see (join outer left right on keys) next more values ready names shows h =
       let m : ℕ = next + length (split next right).builds in
-      let kept : List ReadColumn = kept_columns columns (looked right on keys) in
-      let o : Operator = probe (record { table = m; key = keys_sought (looked right on keys); kept = kept; on = beside_keys keys 0 on }) in
-      let both_sides : Within (owned (owns (join left right on keys)) columns) (kept ++ owned (owns left) columns) = join_within left right on keys in
-      let others : AllByRecursion (ShowsIn (owned (owns (join left right on keys)) columns)) (beside_keys keys 0 on) =
-      (keys_have entries tables columns sized (ShowsIn (owned (owns (join left right on keys)) columns)) keys 0 on (all_shown_in (owns (join left right on keys)) columns on names.0 shows.0)).1 in
-      subst (λ (os : List Operator). Sees (of_entry (split (m + 1) left).last.entry columns) os values) (steps_with (split (m + 1) left).last.steps (pipes.probe m (looked right on keys)) o more refl)
+      let kept : List ReadColumn = kept_columns columns (looked outer right on keys) in
+      let o : Operator = probe (record { table = m; outer = outer; key = keys_sought (looked outer right on keys); kept = kept; on = beside_keys keys 0 on }) in
+      let both_sides : Within (owned (owns (join outer left right on keys)) columns) (kept ++ owned (owns left) columns) = join_within outer left right on keys in
+      let others : AllByRecursion (ShowsIn (owned (owns (join outer left right on keys)) columns)) (beside_keys keys 0 on) =
+      (keys_have entries tables columns sized (ShowsIn (owned (owns (join outer left right on keys)) columns)) keys 0 on (all_shown_in (owns (join outer left right on keys)) columns on names.0 shows.0)).1 in
+      subst (λ (os : List Operator). Sees (of_entry (split (m + 1) left).last.entry columns) os values) (steps_with (split (m + 1) left).last.steps (pipes.probe m (looked outer right on keys)) o more refl)
       (steps_see left (m + 1) (o ∷ more) values ready.1.0 names.1.0 shows.1.0 (
-        key_sought_shown left right on keys ready shows.0,
+        key_sought_shown outer left right on keys ready shows.0,
         (
-          shows_in_more (owned (owns (join left right on keys)) columns) (kept ++ owned (owns left) columns) both_sides (beside_keys keys 0 on) others,
-          sees_more more values (owned (owns (join left right on keys)) columns) (kept ++ owned (owns left) columns) both_sides h,
+          shows_in_more (owned (owns (join outer left right on keys)) columns) (kept ++ owned (owns left) columns) both_sides (beside_keys keys 0 on) others,
+          sees_more more values (owned (owns (join outer left right on keys)) columns) (kept ++ owned (owns left) columns) both_sides h,
         ),
       ))
   steps_see (project below items) next more values ready names shows h = absurd ready
@@ -119,14 +119,14 @@ module _ (entries : List Entry) (tables : List (List (List Val))) (columns : Lis
   pub builds_see : (node : Node) (next : ℕ) → Ready node → NamesBelow node → AreShown node → AllByRecursion (IsSeen columns) (all_spelled columns next (split next node).builds)
   builds_see (scan entry table) next ready names shows = tt
   builds_see (filter conjuncts below) next ready names shows = builds_see below next ready.1 names.1 shows.1
-  builds_see (join left right on keys) next ready names shows =
+  builds_see (join outer left right on keys) next ready names shows =
       let m : ℕ = next + length (split next right).builds in
-      let kept : List ReadColumn = kept_columns columns (looked right on keys) in
-      subst (AllByRecursion (IsSeen columns)) (sym (spelled_join entries tables columns sized left right on keys next))
-      (all_append (IsSeen columns) (all_spelled columns next (split next right).builds) (spelled columns m (building entries tables columns sized next right on keys) ∷ all_spelled columns (m + 1) (split (m + 1) left).builds)
+      let kept : List ReadColumn = kept_columns columns (looked outer right on keys) in
+      subst (AllByRecursion (IsSeen columns)) (sym (spelled_join entries tables columns sized outer left right on keys next))
+      (all_append (IsSeen columns) (all_spelled columns next (split next right).builds) (spelled columns m (building entries tables columns sized next outer right on keys) ∷ all_spelled columns (m + 1) (split (m + 1) left).builds)
       (builds_see right next ready.1.1 names.1.1 shows.1.1) (
-        last_sees right next (keys_kept (looked right on keys) ++ map column_of kept) ready.1.1 names.1.1 shows.1.1
-            (all_append (Shows (owned (owns right) columns)) (keys_kept (looked right on keys)) (map column_of kept) (key_kept_shown left right on keys ready shows.0) (columns_shown kept)),
+        last_sees right next (keys_kept (looked outer right on keys) ++ map column_of kept) ready.1.1 names.1.1 shows.1.1
+            (all_append (Shows (owned (owns right) columns)) (keys_kept (looked outer right on keys)) (map column_of kept) (key_kept_shown outer left right on keys ready shows.0) (columns_shown kept)),
         builds_see left (m + 1) ready.1.0 names.1.0 shows.1.0,
       ))
   builds_see (project below items) next ready names shows = absurd ready

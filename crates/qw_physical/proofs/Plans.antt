@@ -31,8 +31,8 @@ parts_typed next (scan entry table) h = record { builds = tt; last = record { st
 parts_typed next (filter conjuncts below) h =
     let rest = parts_typed next below h.1 in
     record { builds = rest.builds; last = one_more (split next below).last (test conjuncts) rest.last h.0 }
-parts_typed next (join left right on keys) h =
-    let lookup : Lookup = record { entries = entries_below right; on = on; keys = keys } in
+parts_typed next (join outer left right on keys) h =
+    let lookup : Lookup = record { entries = entries_below right; outer = outer; on = on; keys = keys } in
     let r = parts_typed next right h.1.1 in
     let at : ℕ = next + length (split next right).builds in
     let l = parts_typed (at + 1) left h.1.0 in
@@ -93,13 +93,13 @@ keys_compare clean left right on = by_test (is_clean_on clean left right) (from_
 abbrev IsTypedPlan : Node → Type 0
 IsTypedPlan (scan entry table) = Unit {0}
 IsTypedPlan (filter conjuncts below) = AllByRecursion AreTyped conjuncts × IsTypedPlan below
-IsTypedPlan (join left right on keys) = AllByRecursion AreTyped on × (IsTypedPlan left × IsTypedPlan right)
+IsTypedPlan (join outer left right on keys) = AllByRecursion AreTyped on × (IsTypedPlan left × IsTypedPlan right)
 IsTypedPlan (project below items) = AllByRecursion IsValued items × IsTypedPlan below
 
 keyed_typed : (clean : Bool) (node : Node) → IsTypedPlan node → IsTypedNode (keyed clean node)
 keyed_typed clean (scan entry table) h = tt
 keyed_typed clean (filter conjuncts below) h = (h.0, keyed_typed clean below h.1)
-keyed_typed clean (join left right on keys) h =
+keyed_typed clean (join outer left right on keys) h =
     (record { on = h.0; keys = keys_compare clean left right on }, (keyed_typed clean left h.1.0, keyed_typed (clean && is_quiet left) right h.1.1))
 keyed_typed clean (project below items) h = (h.0, keyed_typed clean below h.1)
 
@@ -119,7 +119,11 @@ sifted_typed (filter conjuncts below) clean above ha h =
       stayed_all AreTyped own conjuncts h.0,
       sifted_typed below clean (moved own conjuncts ++ above) (all_joined AreTyped (moved own conjuncts) above (moved_all AreTyped own conjuncts h.0) ha) h.1,
     )
-sifted_typed (join left right on keys) clean above ha h =
+sifted_typed (join true left right on keys) clean above ha h = (
+  beyond_typed left above ha,
+  (h.0, (sifted_typed left clean (within left above) (within_typed left above ha) h.1.0, sifted_typed right (clean && is_quiet left) [] tt h.1.1)),
+)
+sifted_typed (join false left right on keys) clean above ha h =
     let own : Bool = is_clean_on clean left right in
     let down : List Condition = moved own on ++ above in
     let hd : All down = all_joined AreTyped (moved own on) above (moved_all AreTyped own on h.0) ha in
@@ -136,13 +140,13 @@ sifted_typed (project below items) clean above ha h = (h.0, sifted_typed below c
 joins_typed : (entries : List Entry) (first next : ℕ) (node : Node) (joins : List Joined) → IsTypedPlan node → AreJoinsOver entries first next joins → IsTypedPlan (with_joins next node joins)
 joins_typed entries first next node [] p h = p
 joins_typed entries first next node (j ∷ joins) p h =
-    joins_typed entries first (next + 1) (join node (scan next j.entry.table) j.on []) joins
+    joins_typed entries first (next + 1) (join j.outer node (scan next j.entry.table) j.on []) joins
     (all_weaker (IsConditionOver (IsReached entries first (next + 1))) AreTyped (λ c k. k.0) j.on h.0, (p, tt)) h.1
 
 sources_typed : (entries : List Entry) (next : ℕ) (node : Node) (sources : List Source) → IsTypedPlan node → AreSourcesOver entries next sources → IsTypedPlan (with_sources next node sources)
 sources_typed entries next node [] p h = p
 sources_typed entries next node (source ∷ sources) p h =
-    sources_typed entries (next + length (entries_in source)) (join node (source_written next source) [] []) sources
+    sources_typed entries (next + length (entries_in source)) (join false node (source_written next source) [] []) sources
     (tt, (p, joins_typed entries next (next + 1) (scan next source.first.table) source.joins tt h.0)) h.1
 
 from_typed : (entries : List Entry) (sources : List Source) → AreSourcesOver entries 0 sources → IsTypedPlan (from_written sources)

@@ -74,26 +74,26 @@ filter_sized passes (x ∷ xs) h = one (passes x) (filter_sized passes xs h.1)
 
 module _ (entries : List Entry) (tables : List (List (List Val))) (columns : List ReadColumn)
     (sized : AllByRecursion (λ (e : Entry). AllByRecursion (λ (c : ColumnType). IsSized c.ty) e.columns) entries) (m k : ℕ) (many : length columns ≤ k) (fit : AreSizedColumns columns) where
-  abbrev looked : Node → List Condition → List ℕ → Lookup
-  looked right on keys = record { entries = entries_below right; on = on; keys = keys }
+  abbrev looked : Bool → Node → List Condition → List ℕ → Lookup
+  looked outer right on keys = record { entries = entries_below right; outer = outer; on = on; keys = keys }
 
-  module _ (left right : Node) (on : List Condition) (keys : List ℕ) (ready : IsReady entries tables columns sized (join left right on keys)) (short : length on ≤ m) where
-    sought_few : length (keys_sought (looked right on keys)) ≤ m
+  module _ (outer : Bool) (left right : Node) (on : List Condition) (keys : List ℕ) (ready : IsReady entries tables columns sized (join outer left right on keys)) (short : length on ≤ m) where
+    sought_few : length (keys_sought (looked outer right on keys)) ≤ m
     sought_few =
         subst (λ (cs : List Condition). length (map (operand_of (λ i. not (is_of (entries_below right) i))) cs) ≤ m) (sym ready.0.equal)
         (is_less (length (map (operand_of (λ i. not (is_of (entries_below right) i))) (at_keys keys 0 on))) (length (at_keys keys 0 on)) m (length-map (at_keys keys 0 on) (operand_of (λ i. not (is_of (entries_below right) i))))
         (less_trans (length (at_keys keys 0 on)) (length on) m (at_keys_few keys 0 on) short))
 
-    kept_few : length (keys_kept (looked right on keys)) ≤ m
+    kept_few : length (keys_kept (looked outer right on keys)) ≤ m
     kept_few =
         subst (λ (cs : List Condition). length (map (operand_of (is_of (entries_below right))) cs) ≤ m) (sym ready.0.equal)
         (is_less (length (map (operand_of (is_of (entries_below right))) (at_keys keys 0 on))) (length (at_keys keys 0 on)) m (length-map (at_keys keys 0 on) (operand_of (is_of (entries_below right))))
         (less_trans (length (at_keys keys 0 on)) (length on) m (at_keys_few keys 0 on) short))
 
-    columns_few : length (kept_columns columns (looked right on keys)) ≤ k
-    columns_few = less_trans (length (kept_columns columns (looked right on keys))) (length columns) k (filter_few (λ (c : ReadColumn). is_of (entries_below right) c.number) columns) many
+    columns_few : length (kept_columns columns (looked outer right on keys)) ≤ k
+    columns_few = less_trans (length (kept_columns columns (looked outer right on keys))) (length columns) k (filter_few (λ (c : ReadColumn). is_of (entries_below right) c.number) columns) many
 
-    columns_fit : AreSizedColumns (kept_columns columns (looked right on keys))
+    columns_fit : AreSizedColumns (kept_columns columns (looked outer right on keys))
     columns_fit = filter_sized (λ (c : ReadColumn). is_of (entries_below right) c.number) columns fit
 
   front_less : (xs ys : List Condition) → length (xs ++ ys) ≤ m → length xs ≤ m
@@ -107,29 +107,29 @@ module _ (entries : List Entry) (tables : List (List (List Val))) (columns : Lis
   steps_few (filter conjuncts below) next ready short =
       subst (AllByRecursion (IsFewOf m k)) (sym (spelled_append columns (split next below).last.steps (test conjuncts ∷ [])))
       (all_append (IsFewOf m k) (spelled_steps columns (split next below).last.steps) (filter_by conjuncts ∷ []) (steps_few below next ready.1 (front_less (conjuncts_of below) conjuncts short)) (tt, tt))
-  steps_few (join left right on keys) next ready short =
+  steps_few (join outer left right on keys) next ready short =
       let n : ℕ = next + length (split next right).builds in
-      let o : Operator = probe (record { table = n; key = keys_sought (looked right on keys); kept = kept_columns columns (looked right on keys); on = beside_keys keys 0 on }) in
+      let o : Operator = probe (record { table = n; outer = outer; key = keys_sought (looked outer right on keys); kept = kept_columns columns (looked outer right on keys); on = beside_keys keys 0 on }) in
       let own : length on ≤ m = back_less (conjuncts_of left ++ conjuncts_of right) on short in
       let sides : length (conjuncts_of left ++ conjuncts_of right) ≤ m = front_less (conjuncts_of left ++ conjuncts_of right) on short in
-      subst (AllByRecursion (IsFewOf m k)) (sym (spelled_append columns (split (n + 1) left).last.steps (pipes.probe n (looked right on keys) ∷ [])))
+      subst (AllByRecursion (IsFewOf m k)) (sym (spelled_append columns (split (n + 1) left).last.steps (pipes.probe n (looked outer right on keys) ∷ [])))
       (all_append (IsFewOf m k) (spelled_steps columns (split (n + 1) left).last.steps) (o ∷ []) (steps_few left (n + 1) ready.1.0 (front_less (conjuncts_of left) (conjuncts_of right) sides))
-      ((sought_few left right on keys ready own, columns_few left right on keys ready own, columns_fit left right on keys ready own), tt))
+      ((sought_few outer left right on keys ready own, columns_few outer left right on keys ready own, columns_fit outer left right on keys ready own), tt))
   steps_few (project below items) next ready short = absurd ready
 
   pub builds_few : (node : Node) (next : ℕ) → IsReady entries tables columns sized node → length (conjuncts_of node) ≤ m → AllByRecursion (IsFewCourse m k) (all_spelled columns next (split next node).builds)
   builds_few (scan entry table) next ready short = tt
   builds_few (filter conjuncts below) next ready short = builds_few below next ready.1 (front_less (conjuncts_of below) conjuncts short)
-  builds_few (join left right on keys) next ready short =
+  builds_few (join outer left right on keys) next ready short =
       let n : ℕ = next + length (split next right).builds in
       let own : length on ≤ m = back_less (conjuncts_of left ++ conjuncts_of right) on short in
       let sides : length (conjuncts_of left ++ conjuncts_of right) ≤ m = front_less (conjuncts_of left ++ conjuncts_of right) on short in
       let on_left : length (conjuncts_of left) ≤ m = front_less (conjuncts_of left) (conjuncts_of right) sides in
       let on_right : length (conjuncts_of right) ≤ m = back_less (conjuncts_of left) (conjuncts_of right) sides in
-      subst (AllByRecursion (IsFewCourse m k)) (sym (spelled_join entries tables columns sized left right on keys next))
-      (all_append (IsFewCourse m k) (all_spelled columns next (split next right).builds) (spelled columns n (building entries tables columns sized next right on keys) ∷ all_spelled columns (n + 1) (split (n + 1) left).builds)
+      subst (AllByRecursion (IsFewCourse m k)) (sym (spelled_join entries tables columns sized outer left right on keys next))
+      (all_append (IsFewCourse m k) (all_spelled columns next (split next right).builds) (spelled columns n (building entries tables columns sized next outer right on keys) ∷ all_spelled columns (n + 1) (split (n + 1) left).builds)
       (builds_few right next ready.1.1 on_right) (
-        record { operators = steps_few right next ready.1.1 on_right; sink = (kept_few left right on keys ready own, columns_few left right on keys ready own, columns_fit left right on keys ready own) },
+        record { operators = steps_few right next ready.1.1 on_right; sink = (kept_few outer left right on keys ready own, columns_few outer left right on keys ready own, columns_fit outer left right on keys ready own) },
         builds_few left (n + 1) ready.1.0 on_left,
       ))
   builds_few (project below items) next ready short = absurd ready
@@ -139,12 +139,12 @@ module _ (entries : List Entry) (tables : List (List (List Val))) (columns : Lis
 joins_count : (joins : List Joined) (next : ℕ) (node : Node) → length (conjuncts_of (with_joins next node joins)) ≡ length (conjuncts_of node) + length (flat_map (λ (j : Joined). j.on) joins)
 joins_count [] next node = omega arith
 joins_count (j ∷ joins) next node =
-    let rest : length (conjuncts_of (with_joins (next + 1) (join node (scan next j.entry.table) j.on []) joins)) ≡ length ((conjuncts_of node ++ []) ++ j.on) + length (flat_map (λ (i : Joined). i.on) joins) =
-    joins_count joins (next + 1) (join node (scan next j.entry.table) j.on []) in
+    let rest : length (conjuncts_of (with_joins (next + 1) (join j.outer node (scan next j.entry.table) j.on []) joins)) ≡ length ((conjuncts_of node ++ []) ++ j.on) + length (flat_map (λ (i : Joined). i.on) joins) =
+    joins_count joins (next + 1) (join j.outer node (scan next j.entry.table) j.on []) in
     let one = length-append (conjuncts_of node ++ []) j.on in
     let two : length (conjuncts_of node ++ []) ≡ length (conjuncts_of node) + 0 = length-append (conjuncts_of node) [] in
     let three : length (j.on ++ flat_map (λ (i : Joined). i.on) joins) ≡ length j.on + length (flat_map (λ (i : Joined). i.on) joins) = length-append j.on (flat_map (λ (i : Joined). i.on) joins) in
-    summed (length (conjuncts_of (with_joins (next + 1) (join node (scan next j.entry.table) j.on []) joins))) (length ((conjuncts_of node ++ []) ++ j.on)) (length (flat_map (λ (i : Joined). i.on) joins)) (length (conjuncts_of node ++ [])) (length j.on)
+    summed (length (conjuncts_of (with_joins (next + 1) (join j.outer node (scan next j.entry.table) j.on []) joins))) (length ((conjuncts_of node ++ []) ++ j.on)) (length (flat_map (λ (i : Joined). i.on) joins)) (length (conjuncts_of node ++ [])) (length j.on)
     (length (conjuncts_of node)) (length (j.on ++ flat_map (λ (i : Joined). i.on) joins)) rest one two three
   where
     summed : (whole a r b o c t : ℕ) → whole ≡ a + r → a ≡ b + o → b ≡ c + 0 → t ≡ o + r → whole ≡ c + t
@@ -155,13 +155,13 @@ sources_count [] next node = omega arith
 sources_count (source ∷ sources) next node =
     let first : List Condition = conjuncts_of (source_written next source) in
     let own : List Condition = flat_map (λ (j : Joined). j.on) source.joins in
-    let rest : length (conjuncts_of (with_sources (next + length (entries_in source)) (join node (source_written next source) [] []) sources)) ≡ length ((conjuncts_of node ++ first) ++ []) + length (conjuncts_on sources) =
-    sources_count sources (next + length (entries_in source)) (join node (source_written next source) [] []) in
+    let rest : length (conjuncts_of (with_sources (next + length (entries_in source)) (join false node (source_written next source) [] []) sources)) ≡ length ((conjuncts_of node ++ first) ++ []) + length (conjuncts_on sources) =
+    sources_count sources (next + length (entries_in source)) (join false node (source_written next source) [] []) in
     let here : length first ≡ 0 + length own = joins_count source.joins (next + 1) (scan next source.first.table) in
     let one : length ((conjuncts_of node ++ first) ++ []) ≡ length (conjuncts_of node ++ first) + 0 = length-append (conjuncts_of node ++ first) [] in
     let two = length-append (conjuncts_of node) first in
     let three : length (own ++ conjuncts_on sources) ≡ length own + length (conjuncts_on sources) = length-append own (conjuncts_on sources) in
-    summed (length (conjuncts_of (with_sources (next + length (entries_in source)) (join node (source_written next source) [] []) sources))) (length ((conjuncts_of node ++ first) ++ [])) (length (conjuncts_on sources)) (length first) (length own)
+    summed (length (conjuncts_of (with_sources (next + length (entries_in source)) (join false node (source_written next source) [] []) sources))) (length ((conjuncts_of node ++ first) ++ [])) (length (conjuncts_on sources)) (length first) (length own)
     (length (conjuncts_of node ++ first)) (length (conjuncts_of node)) (length (own ++ conjuncts_on sources)) rest here one two three
   where
     summed : (whole a r f o b c t : ℕ) → whole ≡ a + r → f ≡ 0 + o → a ≡ b + 0 → b ≡ c + f → t ≡ o + r → whole ≡ c + t

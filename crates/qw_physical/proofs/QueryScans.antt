@@ -43,16 +43,16 @@ module _ (P : ℕ → ℕ → Type 0) where
   last_scans : (node : Node) (next : ℕ) → AllScans P node → P (split next node).last.entry (split next node).last.table
   last_scans (scan entry table) next h = h
   last_scans (filter conjuncts below) next h = last_scans below next h
-  last_scans (join left right on keys) next h = last_scans left (next + length (split next right).builds + 1) h.0
+  last_scans (join outer left right on keys) next h = last_scans left (next + length (split next right).builds + 1) h.0
   last_scans (project below items) next h = last_scans below next h
 
   builds_scan : (node : Node) (next : ℕ) → AllScans P node → AllByRecursion (λ (p : pipes.Pipeline). P p.entry p.table) (split next node).builds
   builds_scan (scan entry table) next h = tt
   builds_scan (filter conjuncts below) next h = builds_scan below next h
-  builds_scan (join left right on keys) next h =
+  builds_scan (join outer left right on keys) next h =
       let m : ℕ = next + length (split next right).builds in
       all_append (λ (p : pipes.Pipeline). P p.entry p.table) (split next right).builds
-      (record (split next right).last { target = to_table (record { entries = entries_below right; on = on; keys = keys }) } ∷ (split (m + 1) left).builds)
+      (record (split next right).last { target = to_table (record { entries = entries_below right; outer = outer; on = on; keys = keys }) } ∷ (split (m + 1) left).builds)
       (builds_scan right next h.1) (last_scans right next h.1, builds_scan left (m + 1) h.0)
   builds_scan (project below items) next h = builds_scan below next h
 

@@ -50,8 +50,8 @@ or_right false b h = h
 scan_covers : (next table : ℕ) → Covers next (next + 1) (scan next table)
 scan_covers next table i h g = or_left (nat_eq next (i / 64)) false (nat_same next (i / 64) (omega (arith, h, g)))
 
-join_covers : (left right : Node) (on : List Condition) (keys : List ℕ) (low mid high : ℕ) → Covers low mid left → Covers mid high right → Covers low high (join left right on keys)
-join_covers left right on keys low mid high hl hr i h g = owns_join left right on keys i ∙ one (sides (i / 64) mid)
+join_covers : (outer : Bool) (left right : Node) (on : List Condition) (keys : List ℕ) (low mid high : ℕ) → Covers low mid left → Covers mid high right → Covers low high (join outer left right on keys)
+join_covers outer left right on keys low mid high hl hr i h g = owns_join outer left right on keys i ∙ one (sides (i / 64) mid)
   where
     sides : (a b : ℕ) → (a < b) ⊎ (b ≤ a)
     sides a b = grind arith
@@ -65,8 +65,8 @@ joins_cover [] first next node covers =
     let count : next ≡ next + 0 = omega arith in
     subst (λ (n : ℕ). Covers first n node) count covers
 joins_cover (j ∷ joins) first next node covers =
-    let new : Node = join node (scan next j.entry.table) j.on [] in
-    let rest = joins_cover joins first (next + 1) new (join_covers node (scan next j.entry.table) j.on [] first next (next + 1) covers (scan_covers next j.entry.table)) in
+    let new : Node = join j.outer node (scan next j.entry.table) j.on [] in
+    let rest = joins_cover joins first (next + 1) new (join_covers j.outer node (scan next j.entry.table) j.on [] first next (next + 1) covers (scan_covers next j.entry.table)) in
     let count : (next + 1) + length (map (λ (i : Joined). i.entry) joins) ≡ next + suc (length (map (λ (i : Joined). i.entry) joins)) = omega arith in
     subst (λ (n : ℕ). Covers first n (with_joins (next + 1) new joins)) count rest
 
@@ -85,8 +85,8 @@ sources_cover [] next node covers =
     subst (λ (n : ℕ). Covers 0 n node) count covers
 sources_cover (source ∷ sources) next node covers =
     let high : ℕ = next + length (entries_in source) in
-    let new : Node = join node (source_written next source) [] [] in
-    let rest = sources_cover sources high new (join_covers node (source_written next source) [] [] 0 next high covers (source_covers source next)) in
+    let new : Node = join false node (source_written next source) [] [] in
+    let rest = sources_cover sources high new (join_covers false node (source_written next source) [] [] 0 next high covers (source_covers source next)) in
     let count : high + length (entries_of sources) ≡ next + length (entries_of (source ∷ sources)) =
     counted next (length (entries_in source)) (length (entries_of sources)) (length (entries_of (source ∷ sources))) (length-append (entries_in source) (entries_of sources)) in
     subst (λ (n : ℕ). Covers 0 n (with_sources high new sources)) count rest

@@ -8,7 +8,7 @@ use Rattle.qw_types.specs.declared.code.Code.{Code}
 use Rattle.qw_types.specs.declared.schema.ColumnType.{ColumnType}
 use Rattle.qw_types.specs.declared.value.Val.{Val}
 use Rattle.qw_meaning.specs.Outcome.{IsSameOutcome, Raises, Rows, flow, outcome}
-use Rattle.qw_meaning.specs.Select.{Entry, Specification, entries_of}
+use Rattle.qw_meaning.specs.Select.{Entry, Specification, entries_in_rows, entries_of}
 use Rattle.qw_algebra.specs.Node.{Node, node_flow}
 use Rattle.qw_rewrite.specs.Sift.{sifted}
 use Rattle.qw_rewrite.proofs.Grounds.{flow_of_query, written_sized}
@@ -23,6 +23,7 @@ use Rattle.qw_physical.proofs.Building.{FeedSides, HasSide, element_at, feed_sid
 use Rattle.qw_physical.proofs.Declared.{AllScans, ScanDeclared, keyed_scans, sifted_scans, written_declared}
 use Rattle.qw_physical.proofs.Feeding.{pipelines_append}
 use Rattle.qw_physical.proofs.Orders.{Alike}
+use Rattle.qw_physical.proofs.QueryNulls.{NullAt, OuterRights, rights}
 use Rattle.qw_physical.proofs.Outcomes.{below, from, last_codes, last_fed, last_is, raises_flow, ready_below, same_outcome}
 
 -- builds, and then the last one
@@ -61,12 +62,14 @@ module _ (query : Specification) (tables : List (List (List Val))) (columns : Li
   all_feed =
       let plan : Node = below query tables columns planned.specification planned.loaded planned.sized planned.read planned.scaled in
       let start : Node = from query tables columns planned.specification planned.loaded planned.sized planned.read planned.scaled in
-      let scans : AllScans (ScanDeclared (entries_of query.sources) tables) plan =
-      keyed_scans (ScanDeclared (entries_of query.sources) tables) (sifted true [] start) true
-      (sifted_scans (ScanDeclared (entries_of query.sources) tables) start true [] (written_declared (entries_of query.sources) tables query.sources refl planned.specification.some_source planned.loaded)) in
+      let known : List Entry = entries_in_rows query.sources in
+      let scans : AllScans (ScanDeclared known tables) plan =
+      keyed_scans (ScanDeclared known tables) (sifted true [] start) true
+      (sifted_scans (ScanDeclared known tables) start true [] (written_declared tables query.sources planned.specification.some_source planned.loaded)) in
+      let nulls : OuterRights (NullAt known) plan = subst (OuterRights (NullAt known)) planned.placed (rights query tables columns node planned) in
       subst (λ (n : Node). FeedSides tables [] (builds_of columns n) (sides n)) (sym planned.placed)
-      (feed_sides (entries_of query.sources) tables columns planned.sized planned.there plan 0 [] refl
-      (ready_below query tables columns planned.specification planned.loaded planned.sized planned.read planned.scaled) scans)
+      (feed_sides (entries_of query.sources) tables columns planned.sized known planned.there plan 0 [] refl
+      (ready_below query tables columns planned.specification planned.loaded planned.sized planned.read planned.scaled) scans nulls)
 
   pub side_is : (before : List Pipeline) (p : Pipeline) (after : List Pipeline) (more : List (List (List Val))) → builds_of columns node ≡ before ++ p ∷ after → AreBuilt tables [] before more
       → (side : Node) × ((slice_get (sides node) (length before) ≡ Some side) × FeedsSide tables more p side)

@@ -1,5 +1,5 @@
 -- What holds of every conjunct of a query holds of every conjunct of its well placed plan.
-use Rattle.std.proofs.Common.{ℕ, ◌+◌, Bool, not, ◌&&◌, List, [], ◌∷◌, ◌++◌, length}
+use Rattle.std.proofs.Common.{ℕ, ◌+◌, Bool, true, false, not, ◌&&◌, List, [], ◌∷◌, ◌++◌, length}
 use Rattle.std.specs.List.{AllByRecursion, flat_map}
 use Rattle.qw_scalar.specs.Expression.{Condition}
 use Rattle.qw_leaves.proofs.LeafLists.{all_back, all_front}
@@ -17,7 +17,7 @@ module _ (P : Condition → Type 0) where
   abbrev pub Throughout : Node → Type 0
   Throughout (scan entry table) = Unit {0}
   Throughout (filter conjuncts below) = AllByRecursion P conjuncts × Throughout below
-  Throughout (join left right on keys) = AllByRecursion P on × (Throughout left × Throughout right)
+  Throughout (join outer left right on keys) = AllByRecursion P on × (Throughout left × Throughout right)
   Throughout (project below items) = Throughout below
 
   -- ---- the plan as it is written
@@ -28,12 +28,12 @@ module _ (P : Condition → Type 0) where
   joins_through : (joins : List Joined) (next : ℕ) (node : Node) → Throughout node → AllByRecursion P (on_of joins) → Throughout (with_joins next node joins)
   joins_through [] next node h g = h
   joins_through (j ∷ joins) next node h g =
-      joins_through joins (next + 1) (join node (scan next j.entry.table) j.on []) (all_front P j.on (on_of joins) g, (h, tt)) (all_back P j.on (on_of joins) g)
+      joins_through joins (next + 1) (join j.outer node (scan next j.entry.table) j.on []) (all_front P j.on (on_of joins) g, (h, tt)) (all_back P j.on (on_of joins) g)
 
   sources_through : (sources : List Source) (next : ℕ) (node : Node) → Throughout node → AllByRecursion P (conjuncts_on sources) → Throughout (with_sources next node sources)
   sources_through [] next node h g = h
   sources_through (source ∷ sources) next node h g =
-      sources_through sources (next + length (entries_in source)) (join node (source_written next source) [] [])
+      sources_through sources (next + length (entries_in source)) (join false node (source_written next source) [] [])
       (tt, (h, joins_through source.joins (next + 1) (scan next source.first.table) tt (all_front P (on_of source.joins) (conjuncts_on sources) g)))
       (all_back P (on_of source.joins) (conjuncts_on sources) g)
 
@@ -57,7 +57,17 @@ module _ (P : Condition → Type 0) where
         stayed_all P own conjuncts h.0,
         sifted_through below clean (moved own conjuncts ++ above) (all_append P (moved own conjuncts) above (moved_all P own conjuncts h.0) ha) h.1,
       )
-  sifted_through (join left right on keys) clean above ha h =
+  sifted_through (join true left right on keys) clean above ha h = (
+    all_filtered P (λ c. not (condition_names_only (owns left) c)) above ha,
+    (
+      h.0,
+      (
+        sifted_through left clean (within left above) (all_filtered P (condition_names_only (owns left)) above ha) h.1.0,
+        sifted_through right (clean && is_quiet left) [] tt h.1.1,
+      ),
+    ),
+  )
+  sifted_through (join false left right on keys) clean above ha h =
       let own : Bool = is_clean_on clean left right in
       let down : List Condition = moved own on ++ above in
       let hd : AllByRecursion P down = all_append P (moved own on) above (moved_all P own on h.0) ha in

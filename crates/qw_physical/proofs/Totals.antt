@@ -1,6 +1,6 @@
 -- Sums over lists.
-use Rattle.std.proofs.Common.{◌≡◌, ◌∙◌, ℕ, ◌+◌, ◌≤◌, Bool, true, false, if◌then◌else◌, List, [], ◌∷◌, ◌++◌, map, length, sum_by, refl, sym, ap, ap₂, arith}
-use Rattle.std.specs.List.{AllByRecursion, filter, flat_map}
+use Rattle.std.proofs.Common.{◌≡◌, ◌∙◌, ℕ, ◌+◌, ◌≤◌, Bool, true, false, ◌||◌, if◌then◌else◌, List, [], ◌∷◌, ◌++◌, map, length, sum_by, refl, sym, ap, ap₂, arith}
+use Rattle.std.specs.List.{AllByRecursion, filter, flat_map, list_any}
 use Rattle.std.specs.List.Sorted.{IsPermutation}
 use Rattle.std.proofs.lemmas.List.Sorted.{sum_by-IsPermutation}
 use Rattle.std.proofs.lemmas.List.Sums.{sum_by-cons}
@@ -68,3 +68,22 @@ total_filter f test (x ∷ xs) = one (test x) (total_filter f test xs)
 pub spend_is : {A : Type 0} (f : A → ℕ) (xs : List A) → spend f xs ≡ total (λ x. 1 + f x) xs
 spend_is f [] = refl
 spend_is f (x ∷ xs) = ap (λ n. 1 + f x + n) (spend_is f xs)
+
+pub total_zero : {A : Type 0} (xs : List A) → total (λ x. 0) xs ≡ 0
+total_zero [] = refl
+total_zero (x ∷ xs) = let rest = total_zero xs in omega (arith, rest)
+
+-- where nothing comes together, nothing comes of any
+pub total_none : {A : Type 0} (f : A → ℕ) (xs : List A) → total f xs ≤ 0 → AllByRecursion (λ x. f x ≡ 0) xs
+total_none f [] h = tt
+total_none f (x ∷ xs) h = (omega (arith, h), total_none f xs (omega (arith, h)))
+
+-- one for each that passes a test, where none does
+pub none_counted : {A : Type 0} (test : A → Bool) (xs : List A) → list_any test xs ≡ false → total (λ x. if test x then 1 else 0) xs ≡ 0
+none_counted test [] h = refl
+none_counted test (x ∷ xs) h = one (test x) (none_counted test xs) h
+  where
+    one : (b : Bool) → (list_any test xs ≡ false → total (λ y. if test y then 1 else 0) xs ≡ 0) → (b || list_any test xs) ≡ false
+        → (if b then 1 else 0) + total (λ y. if test y then 1 else 0) xs ≡ 0
+    one true rest g = absurd cc
+    one false rest g = let none = rest g in omega (arith, none)

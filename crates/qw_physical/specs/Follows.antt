@@ -7,6 +7,7 @@ use Rattle.qw_physical.specs.Physical.{Build, Operator, Pipeline, Probe, Sink, b
 
 pub record FollowsProbe (p q : Probe) : Type 0 where
   pub table : p.table ≡ q.table
+  pub outer : p.outer ≡ q.outer
   pub key : AllZip Follows p.key q.key
   pub kept : p.kept ≡ q.kept
   pub on : AllZip FollowsTruth p.on q.on

@@ -1,1 +1,2 @@
+pub mod InRows
 pub mod Spelling

@@ -10,7 +10,7 @@ use Rattle.qw_scalar.specs.Evaluation.{cell_of}
 use Rattle.qw_scalar.specs.Expression.{Expression}
 use Rattle.qw_scalar.specs.Typing.{IsValueOf, kind_of}
 use Rattle.qw_meaning.specs.From.{entry_flow}
-use Rattle.qw_meaning.specs.Select.{AreOfEntries, Entry, IsSpecification, Specification, entries_of}
+use Rattle.qw_meaning.specs.Select.{AreOfEntries, Entry, IsSpecification, Specification, entries_in_rows, entries_of}
 use Rattle.qw_algebra.specs.Node.{Node, scan, filter, join, project, node_flow}
 use Rattle.qw_rewrite.specs.Placed.{IsWellPlaced}
 use Rattle.qw_pipe.specs.Pipes.{split}
@@ -32,12 +32,12 @@ abbrev pub IsOfEntries : List Entry → ReadColumn → Type 0
 IsOfEntries entries c = column_in (slice_get entries (c.number / 64)) (c.number % 64) ≡ Some (record { ty = c.ty; not_null = c.not_null })
 
 -- The well placed plan of a query, whose equalities compare operands of one scale, over tables of its entries, whose columns are of sizes that
--- types may have, and columns of these entries, among which are all that it reads.
+-- types may have, and columns of these entries as rows of FROM have them, among which are all that it reads.
 pub record IsPlanned (query : Specification) (tables : List (List (List Val))) (columns : List ReadColumn) (node : Node) : Type 0 where
   pub specification : IsSpecification query
   pub loaded : AreOfEntries (entries_of query.sources) tables
   pub sized : AllByRecursion (λ (e : Entry). AllByRecursion (λ (c : ColumnType). IsSized c.ty) e.columns) (entries_of query.sources)
-  pub there : AllByRecursion (IsOfEntries (entries_of query.sources)) columns
+  pub there : AllByRecursion (IsOfEntries (entries_in_rows query.sources)) columns
   pub read : AreRead columns query
   pub scaled : AreScaled query
   pub placed : IsWellPlaced query node
@@ -55,7 +55,7 @@ last_of columns node = spelled columns (length (split 0 node).builds) (split 0 n
 abbrev pub sides : Node → List Node
 sides (scan entry table) = []
 sides (filter conjuncts below) = sides below
-sides (join left right on keys) = sides right ++ right ∷ sides left
+sides (join outer left right on keys) = sides right ++ right ∷ sides left
 sides (project below items) = sides below
 
 -- An entry has values of the key, each of its expression's kind and none null, and then those of the columns that are kept, each of its

@@ -49,8 +49,8 @@ AreTypedPipelines ps = AllByRecursion IsTypedPipeline ps
 abbrev pub IsTypedNode : Node → Type 0
 IsTypedNode (scan entry table) = Unit {0}
 IsTypedNode (filter_by conjuncts below) = AllByRecursion AreTyped conjuncts × IsTypedNode below
-IsTypedNode (join left right on keys) =
-    IsTypedLookup (record { entries = entries_below right; on = on; keys = keys }) × (IsTypedNode left × IsTypedNode right)
+IsTypedNode (join outer left right on keys) =
+    IsTypedLookup (record { entries = entries_below right; outer = outer; on = on; keys = keys }) × (IsTypedNode left × IsTypedNode right)
 IsTypedNode (project below items) = AllByRecursion IsValued items × IsTypedNode below
 
 -- ---- spelled out

@@ -10,7 +10,7 @@ ghost use Rattle.qw_meaning.specs.Select.{Specification};
 ghost use Rattle.qw_algebra.specs.Node.{Node, node_flow};
 ghost use Rattle.qw_pipe.specs.Pipes.{pipelines};
 ghost use Rattle.qw_physical.specs.Courses.{AreBuilt, costs, pipeline_cost, pipeline_fed};
-ghost use Rattle.qw_physical.specs.Physical.{Pipeline};
+ghost use Rattle.qw_physical.specs.Physical.{MayBeNull, Pipeline};
 ghost use Rattle.qw_physical.specs.Sides.{FeedsSide, IsApart, IsMadeFor, IsPlanned, ScansNulls, builds_of, last_of, sides};
 ghost use Rattle.qw_physical.specs.Spelled.{IsSamePipeline, all_spelled};
 ghost use Rattle.qw_physical.specs.declared.pipeline.ReadColumn.{ReadColumn};
@@ -69,4 +69,12 @@ pub fn same_pipelines()
     ensures cost { (tables built : List (List (List Val))) (p q : Pipeline) → IsSamePipeline p q → pipeline_cost tables built p ≡ pipeline_cost tables built q }
     ensures built { (tables : List (List (List Val))) (ps qs : List Pipeline) (built more : List (List (List Val))) → AllZip IsSamePipeline ps qs → AreBuilt tables built ps more → AreBuilt tables built qs more }
     ensures costs { (tables : List (List (List Val))) (ps qs : List Pipeline) (built more : List (List (List Val))) → AllZip IsSamePipeline ps qs → costs tables built ps more ≡ costs tables built qs more }
+{}
+
+/// Of the columns that entries of a LEFT JOIN's table keep none is NOT NULL in rows, where a row without a partner is null at them (7.5).
+pub fn nulls_of_left_joins()
+    ensures builds { (query : Specification) (tables : List (List (List Val))) (columns : List ReadColumn) (node : Node) → IsPlanned query tables columns node
+        → AllByRecursion (λ (p : Pipeline). AllByRecursion MayBeNull p.operators) (builds_of columns node) }
+    ensures last { (query : Specification) (tables : List (List (List Val))) (columns : List ReadColumn) (node : Node) → IsPlanned query tables columns node
+        → AllByRecursion MayBeNull (last_of columns node).operators }
 {}

@@ -22,7 +22,7 @@ pub fn pipelines_are_typed()
 pub fn one_join()
     ensures { all_spelled
         (record { number = 0; ty = Integer; not_null = false } ∷ record { number = 1; ty = Integer; not_null = false } ∷ record { number = 65; ty = Integer; not_null = false } ∷ []) 0
-        (pipelines (project (join (scan 0 3) (scan 1 4) (comparison Less (column 1 Integer) (column 65 Integer) ∷ comparison Equal (column 65 Integer) (column 1 Integer) ∷ []) (1 ∷ [])) (column 0 Integer ∷ [])))
+        (pipelines (project (join false (scan 0 3) (scan 1 4) (comparison Less (column 1 Integer) (column 65 Integer) ∷ comparison Equal (column 65 Integer) (column 1 Integer) ∷ []) (1 ∷ [])) (column 0 Integer ∷ [])))
         ≡ record {
           entry = 1;
           table = 4;
@@ -34,6 +34,7 @@ pub fn one_join()
           table = 3;
           operators = probe (record {
             table = 0;
+            outer = false;
             key = column 1 Integer ∷ [];
             kept = record { number = 65; ty = Integer; not_null = false } ∷ [];
             on = comparison Less (column 1 Integer) (column 65 Integer) ∷ [];

@@ -54,34 +54,34 @@ module _ (h : Hashing) (tables : List (List (List Val))) where
       (pipeline_units h tables built (then_step (split next below).last (test conjuncts))) (tested_units conjuncts (pipeline_flow tables built (split next below).last).rows)
       (units_of h tables below) (tested_units conjuncts (node_flow tables below).rows)
       (then_units built (split next below).last (test conjuncts)) (same_units below next start long) (ap (tested_units conjuncts) (rows_there below next start long))
-  same_units (join left right on keys) next start long =
+  same_units (join outer left right on keys) next start long =
       let m : ℕ = next + length (split next right).builds in
       let s = splits tables right next start long in
       let before : Progress = after_pipelines tables start (split next right).builds in
-      let mid : Progress = after_pipeline tables before (building tables next right on keys) in
+      let mid : Progress = after_pipeline tables before (building tables outer next right on keys) in
       let R : Flow (List Val) = pipeline_flow tables before.built (split next right).last in
       let built_before : length before.built ≡ m =
       ap (λ (p : Progress). length p.built) s.is ∙ ap length s.built ∙ length-append start.built s.own ∙ (rw (long, s.count) refl) in
       let long_mid : length mid.built ≡ m + 1 = length-append before.built (R.rows ∷ []) ∙ ap (λ k. k + 1) built_before in
       let l = splits tables left (m + 1) mid long_mid in
-      let whole : after_pipelines tables start ((split next right).builds ++ building tables next right on keys ∷ (split (m + 1) left).builds) ≡ after_pipelines tables mid (split (m + 1) left).builds =
-      pipelines_append tables start (split next right).builds (building tables next right on keys ∷ (split (m + 1) left).builds) in
+      let whole : after_pipelines tables start ((split next right).builds ++ building tables outer next right on keys ∷ (split (m + 1) left).builds) ≡ after_pipelines tables mid (split (m + 1) left).builds =
+      pipelines_append tables start (split next right).builds (building tables outer next right on keys ∷ (split (m + 1) left).builds) in
       let done : Progress = after_pipelines tables mid (split (m + 1) left).builds in
       let last : Pipeline = (split (m + 1) left).last in
       let there : get_or done.built m [] ≡ (node_flow tables right).rows =
       table_built tables before.built R.rows l.own m done.built (ap (λ (p : Progress). p.built) l.is ∙ l.built) built_before
       ∙ rows_there right next start long in
-      ap (λ (p : Progress). pipelines_units h tables start ((split next right).builds ++ building tables next right on keys ∷ (split (m + 1) left).builds)
-      + pipeline_units h tables p.built (then_step last (probe m (lookup tables right on keys)))) whole
-      ∙ two_sides (pipelines_units h tables start ((split next right).builds ++ building tables next right on keys ∷ (split (m + 1) left).builds))
+      ap (λ (p : Progress). pipelines_units h tables start ((split next right).builds ++ building tables outer next right on keys ∷ (split (m + 1) left).builds)
+      + pipeline_units h tables p.built (then_step last (probe m (lookup tables outer right on keys)))) whole
+      ∙ two_sides (pipelines_units h tables start ((split next right).builds ++ building tables outer next right on keys ∷ (split (m + 1) left).builds))
       (pipelines_units h tables start (split next right).builds) (pipeline_units h tables before.built (split next right).last)
       (pipelines_units h tables mid (split (m + 1) left).builds) (pipeline_units h tables done.built last)
-      (pipeline_units h tables done.built (then_step last (probe m (lookup tables right on keys))))
-      (table_units h (lookup tables right on keys) (pipeline_flow tables done.built last).rows (get_or done.built m []))
-      (units_of h tables left) (units_of h tables right) (table_units h (lookup tables right on keys) (node_flow tables left).rows (node_flow tables right).rows)
-      (units_append start (split next right).builds (building tables next right on keys ∷ (split (m + 1) left).builds))
-      (then_units done.built last (probe m (lookup tables right on keys))) (same_units right next start long) (same_units left (m + 1) mid long_mid)
-      (ap₂ (λ ls rs. table_units h (lookup tables right on keys) ls rs) (rows_there left (m + 1) mid long_mid) there)
+      (pipeline_units h tables done.built (then_step last (probe m (lookup tables outer right on keys))))
+      (table_units h (lookup tables outer right on keys) (pipeline_flow tables done.built last).rows (get_or done.built m []))
+      (units_of h tables left) (units_of h tables right) (table_units h (lookup tables outer right on keys) (node_flow tables left).rows (node_flow tables right).rows)
+      (units_append start (split next right).builds (building tables outer next right on keys ∷ (split (m + 1) left).builds))
+      (then_units done.built last (probe m (lookup tables outer right on keys))) (same_units right next start long) (same_units left (m + 1) mid long_mid)
+      (ap₂ (λ ls rs. table_units h (lookup tables outer right on keys) ls rs) (rows_there left (m + 1) mid long_mid) there)
   same_units (project below items) next start long =
       let built : List (List (List Val)) = (after_pipelines tables start (split next below).builds).built in
       let f : Flow (List Val) = pipeline_flow tables built (split next below).last in

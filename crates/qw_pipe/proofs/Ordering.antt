@@ -35,9 +35,9 @@ in_order (filter conjuncts below) next before e =
       tables = h.tables;
       target = h.target;
     }
-in_order (join left right on keys) next before e =
+in_order (join outer left right on keys) next before e =
     let r = in_order right next before e in
-    let lookup : Lookup = record { entries = entries_below right; on = on; keys = keys } in
+    let lookup : Lookup = record { entries = entries_below right; outer = outer; on = on; keys = keys } in
     let builds : List Pipeline = (split next right).builds in
     let built : Pipeline = record (split next right).last { target = to_table lookup } in
     let m : ℕ = next + length builds in

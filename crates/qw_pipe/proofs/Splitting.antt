@@ -1,5 +1,5 @@
 -- The pipelines of a plan come to its flow.
-use Rattle.std.proofs.Common.{arith, ◌≡◌, ◌∙◌, ℕ, ◌+◌, List, [], ◌∷◌, ◌++◌, map, length, get_or, Result, refl, sym, ap, ap₂, subst, subst₂, append-nil, append_assoc, length-append}
+use Rattle.std.proofs.Common.{arith, ◌≡◌, ◌∙◌, ℕ, ◌+◌, Bool, true, false, List, [], ◌∷◌, ◌++◌, length, get_or, Result, refl, sym, ap, ap₂, subst, subst₂, append-nil, append_assoc, length-append}
 use Rattle.std.specs.List.{flat_map}
 use Rattle.std.specs.List.Sorted.{IsPermutation}
 use Rattle.std.proofs.lemmas.List.{get_or_at}
@@ -8,7 +8,7 @@ use Rattle.qw_types.specs.declared.code.Code.{Code}
 use Rattle.qw_types.specs.declared.value.Val.{Val}
 use Rattle.qw_scalar.specs.Expression.{Condition}
 use Rattle.qw_meaning.specs.Flow.{Flow, codes_given, each, kept, rows_given, selected}
-use Rattle.qw_meaning.specs.From.{entry_flow, merged}
+use Rattle.qw_meaning.specs.From.{entry_flow, joined}
 use Rattle.qw_meaning.specs.Outcome.{IsSameOutcome, ended}
 use Rattle.qw_algebra.specs.Node.{Node, scan, filter, join, project, node_flow}
 use Rattle.qw_pipe.specs.Pipes.{Lookup, Pipeline, Progress, Step, after_pipeline, after_pipelines, make, pipeline_flow, pipelines, pipelines_flow, probe, rows_of_last, split, step_flow, steps_flow, test, then_step, to_table}
@@ -18,9 +18,17 @@ steps_more : (built : List (List (List Val))) (steps : List Step) (s : Step) (f 
 steps_more built [] s f = refl
 steps_more built (x ∷ steps) s f = steps_more built steps s (step_flow built x f)
 
--- all pairs of rows
-abbrev pairs : List (List Val) → List (List Val) → List (List Val)
-pairs ls rs = flat_map (λ row. map (merged row) rs) ls
+-- what a join comes to, by the rows of its sides alone
+abbrev pub found : (outer : Bool) → List Condition → List (List Val) → List (List Val) → Flow (List Val)
+found outer on ls rs = joined outer on (record { rows = ls; codes = [] }) (record { rows = rs; codes = [] })
+
+pub joined_rows : (outer : Bool) (on : List Condition) (one other : Flow (List Val)) → (joined outer on one other).rows ≡ (found outer on one.rows other.rows).rows
+joined_rows false on one other = refl
+joined_rows true on one other = refl
+
+pub joined_codes : (outer : Bool) (on : List Condition) (one other : Flow (List Val)) → (joined outer on one other).codes ≡ (one.codes ++ other.codes) ++ (found outer on one.rows other.rows).codes
+joined_codes false on one other = refl
+joined_codes true on one other = refl
 
 last_is : (front : List (List (List Val))) (rows : List (List Val)) → rows_of_last (front ++ rows ∷ []) ≡ rows
 last_is [] rows = refl
@@ -79,43 +87,44 @@ module _ (tables : List (List (List Val))) where
       ap (λ b. get_or b m []) (e ∙ append_assoc front (rows ∷ []) own) ∙ get_or_at front rows own [] m long
 
   -- how the right side of a join is looked up, and its pipeline, which builds it
-  abbrev pub lookup : Node → List Condition → List ℕ → Lookup
-  lookup right on keys = record { entries = entries_below right; on = on; keys = keys }
+  abbrev pub lookup : (outer : Bool) → Node → List Condition → List ℕ → Lookup
+  lookup outer right on keys = record { entries = entries_below right; outer = outer; on = on; keys = keys }
 
-  abbrev pub building : (next : ℕ) → Node → List Condition → List ℕ → Pipeline
-  building next right on keys = record (split next right).last { target = to_table (lookup right on keys) }
+  abbrev pub building : (outer : Bool) → (next : ℕ) → Node → List Condition → List ℕ → Pipeline
+  building outer next right on keys = record (split next right).last { target = to_table (lookup outer right on keys) }
 
-  splits_join : (left right : Node) (on : List Condition) (keys : List ℕ) (next : ℕ) (start : Progress) → length start.built ≡ next
+  splits_join : (outer : Bool) (left right : Node) (on : List Condition) (keys : List ℕ) (next : ℕ) (start : Progress) → length start.built ≡ next
       → (hr : Splits next right start)
-      → Splits (next + length (split next right).builds + 1) left (after_pipeline tables hr.done (building next right on keys))
-      → Splits next (join left right on keys) start
-  splits_join left right on keys next start e hr hl =
+      → Splits (next + length (split next right).builds + 1) left (after_pipeline tables hr.done (building outer next right on keys))
+      → Splits next (join outer left right on keys) start
+  splits_join outer left right on keys next start e hr hl =
       let m : ℕ = next + length (split next right).builds in
       let R : Flow (List Val) = pipeline_flow tables hr.done.built (split next right).last in
-      let mid : Progress = after_pipeline tables hr.done (building next right on keys) in
+      let mid : Progress = after_pipeline tables hr.done (building outer next right on keys) in
       let last : Pipeline = (split (m + 1) left).last in
       let P : Flow (List Val) = pipeline_flow tables hl.done.built last in
       let long : length hr.done.built ≡ m = ap length hr.built ∙ length-append start.built hr.own ∙ (rw (e, hr.count) refl) in
       let same_table : get_or hl.done.built m [] ≡ (node_flow tables right).rows =
       table_built hr.done.built R.rows hl.own m hl.done.built hl.built long ∙ hr.rows in
-      let open_is : pipeline_flow tables hl.done.built (then_step last (probe m (lookup right on keys))) ≡ step_flow hl.done.built (probe m (lookup right on keys)) P =
-      steps_more hl.done.built last.steps (probe m (lookup right on keys)) (entry_flow tables last.entry last.table) in
-      let same_pairs : pairs P.rows (get_or hl.done.built m []) ≡ pairs (node_flow tables left).rows (node_flow tables right).rows =
-      ap₂ (λ ls rs. pairs ls rs) hl.rows same_table in
+      let open_is : pipeline_flow tables hl.done.built (then_step last (probe m (lookup outer right on keys))) ≡ step_flow hl.done.built (probe m (lookup outer right on keys)) P =
+      steps_more hl.done.built last.steps (probe m (lookup outer right on keys)) (entry_flow tables last.entry last.table) in
+      let there : Flow (List Val) = record { rows = get_or hl.done.built m []; codes = [] } in
+      let same_pairs : found outer on P.rows there.rows ≡ found outer on (node_flow tables left).rows (node_flow tables right).rows =
+      ap₂ (λ ls rs. found outer on ls rs) hl.rows same_table in
       record {
         done = hl.done;
-        is = pipelines_append start (split next right).builds (building next right on keys ∷ (split (m + 1) left).builds)
-            ∙ ap (λ p. after_pipelines tables (after_pipeline tables p (building next right on keys)) (split (m + 1) left).builds) hr.is ∙ hl.is;
-        rows = ap (λ (g : Flow (List Val)). g.rows) open_is ∙ ap (λ rows. flat_map (λ row. rows_given (kept on row)) rows) same_pairs;
-        codes = subst (λ cs. IsPermutation (start.codes ++ (node_flow tables (join left right on keys)).codes) (hl.done.codes ++ cs))
-            (ap (λ rows. (P.codes ++ []) ++ flat_map (λ row. codes_given (kept on row)) rows) (sym same_pairs) ∙ ap (λ (g : Flow (List Val)). g.codes) (sym open_is))
-            (join_codes start.codes (node_flow tables left).codes (node_flow tables right).codes
-            (flat_map (λ row. codes_given (kept on row)) (pairs (node_flow tables left).rows (node_flow tables right).rows))
+        is = pipelines_append start (split next right).builds (building outer next right on keys ∷ (split (m + 1) left).builds)
+            ∙ ap (λ p. after_pipelines tables (after_pipeline tables p (building outer next right on keys)) (split (m + 1) left).builds) hr.is ∙ hl.is;
+        rows = ap (λ (g : Flow (List Val)). g.rows) open_is ∙ joined_rows outer on P there ∙ ap (λ (g : Flow (List Val)). g.rows) same_pairs
+            ∙ sym (joined_rows outer on (node_flow tables left) (node_flow tables right));
+        codes = subst₂ (λ xs ys. IsPermutation (start.codes ++ xs) (hl.done.codes ++ ys)) (sym (joined_codes outer on (node_flow tables left) (node_flow tables right)))
+            (ap (λ (g : Flow (List Val)). (P.codes ++ []) ++ g.codes) (sym same_pairs) ∙ sym (joined_codes outer on P there) ∙ ap (λ (g : Flow (List Val)). g.codes) (sym open_is))
+            (join_codes start.codes (node_flow tables left).codes (node_flow tables right).codes (found outer on (node_flow tables left).rows (node_flow tables right).rows).codes
             mid.codes hl.done.codes P.codes hr.codes hl.codes);
         own = hr.own ++ R.rows ∷ hl.own;
         built = hl.built ∙ append_assoc hr.done.built (R.rows ∷ []) hl.own ∙ ap (λ b. b ++ R.rows ∷ hl.own) hr.built ∙ append_assoc start.built hr.own (R.rows ∷ hl.own);
         count = length-append hr.own (R.rows ∷ hl.own) ∙ (rw (hr.count, hl.count) refl)
-            ∙ sym (length-append (split next right).builds (building next right on keys ∷ (split (m + 1) left).builds));
+            ∙ sym (length-append (split next right).builds (building outer next right on keys ∷ (split (m + 1) left).builds));
       }
 
   pub splits : (node : Node) (next : ℕ) (start : Progress) → length start.built ≡ next → Splits next node start
@@ -139,12 +148,12 @@ module _ (tables : List (List (List Val))) where
         built = h.built;
         count = h.count;
       }
-  splits (join left right on keys) next start e =
+  splits (join outer left right on keys) next start e =
       let hr = splits right next start e in
       let m : ℕ = next + length (split next right).builds in
       let R : Flow (List Val) = pipeline_flow tables hr.done.built (split next right).last in
-      splits_join left right on keys next start e hr
-      (splits left (m + 1) (after_pipeline tables hr.done (building next right on keys))
+      splits_join outer left right on keys next start e hr
+      (splits left (m + 1) (after_pipeline tables hr.done (building outer next right on keys))
       (length-append hr.done.built (R.rows ∷ []) ∙ ap (λ k. k + 1) (ap length hr.built ∙ length-append start.built hr.own ∙ (rw (e, hr.count) refl))))
   splits (project below items) next start e =
       let h = splits below next start e in

@@ -13,20 +13,20 @@ entry_octets kept right keys = entry_size (length keys) (kept (entries_below rig
 abbrev pub table_count : Node → ℕ
 table_count (scan entry table) = 0
 table_count (filter conjuncts below) = table_count below
-table_count (join left right on keys) = table_count left + table_count right + 1
+table_count (join outer left right on keys) = table_count left + table_count right + 1
 table_count (project below items) = table_count below
 
 -- the octets of the greatest entry
 abbrev pub greatest_entry : (kept : List ℕ → ℕ) → Node → ℕ
 greatest_entry kept (scan entry table) = 0
 greatest_entry kept (filter conjuncts below) = greatest_entry kept below
-greatest_entry kept (join left right on keys) = max (entry_octets kept right keys) (max (greatest_entry kept left) (greatest_entry kept right))
+greatest_entry kept (join outer left right on keys) = max (entry_octets kept right keys) (max (greatest_entry kept left) (greatest_entry kept right))
 greatest_entry kept (project below items) = greatest_entry kept below
 
 -- those of all directories, 4,096 each, and entries
 abbrev pub table_octets : (kept : List ℕ → ℕ) → (tables : List (List (List Val))) → Node → ℕ
 table_octets kept tables (scan entry table) = 0
 table_octets kept tables (filter conjuncts below) = table_octets kept tables below
-table_octets kept tables (join left right on keys) =
+table_octets kept tables (join outer left right on keys) =
     table_octets kept tables left + table_octets kept tables right + (4096 + length (node_flow tables right).rows * entry_octets kept right keys)
 table_octets kept tables (project below items) = table_octets kept tables below

@@ -1,15 +1,15 @@
 //! Worked cases of pipelines, with numbers. No function here computes anything.
 
-ghost use Rattle.std.specs.Prelude.{◌≡◌, pos, [], ◌∷◌};
+ghost use Rattle.std.specs.Prelude.{◌≡◌, pos, false, true, [], ◌∷◌};
 ghost use Rattle.qw_types.specs.declared.code.Code.TheVariants.{DivZero, OutOfRange};
 ghost use Rattle.qw_types.specs.declared.value.Ty.TheVariants.{Integer, Varchar};
-ghost use Rattle.qw_types.specs.declared.value.Val.TheVariants.{Num};
+ghost use Rattle.qw_types.specs.declared.value.Val.TheVariants.{Null, Num};
 ghost use Rattle.qw_scalar.specs.declared.comparison.Comparison.TheVariants.{Equal};
 ghost use Rattle.qw_scalar.specs.Expression.{column, comparison, text};
 ghost use Rattle.qw_scalar.specs.WorkedRows.{pen};
 ghost use Rattle.qw_meaning.specs.WorkedQueries.{four_tables, is_next, quotient_above_six};
 ghost use Rattle.qw_algebra.specs.Node.{filter, join, node_flow, project, scan};
-ghost use Rattle.qw_algebra.specs.WorkedPlans.{above_two, item_and_joined, next_items};
+ghost use Rattle.qw_algebra.specs.WorkedPlans.{above_two, item_and_joined, left_joined_above, next_items};
 ghost use Rattle.qw_algebra.specs.Written.{written};
 ghost use Rattle.qw_pipe.specs.Pipes.{AreOrdered, EndsInResult, make, pipelines, pipelines_flow, probe, test, to_result, to_table};
 ghost use Rattle.qw_pipe.specs.Units.{units_of};
@@ -17,70 +17,100 @@ ghost use Rattle.qw_pipe.specs.WorkedPipes.{by_number, one_slot, past_range};
 
 /// `ITEM A, ITEM B WHERE A.ID = B.ID + 1 AND A.ID > 2`, where A.ID > 2 is tested before A is joined: B is built, and A looks it up.
 pub fn one_join()
-    ensures pipelines { pipelines (project (join (filter (above_two ∷ []) (scan 0 3)) (scan 1 3) (is_next 0 64 ∷ []) (0 ∷ [])) (column 0 Integer ∷ []))
-        ≡ record { entry = 1; table = 3; steps = []; target = to_table (record { entries = 1 ∷ []; on = is_next 0 64 ∷ []; keys = 0 ∷ [] }) }
+    ensures pipelines { pipelines (project (join false (filter (above_two ∷ []) (scan 0 3)) (scan 1 3) (is_next 0 64 ∷ []) (0 ∷ [])) (column 0 Integer ∷ []))
+        ≡ record { entry = 1; table = 3; steps = []; target = to_table (record { entries = 1 ∷ []; outer = false; on = is_next 0 64 ∷ []; keys = 0 ∷ [] }) }
         ∷ record {
           entry = 0;
           table = 3;
-          steps = test (above_two ∷ []) ∷ probe 0 (record { entries = 1 ∷ []; on = is_next 0 64 ∷ []; keys = 0 ∷ [] }) ∷ make (column 0 Integer ∷ []) ∷ [];
+          steps = test (above_two ∷ []) ∷ probe 0 (record { entries = 1 ∷ []; outer = false; on = is_next 0 64 ∷ []; keys = 0 ∷ [] }) ∷ make (column 0 Integer ∷ []) ∷ [];
           target = to_result;
         } ∷ [] }
     ensures flow { pipelines_flow four_tables (pipelines (written next_items)) ≡ record { rows = (Num (pos 3) ∷ Num (pos 2) ∷ []) ∷ []; codes = [] } }
 {}
 
+/// `ITEM A LEFT JOIN ITEM B ON A.ID = B.ID + 1`: B is built, and each row of A looks it up; the first, which finds no partner, goes on by itself.
+/// `A LEFT JOIN B ON A.K = B.K + 1 WHERE 10 / (A.K - 1) > 6` raises at the two rows of A that are 1, which no row of B is beside.
+pub fn one_left_join()
+    ensures pipelines { pipelines (project (join true (scan 0 3) (scan 1 3) (is_next 0 64 ∷ []) (0 ∷ [])) (column 0 Integer ∷ column 64 Integer ∷ []))
+        ≡ record { entry = 1; table = 3; steps = []; target = to_table (record { entries = 1 ∷ []; outer = true; on = is_next 0 64 ∷ []; keys = 0 ∷ [] }) }
+        ∷ record {
+          entry = 0;
+          table = 3;
+          steps = probe 0 (record { entries = 1 ∷ []; outer = true; on = is_next 0 64 ∷ []; keys = 0 ∷ [] }) ∷ make (column 0 Integer ∷ column 64 Integer ∷ []) ∷ [];
+          target = to_result;
+        } ∷ [] }
+    ensures flow { pipelines_flow four_tables (pipelines (project (join true (scan 0 3) (scan 1 3) (is_next 0 64 ∷ []) (0 ∷ [])) (column 0 Integer ∷ column 64 Integer ∷ [])))
+        ≡ record { rows = (Num (pos 1) ∷ Null ∷ []) ∷ (Num (pos 2) ∷ Num (pos 1) ∷ []) ∷ (Num (pos 3) ∷ Num (pos 2) ∷ []) ∷ []; codes = [] } }
+    ensures behind { pipelines_flow four_tables (pipelines (written left_joined_above)) ≡ record { rows = []; codes = DivZero ∷ DivZero ∷ [] } }
+{}
+
 /// `ITEM, A JOIN B ON A.K = B.K`: B is built, A looks it up and its pairs are built, as rows of entries 1 and 2, and ITEM looks those up.
 pub fn built_of_a_join()
     ensures { pipelines (written item_and_joined)
-        ≡ record { entry = 2; table = 1; steps = []; target = to_table (record { entries = 2 ∷ []; on = comparison Equal (column 64 Integer) (column 128 Integer) ∷ []; keys = [] }) }
+        ≡ record { entry = 2; table = 1; steps = []; target = to_table (record { entries = 2 ∷ []; outer = false; on = comparison Equal (column 64 Integer) (column 128 Integer) ∷ []; keys = [] }) }
         ∷ record {
           entry = 1;
           table = 0;
-          steps = probe 0 (record { entries = 2 ∷ []; on = comparison Equal (column 64 Integer) (column 128 Integer) ∷ []; keys = [] }) ∷ [];
-          target = to_table (record { entries = 1 ∷ 2 ∷ []; on = []; keys = [] });
+          steps = probe 0 (record { entries = 2 ∷ []; outer = false; on = comparison Equal (column 64 Integer) (column 128 Integer) ∷ []; keys = [] }) ∷ [];
+          target = to_table (record { entries = 1 ∷ 2 ∷ []; outer = false; on = []; keys = [] });
         }
         ∷ record {
           entry = 0;
           table = 3;
-          steps = probe 1 (record { entries = 1 ∷ 2 ∷ []; on = []; keys = [] }) ∷ test [] ∷ make (column 0 Integer ∷ []) ∷ [];
+          steps = probe 1 (record { entries = 1 ∷ 2 ∷ []; outer = false; on = []; keys = [] }) ∷ test [] ∷ make (column 0 Integer ∷ []) ∷ [];
           target = to_result;
         } ∷ [] }
 {}
 
-/// Not in order: a pipeline that looks up a table which none built before it, and one whose table was built to be looked up by another key.
+/// Not in order: a pipeline that looks up a table which none built before it, and one whose table was built to be looked up by another key, or
+/// for an inner join where the lookup is a LEFT JOIN's.
 /// Pipelines without a last one that makes the result don't end in it.
 pub fn orders()
-    ensures not_built { AreOrdered [] (record { entry = 0; table = 0; steps = probe 0 (record { entries = 1 ∷ []; on = []; keys = [] }) ∷ []; target = to_result } ∷ []) → ⊥ }
+    ensures not_built { AreOrdered [] (record { entry = 0; table = 0; steps = probe 0 (record { entries = 1 ∷ []; outer = false; on = []; keys = [] }) ∷ []; target = to_result } ∷ []) → ⊥ }
     ensures other_key { AreOrdered []
-        (record { entry = 1; table = 1; steps = []; target = to_table (record { entries = 1 ∷ []; on = is_next 0 64 ∷ []; keys = [] }) }
-        ∷ record { entry = 0; table = 0; steps = probe 0 (record { entries = 1 ∷ []; on = is_next 0 64 ∷ []; keys = 0 ∷ [] }) ∷ []; target = to_result } ∷ []) → ⊥ }
-    ensures no_result { EndsInResult (record { entry = 1; table = 1; steps = []; target = to_table (record { entries = 1 ∷ []; on = []; keys = [] }) } ∷ []) → ⊥ }
+        (record { entry = 1; table = 1; steps = []; target = to_table (record { entries = 1 ∷ []; outer = false; on = is_next 0 64 ∷ []; keys = [] }) }
+        ∷ record { entry = 0; table = 0; steps = probe 0 (record { entries = 1 ∷ []; outer = false; on = is_next 0 64 ∷ []; keys = 0 ∷ [] }) ∷ []; target = to_result } ∷ []) → ⊥ }
+    ensures other_join { AreOrdered []
+        (record { entry = 1; table = 1; steps = []; target = to_table (record { entries = 1 ∷ []; outer = false; on = []; keys = [] }) }
+        ∷ record { entry = 0; table = 0; steps = probe 0 (record { entries = 1 ∷ []; outer = true; on = []; keys = [] }) ∷ []; target = to_result } ∷ []) → ⊥ }
+    ensures no_result { EndsInResult (record { entry = 1; table = 1; steps = []; target = to_table (record { entries = 1 ∷ []; outer = false; on = []; keys = [] }) } ∷ []) → ⊥ }
 {}
 
 /// The exceptions of the right side come first: of ITEM where 10 / (ID - 1) > 6, which raises 22012 at the first row, joined with ITEM where
-/// ID + 999999999999999999 > 0, which raises 22003 at each of its three.
+/// ID + 999999999999999999 > 0, which raises 22003 at each of its three. So it is of a LEFT JOIN, where the row that is left, 2, has no partner.
 pub fn exceptions_of_pipelines()
-    ensures of_plan { node_flow four_tables (join (filter (quotient_above_six 0 ∷ []) (scan 0 3)) (filter (past_range ∷ []) (scan 1 3)) [] [])
+    ensures of_plan { node_flow four_tables (join false (filter (quotient_above_six 0 ∷ []) (scan 0 3)) (filter (past_range ∷ []) (scan 1 3)) [] [])
         ≡ record { rows = []; codes = DivZero ∷ OutOfRange ∷ OutOfRange ∷ OutOfRange ∷ [] } }
-    ensures of_pipelines { pipelines_flow four_tables (pipelines (join (filter (quotient_above_six 0 ∷ []) (scan 0 3)) (filter (past_range ∷ []) (scan 1 3)) [] []))
+    ensures of_pipelines { pipelines_flow four_tables (pipelines (join false (filter (quotient_above_six 0 ∷ []) (scan 0 3)) (filter (past_range ∷ []) (scan 1 3)) [] []))
         ≡ record { rows = []; codes = OutOfRange ∷ OutOfRange ∷ OutOfRange ∷ DivZero ∷ [] } }
+    ensures of_left_join { node_flow four_tables (project (join true (filter (quotient_above_six 0 ∷ []) (scan 0 3)) (filter (past_range ∷ []) (scan 1 3)) [] []) (column 0 Integer ∷ []))
+        ≡ record { rows = (Num (pos 2) ∷ []) ∷ []; codes = DivZero ∷ OutOfRange ∷ OutOfRange ∷ OutOfRange ∷ [] } }
+    ensures of_its_pipelines { pipelines_flow four_tables (pipelines (project (join true (filter (quotient_above_six 0 ∷ []) (scan 0 3)) (filter (past_range ∷ []) (scan 1 3)) [] []) (column 0 Integer ∷ [])))
+        ≡ record { rows = (Num (pos 2) ∷ []) ∷ []; codes = OutOfRange ∷ OutOfRange ∷ OutOfRange ∷ DivZero ∷ [] } }
 {}
 
 /// `SELECT A.K FROM A JOIN B ON A.K = B.K`, A and B being 1, 1 and null, scans 3 rows and 3 rows, keeps 3 entries, folds 54 octets, makes 1,024
 /// slots and 4 rows, and meets each of 9 entries where all are in one slot, 5 where each number has its own; without the key it folds none and
-/// meets 9. `ITEM JOIN A ON A.K = ITEM.ID` meets 2: the operand with A's column is the table's.
+/// meets 9. As a LEFT JOIN it takes 4 more each: the turn of each of A's 3 rows by itself, and a fifth row, of null. `ITEM JOIN A ON A.K = ITEM.ID` meets 2: the operand with A's column is the table's.
 pub fn units_of_joins()
     ensures in_one_slot { units_of one_slot four_tables
-        (project (join (scan 0 0) (scan 1 1) (comparison Equal (column 0 Integer) (column 64 Integer) ∷ []) (0 ∷ [])) (column 0 Integer ∷ [])) ≡ 1100 }
+        (project (join false (scan 0 0) (scan 1 1) (comparison Equal (column 0 Integer) (column 64 Integer) ∷ []) (0 ∷ [])) (column 0 Integer ∷ [])) ≡ 1100 }
     ensures in_own_slots { units_of by_number four_tables
-        (project (join (scan 0 0) (scan 1 1) (comparison Equal (column 0 Integer) (column 64 Integer) ∷ []) (0 ∷ [])) (column 0 Integer ∷ [])) ≡ 1096 }
+        (project (join false (scan 0 0) (scan 1 1) (comparison Equal (column 0 Integer) (column 64 Integer) ∷ []) (0 ∷ [])) (column 0 Integer ∷ [])) ≡ 1096 }
     ensures no_key { units_of by_number four_tables
-        (project (join (scan 0 0) (scan 1 1) (comparison Equal (column 0 Integer) (column 64 Integer) ∷ []) []) (column 0 Integer ∷ [])) ≡ 1046 }
-    ensures sides { units_of by_number four_tables (join (scan 0 3) (scan 1 0) (comparison Equal (column 64 Integer) (column 0 Integer) ∷ []) (0 ∷ [])) ≡ 1089 }
+        (project (join false (scan 0 0) (scan 1 1) (comparison Equal (column 0 Integer) (column 64 Integer) ∷ []) []) (column 0 Integer ∷ [])) ≡ 1046 }
+    ensures outer_in_one_slot { units_of one_slot four_tables
+        (project (join true (scan 0 0) (scan 1 1) (comparison Equal (column 0 Integer) (column 64 Integer) ∷ []) (0 ∷ [])) (column 0 Integer ∷ [])) ≡ 1104 }
+    ensures outer_in_own_slots { units_of by_number four_tables
+        (project (join true (scan 0 0) (scan 1 1) (comparison Equal (column 0 Integer) (column 64 Integer) ∷ []) (0 ∷ [])) (column 0 Integer ∷ [])) ≡ 1100 }
+    ensures outer_without_key { units_of by_number four_tables
+        (project (join true (scan 0 0) (scan 1 1) (comparison Equal (column 0 Integer) (column 64 Integer) ∷ []) []) (column 0 Integer ∷ [])) ≡ 1050 }
+    ensures sides { units_of by_number four_tables (join false (scan 0 3) (scan 1 0) (comparison Equal (column 64 Integer) (column 0 Integer) ∷ []) (0 ∷ [])) ≡ 1089 }
 {}
 
 /// `SELECT ID FROM ITEM WHERE LABEL = 'pen'` scans 3 rows, compares 6 octets at each, and makes 2 rows. ITEM joined with itself by LABEL, all
 /// keys in one slot, meets 9 entries with 3 octets of the row's key, and compares 6 octets at each of 5 pairs.
 pub fn units_of_texts()
     ensures tested { units_of one_slot four_tables (project (filter (comparison Equal (column 3 (Varchar 20)) (text pen) ∷ []) (scan 0 3)) (column 0 Integer ∷ [])) ≡ 23 }
-    ensures joined { units_of one_slot four_tables (join (scan 0 3) (scan 1 3) (comparison Equal (column 3 (Varchar 20)) (column 67 (Varchar 20)) ∷ []) (0 ∷ [])) ≡ 1153 }
+    ensures joined { units_of one_slot four_tables (join false (scan 0 3) (scan 1 3) (comparison Equal (column 3 (Varchar 20)) (column 67 (Varchar 20)) ∷ []) (0 ∷ [])) ≡ 1153 }
 {}

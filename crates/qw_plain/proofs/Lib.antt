@@ -1,4 +1,5 @@
 mod Held
 mod Lists
 mod Merging
+mod Partnering
 mod Steps

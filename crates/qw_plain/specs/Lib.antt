@@ -1,3 +1,4 @@
 pub mod Answers
 pub mod Inner
+pub mod Partners
 pub mod Rows

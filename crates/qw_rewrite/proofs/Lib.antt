@@ -2,6 +2,7 @@ pub mod Below
 pub mod Grounds
 pub mod Joins
 pub mod Keys
+pub mod LeftJoins
 pub mod Lowest
 pub mod Moved
 pub mod Names

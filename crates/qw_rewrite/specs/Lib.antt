@@ -4,3 +4,4 @@ pub mod Probe
 pub mod Probed
 pub mod Sides
 pub mod Sift
+pub mod WorkedPlacing

@@ -34,7 +34,7 @@ use Rattle.qw_table.proofs.HeldKeys.{null-said}
 use Rattle.qw_table.proofs.InsertRuns.{insert_feeds}
 
 -- ---- keys without nulls
-values-later : (v : Val) (vs : List Val) → (v ≡ val.Null → ⊥) → have_values (v ∷ vs) ≡ have_values vs
+pub values-later : (v : Val) (vs : List Val) → (v ≡ val.Null → ⊥) → have_values (v ∷ vs) ≡ have_values vs
 values-later val.Null vs some = absurd (some refl)
 values-later (val.Num z) vs some = refl
 values-later (val.Date z) vs some = refl

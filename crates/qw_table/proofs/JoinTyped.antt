@@ -17,7 +17,7 @@ use Rattle.qw_table.specs.Joins.{sure, unless_null, guarded, sources_of, build_t
 use Rattle.qw_table.specs.Tables.{enter_block, insert_block, probe_block}
 use Rattle.qw_table.specs.declared.key.Field.{Field}
 
-sure_declared : (types : List ValType) (fs : List Field) → AreDeclared types fs → AreDeclared types (map sure fs)
+pub sure_declared : (types : List ValType) (fs : List Field) → AreDeclared types fs → AreDeclared types (map sure fs)
 sure_declared types [] h = tt
 sure_declared types (f ∷ fs) h = ((one f.kind h.0.0, tt), sure_declared types fs h.1)
   where
@@ -30,7 +30,7 @@ one_typed : (types : List ValType) (null : Option ℕ) (a : Statement) → Decla
 one_typed types None a is typed = typed
 one_typed types (Some n) a is typed = (is, tt, typed)
 
-guarded_typed : (types : List ValType) (fs : List Field) (a : Statement) → AreDeclared types fs → IsTyped types a → IsTyped types (guarded fs a)
+pub guarded_typed : (types : List ValType) (fs : List Field) (a : Statement) → AreDeclared types fs → IsTyped types a → IsTyped types (guarded fs a)
 guarded_typed types [] a h typed = typed
 guarded_typed types (f ∷ fs) a h typed = one_typed types f.cell.null (guarded fs a) h.0.1 (guarded_typed types fs a h.1 typed)
 
@@ -38,7 +38,7 @@ one_size : (null : Option ℕ) (a : Statement) → size (unless_null null a) ≤
 one_size None a = omega arith
 one_size (Some n) a = omega arith
 
-guarded_size : (fs : List Field) (a : Statement) → size (guarded fs a) ≤ 2 * length fs + size a
+pub guarded_size : (fs : List Field) (a : Statement) → size (guarded fs a) ≤ 2 * length fs + size a
 guarded_size [] a = omega arith
 guarded_size (f ∷ fs) a = let one = one_size f.cell.null (guarded fs a) in let rest = guarded_size fs a in omega (arith, one, rest)
 
@@ -77,7 +77,7 @@ pub cells_size : (fs : List Field) (at : ℕ) → size (cells_block at (sources_
 cells_size [] at = omega arith
 cells_size (f ∷ fs) at = let one = cell_size f.cell.null at (plain_block (Some f.kind) f.cell at) (plain_size f.kind f.cell at) in let rest = cells_size fs (at + 16) in omega (arith, one, rest)
 
-sure_many : (fs : List Field) → length (map sure fs) ≡ length fs
+pub sure_many : (fs : List Field) → length (map sure fs) ≡ length fs
 sure_many [] = refl
 sure_many (f ∷ fs) = ap suc (sure_many fs)
 
@@ -109,15 +109,16 @@ module _ (directory : ℕ) (key cells : List Field) (free : ℕ) (a : Statement)
       let whole : size body ≡ size builds.find + (18 + (size fill + 21)) = omega arith in
       subst (λ (b : Statement). size b ≤ 50 + 96 * length key + 11 * length cells) (sym builds.is) (omega (arith, guard, few, some, whole, sure_many key))
 
-module _ (directory : ℕ) (key : List Field) (free : ℕ) (found a : Statement) (probes : Probes directory key free found a) where
-  slot_within : (types : List ValType) → Declares types free probe_types → Declares types free slot_types
+-- the locals that a lookup has of its own
+module _ (free : ℕ) where
+  pub slot_within : (types : List ValType) → Declares types free probe_types → Declares types free slot_types
   slot_within types own zero t is = own 0 t is
   slot_within types own (suc zero) t is = own 1 t is
   slot_within types own (suc (suc zero)) t is = own 2 t is
   slot_within types own (suc (suc (suc zero))) t is = own 3 t is
   slot_within types own (suc (suc (suc (suc i)))) t is = cc
 
-  test_within : (types : List ValType) → Declares types free probe_types → Declares types (free + 5) test_types
+  pub test_within : (types : List ValType) → Declares types free probe_types → Declares types (free + 5) test_types
   test_within types own zero t is = subst (λ (j : ℕ). slice_get types j ≡ Some t) (omega arith) (own 5 t is)
   test_within types own (suc zero) t is = subst (λ (j : ℕ). slice_get types j ≡ Some t) (omega arith) (own 6 t is)
   test_within types own (suc (suc zero)) t is = subst (λ (j : ℕ). slice_get types j ≡ Some t) (omega arith) (own 7 t is)
@@ -129,15 +130,16 @@ module _ (directory : ℕ) (key : List Field) (free : ℕ) (found a : Statement)
   test_within types own (suc (suc (suc (suc (suc (suc (suc (suc zero)))))))) t is = subst (λ (j : ℕ). slice_get types j ≡ Some t) (omega arith) (own 13 t is)
   test_within types own (suc (suc (suc (suc (suc (suc (suc (suc (suc i))))))))) t is = cc
 
+module _ (directory : ℕ) (key : List Field) (free : ℕ) (found a : Statement) (probes : Probes directory key free found a) where
   pub probes_typed : (types : List ValType) → AreDeclared types key → slice_get types directory ≡ Some I32 → Declares types free probe_types → IsTyped types found → IsTyped types a
   probes_typed types key_is d_is own typed =
       let x_is : slice_get types (free + 4) ≡ Some I32 = own 4 I32 refl in
       let out_is : slice_get types (free + 5) ≡ Some I32 = own 5 I32 refl in
       subst (IsTyped types) (sym probes.is) (guarded_typed types key (seq probes.find (probe_block directory (free + 3) (free + 4) (record { out = local (free + 5); block = probes.test }) found)) key_is (
-        probes.finds.typed types (sure_declared types key key_is) (slot_within types own),
+        probes.finds.typed types (sure_declared types key key_is) (slot_within free types own),
         (
           (x_is, (d_is, own 3 I32 refl, refl)),
-          (x_is, (probes.tests.typed types (sure_declared types key key_is) x_is (test_within types own), ((out_is, typed, tt), (x_is, x_is)))),
+          (x_is, (probes.tests.typed types (sure_declared types key key_is) x_is (test_within free types own), ((out_is, typed, tt), (x_is, x_is)))),
         ),
       ))
 

@@ -12,3 +12,9 @@ pub mod JoinFeeds
 pub mod ProbeFeeds
 pub mod JoinClauses
 pub mod JoinTyped
+pub mod Chosen
+pub mod OuterRuns
+pub mod OuterFeeds
+pub mod OuterSteps
+pub mod OuterTyped
+pub mod OuterClauses

@@ -67,7 +67,7 @@ cells_taken Text Text' c k at zero vs also h = tt
 cells_taken Text Text' c k at (suc n) [] also h = tt
 cells_taken Text Text' c k at (suc n) (v ∷ vs) also h = (cell_map Text Text' c k at v also h.0, cells_taken Text Text' c k (at + 16) n vs also h.1)
 
-alike_taken : (key : List Field) (later : List (Option Kind)) (values : List Val) → AreOfKinds (kinds_of (sources_of key) ++ later) values → have_values (take (length key) values) ≡ true → AreAlike (map sure key) (take (length key) values)
+pub alike_taken : (key : List Field) (later : List (Option Kind)) (values : List Val) → AreOfKinds (kinds_of (sources_of key) ++ later) values → have_values (take (length key) values) ≡ true → AreAlike (map sure key) (take (length key) values)
 alike_taken [] later values of have = tt
 alike_taken (f ∷ fs) later [] of have = absurd of
 alike_taken (f ∷ fs) later (val.Null ∷ vs) of have = absurd cc

@@ -3,3 +3,4 @@ pub mod Entries
 pub mod Keys
 pub mod Joins
 pub mod Inner
+pub mod Outer

@@ -12,8 +12,10 @@
 //! - [`key`]: the fields of a key, and the block that finds its slot.
 //! - [`key_test`]: whether an entry has a key.
 //! - [`join`]: a row is entered by its key, and the entries with an equal key are met.
+//! - [`outer`]: a LEFT JOIN: what follows goes on with the entries that a row meets, or with the row alone.
 //! - [`worked_laws`]: worked cases of the definitions.
-//! - `specs/Tables`: the table and its blocks, and that it is a sink of `qw_feed`; `specs/Entries`, `specs/Keys`, `specs/Joins`: what the others promise.
+//! - `specs/Tables`: the table and its blocks, and that it is a sink of `qw_feed`; `specs/Entries`, `specs/Keys`, `specs/Joins`,
+//!   `specs/Outer`: what the others promise.
 //!
 //! An entry is entered by 25 instructions beside those of its cells, where no page is asked for, and met by 8 beside its test. The slot of a key of
 //! one number takes 97, its test 11.
@@ -26,6 +28,7 @@ pub mod insert;
 pub mod join;
 pub mod key;
 pub mod key_test;
+pub mod outer;
 pub mod probe;
 mod slot;
 pub mod worked_laws;

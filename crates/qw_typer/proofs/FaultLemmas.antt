@@ -1,5 +1,5 @@
 -- Checking construct by construct gives what is meant where there is no fault, and the first fault else.
-use Rattle.std.proofs.Common.{◌≡◌, ℕ, ◌+◌, List, [], ◌∷◌, ◌++◌, map, length, take, drop, Option, Some, None, Result, Ok, Err, refl, ap, ◌∙◌, arith, true, option_map, unwrap_or}
+use Rattle.std.proofs.Common.{◌≡◌, ℕ, ◌+◌, Bool, List, [], ◌∷◌, ◌++◌, map, length, take, drop, Option, Some, None, Result, Ok, Err, refl, ap, ◌∙◌, arith, true, option_map, unwrap_or}
 use Rattle.std.specs.Prelude.{Contains, codes}
 use Rattle.std.specs.Option.{option_map_or}
 use Rattle.qw_types.specs.declared.schema.Table.{Table}
@@ -189,14 +189,14 @@ pub filter_is : (scope : Scope) (o : Option Condition) → typed_filter scope o 
 filter_is scope None = refl
 filter_is scope (Some c) = conjuncts_is scope c
 
-abbrev joined_with : Entry → List meaning.Condition → specified.Joined
-joined_with e cs = record { entry = entry_meant e; on = cs }
+abbrev joined_with : Entry → Bool → List meaning.Condition → specified.Joined
+joined_with e outer cs = record { entry = entry_meant e; outer = outer; on = cs }
 
 abbrev source_with : Entry → List specified.Joined → specified.Source
 source_with e joins = record { first = entry_meant e; joins = joins }
 
-joined_is : (reach : List Entry) (e : Entry) (j : Joined) → typed_joined reach e j ≡ outcome (condition_faults (ungrouped reach) j.on) (joined_with e (map (condition_meant (ungrouped reach)) (conjuncts_of j.on)))
-joined_is reach e j = rw (conjuncts_is (ungrouped reach) j.on) (plain (condition_faults (ungrouped reach) j.on) (map (condition_meant (ungrouped reach)) (conjuncts_of j.on)) (joined_with e))
+joined_is : (reach : List Entry) (e : Entry) (j : Joined) → typed_joined reach e j ≡ outcome (condition_faults (ungrouped reach) j.on) (joined_with e j.outer (map (condition_meant (ungrouped reach)) (conjuncts_of j.on)))
+joined_is reach e j = rw (conjuncts_is (ungrouped reach) j.on) (plain (condition_faults (ungrouped reach) j.on) (map (condition_meant (ungrouped reach)) (conjuncts_of j.on)) (joined_with e j.outer))
 
 joins_is : (schema : List Table) (reached : List Entry) (index : ℕ) (joins : List Joined)
     → typed_joins reached (entries_from schema index (map (λ (j : Joined). j.entry) joins)) joins ≡ outcome (joins_faults schema reached index joins) (joins_meant schema reached index joins)
@@ -204,7 +204,7 @@ joins_is schema reached index [] = refl
 joins_is schema reached index (j ∷ joins) =
     let e = in_scope schema index j.entry in
     let reach = reached ++ e ∷ [] in
-    let x = joined_with e (map (condition_meant (ungrouped reach)) (conjuncts_of j.on)) in
+    let x = joined_with e j.outer (map (condition_meant (ungrouped reach)) (conjuncts_of j.on)) in
     let others = typed_joins reach (entries_from schema (index + 1) (map (λ (k : Joined). k.entry) joins)) joins in
     ap (λ (r : Result specified.Joined Fault). r >>= (λ y. others >>= (λ ys. Ok (y ∷ ys)))) (joined_is reach e j)
     ∙ ap (λ (r : Result (List specified.Joined) Fault). outcome (condition_faults (ungrouped reach) j.on) x >>= (λ y. r >>= (λ ys. Ok (y ∷ ys)))) (joins_is schema reach (index + 1) joins)

@@ -4,8 +4,8 @@ use Rattle.std.proofs.Common.{◌≡◌, ℕ, zero, suc, ◌+◌, ◌*◌, ◌�
 use Rattle.std.specs.List.{AllByRecursion}
 use Rattle.qw_token.specs.Token.{Lexeme}
 use Rattle.qw_scalar.specs.declared.expression.Operator.{Operator}
-use Rattle.qw_ast.specs.Syntax.{Expression, arithmetic, Condition, both, either, Clause, condition, expression, SelectItem, Selected, Joined, Source, Select}
-use Rattle.qw_ast.specs.ScriptGrammar.{Series, first, more, IsNothing, nothing, appended, arguments, IsResult, null_result, result, Branch, is_condition, IsBranch, branch, IsElse, no_else, else_result, branching, IsPrimary, a_number, a_string, a_date, a_column, a_qualified_column, brackets, a_searched_case, a_simple_case, a_coalesce, a_null_if, an_extract, a_row_count, a_set_function, IsFactor, unsigned_factor, signed_factor, IsTerm, IsValueExpression, IsPredicate, a_comparison, a_between, an_in, a_like, a_null_test, IsBooleanPrimary, predicate, condition_brackets, IsBooleanTest, no_test, a_test, IsBooleanFactor, no_negation, a_negation, IsBooleanTerm, IsSearchCondition, IsClause, IsNested, IsItem, item, IsSelectList, asterisk, some_items, IsFilter, unfiltered, filtered, IsHaving, no_having, a_having, IsJoined, a_joined, IsSource, a_source, AreSources, some_sources, IsSelect, a_select, IsSelectOf}
+use Rattle.qw_ast.specs.Syntax.{Expression, arithmetic, Condition, both, either, Clause, condition, expression, SelectItem, Selected, Entry, Joined, Source, Select}
+use Rattle.qw_ast.specs.ScriptGrammar.{Series, first, more, IsNothing, nothing, appended, arguments, IsResult, null_result, result, Branch, is_condition, IsBranch, branch, IsElse, no_else, else_result, branching, IsPrimary, a_number, a_string, a_date, a_column, a_qualified_column, brackets, a_searched_case, a_simple_case, a_coalesce, a_null_if, an_extract, a_row_count, a_set_function, IsFactor, unsigned_factor, signed_factor, IsTerm, IsValueExpression, IsPredicate, a_comparison, a_between, an_in, a_like, a_null_test, IsBooleanPrimary, predicate, condition_brackets, IsBooleanTest, no_test, a_test, IsBooleanFactor, no_negation, a_negation, IsBooleanTerm, IsSearchCondition, IsClause, IsNested, IsItem, item, IsSelectList, asterisk, some_items, IsFilter, unfiltered, filtered, IsHaving, no_having, a_having, IsJoined, a_joined, AreJoins, IsSource, a_source, AreSources, some_sources, IsSelect, a_select, IsSelectOf}
 use Rattle.qw_ast.specs.Limits as script
 use Rattle.qw_typer.specs.Inner.Sizes.{nodes, weight, weight_condition, weight_clause, weight_all, weight_branches}
 use Rattle.qw_typer.proofs.WeightLemmas.{weighed}
@@ -216,16 +216,21 @@ module _ (Inner : Clause → List Lexeme → List Lexeme → Type 0) (inner : (c
   few_filter _ _ _ (unfiltered rest) = omega arith
   few_filter _ _ _ (filtered c word ts rest w h) = let one = inner (condition c) ts rest h in let few = one.few in omega (arith, few)
 
-  few_joined_condition : (j : Joined) (ts rest : List Lexeme) → IsJoined Inner j ts rest → FewNodesOf j.on
+  few_joined_condition : (j : Entry × Condition) (ts rest : List Lexeme) → IsJoined Inner j ts rest → FewNodesOf j.1
   few_joined_condition _ _ _ (a_joined e c word ts us rest is_entry w h) = inner (condition c) us rest h
 
   few_joins : (js : List Joined) → AllByRecursion (λ (j : Joined). FewNodesOf j.on) js → 2 * script.over_joins weight_condition js ≤ 7 * script.over_joins script.nodes_condition js
   few_joins [] all = omega arith
   few_joins (j ∷ others) all = let few = all.0.few in let rest = few_joins others all.1 in omega (arith, few, rest)
 
+  few_in_joins : (js : List Joined) (ts rest : List Lexeme) → AreJoins Inner js ts rest → AllByRecursion (λ (j : Joined). FewNodesOf j.on) js
+  few_in_joins js ts rest h =
+      series_all (AllByRecursion (λ (j : Joined). FewNodesOf j.on)) (none_yet (λ (j : Joined). FewNodesOf j.on))
+      (λ o ks k us vs all one. all_appended (λ (j : Joined). FewNodesOf j.on) ks (record { entry = k.0; outer = o; on = k.1 }) all (few_joined_condition k us vs one)) js ts rest h
+
   few_source : (s : Source) (ts rest : List Lexeme) → IsSource Inner s ts rest → FewInSource s
   few_source _ _ _ (a_source e js ts us rest is_entry are) =
-      record { few = few_joins js (list_all (λ (j : Joined). FewNodesOf j.on) few_joined_condition js us rest are) }
+      record { few = few_joins js (few_in_joins js us rest are) }
 
   few_all_sources : (ss : List Source) → AllByRecursion FewInSource ss → 2 * script.over_sources weight_condition ss ≤ 7 * script.over_sources script.nodes_condition ss
   few_all_sources [] all = omega arith

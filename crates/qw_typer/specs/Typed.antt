@@ -94,7 +94,7 @@ conjuncts_on s = flat_map (λ (source : Source). flat_map (λ (j : Joined). conj
 abbrev pub joins_meant : List Table → (reached : List scoped.Entry) → (index : ℕ) → List Joined → List specified.Joined
 joins_meant schema reached index [] = []
 joins_meant schema reached index (j ∷ joins) =
-    record { entry = entry_meant (in_scope schema index j.entry); on = map (condition_meant (ungrouped (reached ++ in_scope schema index j.entry ∷ []))) (conjuncts_of j.on) }
+    record { entry = entry_meant (in_scope schema index j.entry); outer = j.outer; on = map (condition_meant (ungrouped (reached ++ in_scope schema index j.entry ∷ []))) (conjuncts_of j.on) }
     ∷ joins_meant schema (reached ++ in_scope schema index j.entry ∷ []) (index + 1) joins
 
 -- sources, of which the first begins with entry number `index`

@@ -1,5 +1,5 @@
 -- Tables and queries of worked cases.
-use Rattle.std.specs.Prelude.{ℕ, false, List, [], ◌∷◌, map, Option, Some, None, codes}
+use Rattle.std.specs.Prelude.{ℕ, false, true, List, [], ◌∷◌, map, Option, Some, None, codes}
 use Rattle.qw_types.specs.declared.schema.Column.{Column}
 use Rattle.qw_types.specs.declared.schema.Table.{Table}
 use Rattle.qw_types.specs.declared.value.Ty.TheVariants as type
@@ -19,6 +19,10 @@ two_tables =
     ∷ record { name = codes "B"; columns = integer_column (codes "K") ∷ integer_column (codes "Y") ∷ [] }
     ∷ []
 
+-- C (K INTEGER NOT NULL)
+abbrev pub strict_table : List Table
+strict_table = record { name = codes "C"; columns = record { name = codes "K"; ty = type.Integer; not_null = true } ∷ [] } ∷ []
+
 -- a table without an alias, and with one
 abbrev pub table : List ℕ → Entry
 table name = record { table = name; alias = None }
@@ -33,9 +37,12 @@ alone entry = record { first = entry; joins = [] }
 abbrev pub of : List ℕ → List ℕ → Expression
 of qualifier name = column (Some qualifier) name
 
--- JOIN entry ON a = b
+-- JOIN entry ON a = b, and LEFT JOIN
 abbrev pub join : Entry → Expression → Expression → Joined
-join entry a b = record { entry = entry; on = comparison Equal a b }
+join entry a b = record { entry = entry; outer = false; on = comparison Equal a b }
+
+abbrev pub left_join : Entry → Expression → Expression → Joined
+left_join entry a b = record { entry = entry; outer = true; on = comparison Equal a b }
 
 -- SELECT * FROM sources, and SELECT e FROM sources
 abbrev pub all_from : List Source → Select

@@ -1,6 +1,6 @@
 //! What holds of what queries mean. No function here computes anything.
 
-ghost use Rattle.std.specs.Prelude.{◌≡◌, ℕ, pos, false, List, [], ◌∷◌, Some, None, codes};
+ghost use Rattle.std.specs.Prelude.{◌≡◌, ℕ, pos, false, true, List, [], ◌∷◌, Some, None, codes};
 ghost use Rattle.std.specs.List.{AllByRecursion};
 ghost use Rattle.qw_types.specs.Schema.{AreColumns};
 ghost use Rattle.qw_types.specs.declared.schema.Table.{Table};
@@ -15,7 +15,7 @@ ghost use Rattle.qw_typer.specs.declared.fault.FaultKind.TheVariants.{Ambiguous,
 ghost use Rattle.qw_typer.specs.Literal.{date_of, number_of};
 ghost use Rattle.qw_typer.specs.Meant.{meant};
 ghost use Rattle.qw_typer.specs.Typed.{IsWithin, Means, item_names, items_meant, own_name, query_faults, result_names, scope_of, sources_meant};
-ghost use Rattle.qw_typer.specs.Worked.{all_from, all_in_order, alone, ascending, in_order, item_from, join, key_of, keys_of, of, table, table_as, two_tables};
+ghost use Rattle.qw_typer.specs.Worked.{all_from, all_in_order, alone, ascending, in_order, item_from, join, key_of, keys_of, left_join, of, strict_table, table, table_as, two_tables};
 
 /// A query means something exactly where it has no fault, and then one query alone, with one name for each result column and one key for
 /// each sort specification.
@@ -83,7 +83,7 @@ pub fn worked_entries()
     ensures columns { sources_meant two_tables 0 (record { first = table_as (codes "a") (codes "p"); joins = join (table_as (codes "a") (codes "q")) (of (codes "p") (codes "k")) (of (codes "q") (codes "x")) ∷ [] } ∷ [])
         ≡ record {
           first = record { table = 0; columns = record { ty = Integer; not_null = false } ∷ record { ty = Integer; not_null = false } ∷ [] };
-          joins = record { entry = record { table = 0; columns = record { ty = Integer; not_null = false } ∷ record { ty = Integer; not_null = false } ∷ [] }; on = meaning.comparison Equal (meaning.column 0 Integer) (meaning.column 65 Integer) ∷ [] } ∷ [];
+          joins = record { entry = record { table = 0; columns = record { ty = Integer; not_null = false } ∷ record { ty = Integer; not_null = false } ∷ [] }; outer = false; on = meaning.comparison Equal (meaning.column 0 Integer) (meaning.column 65 Integer) ∷ [] } ∷ [];
         } ∷ [] }
     ensures twice { query_faults two_tables (all_from (alone (table (codes "a")) ∷ alone (table (codes "A")) ∷ [])) ≡ record { kind = DuplicateAlias; name = codes "A" } ∷ [] }
     ensures aliases { query_faults two_tables (all_from (alone (table_as (codes "a") (codes "p")) ∷ alone (table_as (codes "b") (codes "p")) ∷ [])) ≡ record { kind = DuplicateAlias; name = codes "P" } ∷ [] }
@@ -124,5 +124,27 @@ pub fn worked_reach()
         ≡ record { kind = UnknownTable; name = codes "Q" } ∷ [] }
     ensures up_to_its_own { query_faults two_tables (all_from (record { first = table (codes "a"); joins = join (table (codes "b")) (of (codes "a") (codes "k")) (of (codes "b") (codes "k")) ∷ join (table_as (codes "a") (codes "q")) (of (codes "q") (codes "k")) (of (codes "b") (codes "k")) ∷ [] } ∷ [])) ≡ [] }
     ensures other_source { query_faults two_tables (all_from (alone (table_as (codes "a") (codes "p")) ∷ record { first = table (codes "a"); joins = join (table (codes "b")) (of (codes "p") (codes "k")) (of (codes "b") (codes "k")) ∷ [] } ∷ []))
+        ≡ record { kind = UnknownTable; name = codes "P" } ∷ [] }
+{}
+
+/// In `FROM A LEFT JOIN B ON A.K = B.K JOIN A AS Q ON Q.K = B.Y` the first join is an outer one and the second isn't (7.5). The ON of a LEFT
+/// JOIN reaches what one of JOIN does: the entries of its source up to its own. A column of its right side is NOT NULL as its table declares
+/// it, since rows of the table are meant.
+pub fn worked_left_joins()
+    ensures faultless { query_faults two_tables (all_from (record { first = table (codes "a"); joins = left_join (table (codes "b")) (of (codes "a") (codes "k")) (of (codes "b") (codes "k")) ∷ join (table_as (codes "a") (codes "q")) (of (codes "q") (codes "k")) (of (codes "b") (codes "y")) ∷ [] } ∷ [])) ≡ [] }
+    ensures sources { sources_meant two_tables 0 (record { first = table (codes "a"); joins = left_join (table (codes "b")) (of (codes "a") (codes "k")) (of (codes "b") (codes "k")) ∷ join (table_as (codes "a") (codes "q")) (of (codes "q") (codes "k")) (of (codes "b") (codes "y")) ∷ [] } ∷ [])
+        ≡ record {
+          first = record { table = 0; columns = record { ty = Integer; not_null = false } ∷ record { ty = Integer; not_null = false } ∷ [] };
+          joins = record { entry = record { table = 1; columns = record { ty = Integer; not_null = false } ∷ record { ty = Integer; not_null = false } ∷ [] }; outer = true; on = meaning.comparison Equal (meaning.column 0 Integer) (meaning.column 64 Integer) ∷ [] }
+              ∷ record { entry = record { table = 0; columns = record { ty = Integer; not_null = false } ∷ record { ty = Integer; not_null = false } ∷ [] }; outer = false; on = meaning.comparison Equal (meaning.column 128 Integer) (meaning.column 65 Integer) ∷ [] } ∷ [];
+        } ∷ [] }
+    ensures declared { sources_meant strict_table 0 (record { first = table_as (codes "c") (codes "p"); joins = left_join (table_as (codes "c") (codes "q")) (of (codes "p") (codes "k")) (of (codes "q") (codes "k")) ∷ [] } ∷ [])
+        ≡ record {
+          first = record { table = 0; columns = record { ty = Integer; not_null = true } ∷ [] };
+          joins = record { entry = record { table = 0; columns = record { ty = Integer; not_null = true } ∷ [] }; outer = true; on = meaning.comparison Equal (meaning.column 0 Integer) (meaning.column 64 Integer) ∷ [] } ∷ [];
+        } ∷ [] }
+    ensures behind { query_faults two_tables (all_from (record { first = table (codes "a"); joins = left_join (table (codes "b")) (of (codes "a") (codes "k")) (of (codes "q") (codes "k")) ∷ left_join (table_as (codes "a") (codes "q")) (of (codes "q") (codes "k")) (of (codes "b") (codes "k")) ∷ [] } ∷ []))
+        ≡ record { kind = UnknownTable; name = codes "Q" } ∷ [] }
+    ensures other_source { query_faults two_tables (all_from (alone (table_as (codes "a") (codes "p")) ∷ record { first = table (codes "a"); joins = left_join (table (codes "b")) (of (codes "p") (codes "k")) (of (codes "b") (codes "k")) ∷ [] } ∷ []))
         ≡ record { kind = UnknownTable; name = codes "P" } ∷ [] }
 {}

@@ -95,5 +95,9 @@ fn joined<'a>(
 {
     let on = conjuncts(alloc, &Scope::ungrouped(reach), &join.on)?;
     let entry = meant(alloc, own).map_err(|_| Refusal::NoMemory)?;
-    Ok(Joined { entry, on })
+    Ok(Joined {
+        entry,
+        outer: join.outer,
+        on,
+    })
 }

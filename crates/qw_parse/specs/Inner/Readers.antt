@@ -9,7 +9,7 @@ use Rattle.qw_ast.specs.declared.script.Sign.{Sign}
 use Rattle.qw_ast.specs.declared.script.SetFunction.{SetFunction}
 use Rattle.qw_ast.specs.declared.script.SetFunction.TheVariants.{Count, Sum, Avg, Min, Max}
 use Rattle.qw_ast.specs.Syntax.{Expression, null, number, text, date, column, signed, arithmetic, extract, searched_case, simple_case, coalesce, null_if, count_rows, set_function, Condition, comparison, between, among, is_null, both, either, negation_of, is, bracketed, Clause, condition, expression, Branching, SelectItem, Selected, all_columns, items, Entry, Joined, Source, Reference, Key, ordinal, result_column, SortSpecification, Select}
-use Rattle.qw_ast.specs.ScriptGrammar.{is_word, is_symbol, is_number, is_string, is_integer, is_regular, is_name, sign_of, addition_of, multiplication_of, comparison_of, field_of, set_function_of, truth_of, likeness, appended, is_comma, Dated, moved, arguments, Branch, is_condition, is_when, branching, is_and, is_or}
+use Rattle.qw_ast.specs.ScriptGrammar.{is_word, is_symbol, is_number, is_string, is_integer, is_regular, is_name, sign_of, addition_of, multiplication_of, comparison_of, field_of, set_function_of, truth_of, likeness, appended, is_comma, Dated, moved, arguments, Branch, is_condition, is_when, branching, is_and, is_or, with_join}
 
 abbrev pub Reader : Type 0 → Type 0
 Reader A = List Lexeme → Option (A × List Lexeme)
@@ -380,18 +380,28 @@ filter_at inner ts = option_map_or (λ us. condition_at inner us >>= (λ c. Some
 unfoldable pub entry_at : Reader Entry
 entry_at ts = token_at (octets_if is_regular) ts >>= (λ t. naming_at t.1 >>= (λ alias. Some (record { table = t.0; alias = alias.0 }, alias.1)))
 
--- JOIN, behind INNER or not
-unfoldable pub join_at : Reader (Unit {0})
-join_at ts =
-    option_map_or (λ rest. Some (tt, rest)) (word_at (codes "JOIN") ts)
-    (word_at (codes "INNER") ts >>= (λ us. word_at (codes "JOIN") us >>= (λ rest. Some (tt, rest))))
+-- the tokens behind JOIN, which may stand behind INNER
+unfoldable pub inner_join_at : List Lexeme → Option (List Lexeme)
+inner_join_at ts = option_map_or (λ rest. Some rest) (word_at (codes "JOIN") ts) (word_at (codes "INNER") ts >>= (λ us. word_at (codes "JOIN") us))
+
+-- the tokens behind LEFT JOIN or LEFT OUTER JOIN
+unfoldable pub left_join_at : List Lexeme → Option (List Lexeme)
+left_join_at ts =
+    word_at (codes "LEFT") ts >>= (λ us. option_map_or (λ rest. Some rest) (word_at (codes "JOIN") us) (word_at (codes "OUTER") us >>= (λ vs. word_at (codes "JOIN") vs)))
+
+-- JOIN with its type: whether it is outer
+unfoldable pub join_at : Reader Bool
+join_at ts = option_map_or (λ rest. Some (false, rest)) (inner_join_at ts) (left_join_at ts >>= (λ rest. Some (true, rest)))
 
 -- what stands behind JOIN
-unfoldable pub joined_at : Reader Clause → Reader Joined
-joined_at inner ts = entry_at ts >>= (λ e. word_at (codes "ON") e.1 >>= (λ us. condition_at inner us >>= (λ c. Some (record { entry = e.0; on = c.0 }, c.1))))
+unfoldable pub joined_at : Reader Clause → Reader (Entry × Condition)
+joined_at inner ts = entry_at ts >>= (λ e. word_at (codes "ON") e.1 >>= (λ us. condition_at inner us >>= (λ c. Some ((e.0, c.0), c.1))))
+
+abbrev pub join_on : Bool → List Joined → Entry × Condition → Option (List Joined)
+join_on outer js x = Some (with_join outer js x)
 
 unfoldable pub joins_at : Reader Clause → Reader (List Joined)
-joins_at inner ts = series_at (given []) join_at (joined_at inner) append ts
+joins_at inner ts = series_at (given []) join_at (joined_at inner) join_on ts
 
 unfoldable pub source_at : Reader Clause → Reader Source
 source_at inner ts = entry_at ts >>= (λ e. joins_at inner e.1 >>= (λ js. Some (record { first = e.0; joins = js.0 }, js.1)))

@@ -3,7 +3,7 @@
 ghost use Rattle.std.specs.Prelude.{◌≡◌, length, option_map, if◌then◌else◌, Some, None, false, IfOk};
 ghost use Rattle.qw_token.specs.Token.{lexeme};
 ghost use Rattle.qw_ast.specs.ScriptGrammar.{addition_of, comparison_of, field_of, is_integer, is_name, is_number, is_regular, is_string, multiplication_of, set_function_of, sign_of, truth_of};
-ghost use Rattle.qw_parse.specs.Inner.Readers.{interval_sign_at, join_at, not_at, octets_if, symbol_at, token_at, word_at};
+ghost use Rattle.qw_parse.specs.Inner.Readers.{inner_join_at, interval_sign_at, join_at, left_join_at, not_at, octets_if, symbol_at, token_at, word_at};
 ghost use Rattle.qw_parse.specs.Inner.Parser.{Passes, Reads, behind, first_of, is_there, left};
 
 use super::terminal;
@@ -75,6 +75,13 @@ impl<'a> Parser<'a> {
         ensures { option_map lexeme result ≡ first_of (behind (left self.now)) }
     {
         self.rest.get(1).copied()
+    }
+
+    /// The token behind the next two.
+    fn third(&self) -> Option<Token<'a>>
+        ensures { option_map lexeme result ≡ first_of (behind (behind (left self.now))) }
+    {
+        self.rest.get(2).copied()
     }
 
     /// Goes on behind the next token.
@@ -185,9 +192,9 @@ impl<'a> Parser<'a> {
     }
 
     /// Whether JOIN is next, behind INNER or not; it is read then.
-    #[tactic(auto, unfolding(crate::specs::Inner::Readers::join_at, crate::specs::Inner::Readers::one_at))]
-    pub(crate) fn join(&mut self) -> bool
-        ensures found { join_at (left self.old) ≡ (if result then Some (tt, left self.new) else None) }
+    #[tactic(auto, unfolding(crate::specs::Inner::Readers::inner_join_at, crate::specs::Inner::Readers::one_at))]
+    fn inner_join(&mut self) -> bool
+        ensures found { inner_join_at (left self.old) ≡ (if result then Some (left self.new) else None) }
         ensures kept { result ≡ false → left self.new ≡ left self.old }
     {
         let Some(first) = self.first() else {
@@ -206,6 +213,53 @@ impl<'a> Parser<'a> {
         self.skip();
         self.skip();
         true
+    }
+
+    /// Whether LEFT JOIN or LEFT OUTER JOIN is next; it is read then.
+    #[tactic(auto, unfolding(crate::specs::Inner::Readers::left_join_at, crate::specs::Inner::Readers::one_at))]
+    fn left_join(&mut self) -> bool
+        ensures found { left_join_at (left self.old) ≡ (if result then Some (left self.new) else None) }
+        ensures kept { result ≡ false → left self.new ≡ left self.old }
+    {
+        let (Some(first), Some(second)) = (self.first(), self.second()) else {
+            return false;
+        };
+        if !terminal::is_word(&first, b"LEFT") {
+            return false;
+        }
+        if terminal::is_word(&second, b"JOIN") {
+            self.skip();
+            self.skip();
+            return true;
+        }
+        if !terminal::is_word(&second, b"OUTER") {
+            return false;
+        }
+        let Some(third) = self.third() else {
+            return false;
+        };
+        if !terminal::is_word(&third, b"JOIN") {
+            return false;
+        }
+        self.skip();
+        self.skip();
+        self.skip();
+        true
+    }
+
+    /// Whether the join that is next is outer, if there is one; its type and JOIN are read then.
+    #[tactic(auto, unfolding(crate::specs::Inner::Readers::join_at))]
+    pub(crate) fn join(&mut self) -> Option<bool>
+        ensures found { join_at (left self.old) ≡ option_map (λ x. (x, left self.new)) result }
+        ensures kept { result ≡ None → left self.new ≡ left self.old }
+    {
+        if self.inner_join() {
+            return Some(false);
+        }
+        if self.left_join() {
+            return Some(true);
+        }
+        None
     }
 
     /// The `+` or `-` that is next, if there is one.

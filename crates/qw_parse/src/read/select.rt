@@ -122,13 +122,13 @@ impl<'a> Parser<'a> {
 
     /// Reads what stands behind JOIN.
     #[tactic(auto, unfolding(crate::specs::Inner::Readers::joined_at))]
-    fn joined(&mut self) -> Result<Joined<'a>, Stop>
-        ensures { Reads joined_of (joined_at (nested_at 33) (left self.old)) result (left self.new) }
+    fn joined(&mut self) -> Result<(Entry<'a>, Cond<'a>), Stop>
+        ensures { Reads (λ x. (entry_of x.0, condition_of x.1)) (joined_at (nested_at 33) (left self.old)) result (left self.new) }
     {
         let entry = self.entry()?;
         self.expect_word(b"ON")?;
         let on = self.condition()?;
-        Ok(Joined { entry, on })
+        Ok((entry, on))
     }
 
     /// Reads as many joins as there are.
@@ -137,9 +137,9 @@ impl<'a> Parser<'a> {
         ensures { Reads (λ js. map joined_of js.items) (joins_at (nested_at 33) (left self.old)) result (left self.new) }
     {
         let mut joins = Vec::new(self.alloc);
-        'joins: while self.join() {
-            let joined = self.joined()?;
-            push(&mut joins, joined)?;
+        'joins: while let Some(outer) = self.join() {
+            let (entry, on) = self.joined()?;
+            push(&mut joins, Joined { entry, outer, on })?;
         }
         Ok(joins)
     }

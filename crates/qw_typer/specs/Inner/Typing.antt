@@ -333,7 +333,7 @@ typed_list scope (items list) = typed_items scope list
 abbrev pub typed_joined : (reach : List Entry) → Entry → Joined → Result specified.Joined Fault
 typed_joined reach e j = do
   cs ← typed_conjuncts (ungrouped reach) j.on
-  Ok (record { entry = entry_meant e; on = cs })
+  Ok (record { entry = entry_meant e; outer = j.outer; on = cs })
 
 -- what is joined to the entries `reached`; `behind` are the entries behind them
 abbrev pub typed_joins : (reached behind : List Entry) → List Joined → Result (List specified.Joined) Fault
