@@ -1,4 +1,4 @@
--- Which words are numbers in range, values of a match of the command line, and the options of `run`.
+-- Which words are numbers in range, values of a match of the command line, the options of a run, and the words of `run` and `gen`.
 use Rattle.std.proofs.Common.{◌≡◌, ◌∙◌, ℕ, ◌<◌, ◌^◌, true, false, List, Option, Some, None, Result, Ok, Err, refl, sym, ap, arith}
 use Rattle.std.specs.Prelude.{IsErrAnd, nat_le, option_map, ◌&&◌, codes}
 use Rattle.std.specs.Option.{ok_or, option_map_or}
@@ -10,11 +10,12 @@ use Rattle.clap.specs.Words.{Row, first_of, first_value, rows_of}
 use Rattle.clap.specs.declared.parser.matches.Found.{Found}
 use Rattle.qw_types.specs.Digits.{are_digits}
 use Rattle.qw_types.proofs.DigitLemmas.{all_digits, own, some_digit}
-use Rattle.qw_command_line.specs.Words.{Reading, RunOptions, command, default_options, is_given, most_of, name_of, out_of_range, read_run, run, value_in_range, with_option, with_options}
-use Rattle.qw_command_line.specs.Inner.Values.{IsRefusal, IsValue, number_read, options_read}
+use Rattle.qw_command_line.specs.Words.{Reading, RunOptions, command, default_options, gen, gen_with, is_given, least_of, most_of, name_of, out_of_range, read_run, run, value_in_range, with_number, with_option, with_options}
+use Rattle.qw_command_line.specs.Inner.Values.{IsRefusal, IsValue, gen_read, number_read, options_read}
+use Rattle.qw_command_line.specs.declared.command.GenWords.{GenWords}
 use Rattle.qw_command_line.specs.declared.command.RunOptions.{RunOptions as ReadOptions}
 use Rattle.qw_command_line.specs.declared.command.Number.{Number}
-use Rattle.qw_command_line.specs.declared.command.Number.TheVariants.{Quantum, Pages, Steps, Statement}
+use Rattle.qw_command_line.specs.declared.command.Number.TheVariants.{Quantum, Pages, Steps, Statement, Seed, Rows}
 use Rattle.qw_command_line.specs.declared.command.WordsFault.{WordsFault}
 use Rattle.qw_command_line.specs.declared.command.WordsFault.TheVariants.{Refused, OutOfRange, NoMemory}
 
@@ -25,15 +26,17 @@ fits Quantum = search arith
 fits Pages = search arith
 fits Steps = search arith
 fits Statement = search arith
+fits Seed = search arith
+fits Rows = search arith
 
-past : (most : ℕ) (bs : List ℕ) → most < 2 ^ 64 → (digits_value 10 bs < 2 ^ 64 → ⊥) → (are_digits bs && (nat_le 1 (digits_value 10 bs) && nat_le (digits_value 10 bs) most)) ≡ false
-past most bs most_fits large = grind (arith)
+past : (least most : ℕ) (bs : List ℕ) → most < 2 ^ 64 → (digits_value 10 bs < 2 ^ 64 → ⊥) → (are_digits bs && (nat_le least (digits_value 10 bs) && nat_le (digits_value 10 bs) most)) ≡ false
+past least most bs most_fits large = grind (arith)
 
 pub none_in_range : {E : Type 0} (number : Number) (bs : List ℕ) (r : Result ℕ E) (e : E) → are_digits bs ≡ true → ParsesUnsigned 64 10 bs r → r ≡ Err e → None ≡ value_in_range number bs
 none_in_range number bs (Ok v) e digits h is = absurd cc
 none_in_range number bs (Err d) e digits h is =
     let large : digits_value 10 bs < 2 ^ 64 → ⊥ = λ small. parse_digits own 64 bs (Err d) h (all_digits bs digits) (some_digit bs digits, small) in
-    rw (past (most_of number) bs (fits number) large) refl
+    rw (past (least_of number) (most_of number) bs (fits number) large) refl
 
 -- ---- values
 
@@ -48,25 +51,31 @@ no_value f id found (Refused text) is e refusal = none_found f id found is e
 no_value f id found (OutOfRange number) is e refusal = absurd refusal
 no_value f id found NoMemory is e refusal = tt
 
--- ---- numbers that may be left out
+-- ---- numbers that words give
 
 number_is_read : (number : Number) (value : Option ℕ) (read : ℕ → Reading) → option_map_or read value (out_of_range number) ≡ number_read (ok_or value number) read
 number_is_read number None read = refl
 number_is_read number (Some value) read = refl
 
--- its word was found
+-- by its word
+word_read : (number : Number) (word : List ℕ) (value : Option ℕ) (r : Result ℕ Number) (read : ℕ → Reading) →
+    value ≡ value_in_range number word → r ≡ ok_or value number → with_number number word read ≡ number_read r read
+word_read number word value r read is answer =
+    ap (λ v. option_map_or read v (out_of_range number)) (sym is) ∙ number_is_read number value read ∙ ap (λ a. number_read a read) (sym answer)
+
+-- it may be left out, and its word was found
 pub number_found : (rows : List Row) (number : Number) (otherwise : ℕ) (name word : List ℕ) (value : Option ℕ) (r : Result ℕ Number) (read : ℕ → Reading) →
     name ≡ name_of number → first_of name rows ≡ Some word → value ≡ value_in_range number word → r ≡ ok_or value number → with_option rows number otherwise read ≡ number_read r read
 number_found rows number otherwise name word value r read named found is answer =
     let there : first_of (name_of number) rows ≡ Some word = rw named at found in
-    rw there (ap (λ v. option_map_or read v (out_of_range number)) (sym is) ∙ number_is_read number value read ∙ ap (λ a. number_read a read) (sym answer))
+    rw there (word_read number word value r read is answer)
 
 -- it wasn't
 pub number_left_out : (rows : List Row) (number : Number) (otherwise : ℕ) (name : List ℕ) (read : ℕ → Reading) →
     name ≡ name_of number → first_of name rows ≡ None → with_option rows number otherwise read ≡ read otherwise
 number_left_out rows number otherwise name read named none = rw (← named, none) refl
 
--- ---- the options of `run`
+-- ---- the options of a run
 
 -- a number is read as this, whatever is made of it
 abbrev Reads : List Row → Number → (otherwise : ℕ) → Result ℕ Number → Type 0
@@ -99,3 +108,18 @@ pub run_read : (rows : List Row) (schema folder queries : List ℕ) (r : Result 
     ((read : RunOptions → Reading) → with_options rows read ≡ options_read r read) →
     read_run rows ≡ options_read r (λ options. command (run (record { schema = schema; folder = folder; queries = queries }) options))
 run_read rows schema folder queries r s f q o = rw (s, f, q) (o _)
+
+-- ---- the words of `gen`
+
+-- its seed and its rows are in range
+pub gen_is_read : (matches : List Row) (seed_word rows_word : List ℕ) (seed_value rows_value : Option ℕ) (seed rows : ℕ) (r : Result ReadOptions Number) →
+    seed_value ≡ value_in_range Seed seed_word → Ok seed ≡ ok_or seed_value Seed → rows_value ≡ value_in_range Rows rows_word → Ok rows ≡ ok_or rows_value Rows →
+    ((read : RunOptions → Reading) → with_options matches read ≡ options_read r read) →
+    gen_with matches seed_word rows_word ≡ options_read r (λ options. command (gen seed rows options))
+gen_is_read matches seed_word rows_word seed_value rows_value seed rows r s seed_found n rows_found o =
+    word_read Seed seed_word seed_value (Ok seed) _ s seed_found ∙ (word_read Rows rows_word rows_value (Ok rows) _ n rows_found ∙ o _)
+
+-- the number that is told
+pub gen_told : (r : Result GenWords Number) (number : Number) → IsErrAnd r (λ (e : Number). e ≡ number) → out_of_range number ≡ gen_read r
+gen_told (Ok words) number h = absurd h
+gen_told (Err e) number is = rw is refl

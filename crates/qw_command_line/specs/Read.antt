@@ -1,11 +1,11 @@
 -- What `read` returns of the words of the command line.
 use Rattle.std.specs.Prelude.{◌≡◌, Result, Ok, Err}
-use Rattle.qw_command_line.specs.Words.{Command, Names, RunOptions, TextNames, run, compile, check, Reading, command, out_of_range, no_command}
+use Rattle.qw_command_line.specs.Words.{Command, Names, RunOptions, TextNames, run, compile, check, gen, Reading, command, out_of_range, no_command}
 use Rattle.qw_command_line.specs.declared.command.CompileWords.{CompileWords}
 use Rattle.qw_command_line.specs.declared.command.RunOptions.{RunOptions as ReadOptions}
 use Rattle.qw_command_line.specs.declared.command.RunWords.{RunWords}
 use Rattle.qw_command_line.specs.declared.command.Command.{Command as Read}
-use Rattle.qw_command_line.specs.declared.command.Command.TheVariants.{Run, Compile, Check}
+use Rattle.qw_command_line.specs.declared.command.Command.TheVariants.{Run, Compile, Check, Gen}
 use Rattle.qw_command_line.specs.declared.command.WordsFault.{WordsFault}
 use Rattle.qw_command_line.specs.declared.command.WordsFault.TheVariants.{Refused, OutOfRange, NoMemory}
 
@@ -25,6 +25,7 @@ abbrev pub command_of : Read → Command
 command_of (Run words) = run (names_of words) (options_of words.options)
 command_of (Compile words) = compile (texts_of words) words.statement
 command_of (Check file) = check file.now
+command_of (Gen words) = gen words.seed words.rows (options_of words.options)
 
 -- words that are read so give this answer; where memory is wanted nothing is said
 abbrev pub Answers : Reading → Result Read WordsFault → Type 0

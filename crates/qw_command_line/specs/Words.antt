@@ -9,29 +9,42 @@ use Rattle.clap.specs.Kinds.{Kinds}
 use Rattle.clap.specs.declared.builder.action.ArgAction.TheVariants.{SetTrue}
 use Rattle.qw_types.specs.Digits.{are_digits}
 use Rattle.qw_command_line.specs.declared.command.Number.{Number}
-use Rattle.qw_command_line.specs.declared.command.Number.TheVariants.{Quantum, Pages, Steps, Statement}
+use Rattle.qw_command_line.specs.declared.command.Number.TheVariants.{Quantum, Pages, Steps, Statement, Seed, Rows}
 
 -- ---- the numbers that words give
 
--- the name of a number, which is that of its option
+-- the name of a number, which is that of its option or of its place
 abbrev pub name_of : Number → Text
 name_of Quantum = codes "quantum"
 name_of Pages = codes "pages"
 name_of Steps = codes "steps"
 name_of Statement = codes "statement"
+name_of Seed = codes "SEED"
+name_of Rows = codes "ROWS"
 
--- its greatest value; the least of each is 1
+-- its least value
+abbrev pub least_of : Number → ℕ
+least_of Quantum = 1
+least_of Pages = 1
+least_of Steps = 1
+least_of Statement = 1
+least_of Seed = 0
+least_of Rows = 0
+
+-- its greatest value
 abbrev pub most_of : Number → ℕ
 most_of Quantum = 1000000000
 most_of Pages = 65535
 most_of Steps = 999999999999999999
 most_of Statement = 64
+most_of Seed = 18446744073709551615
+most_of Rows = 100000
 
 -- its value by a word, which is one or more digits and in its range
 abbrev pub value_in_range : Number → Text → Option ℕ
 value_in_range number word =
     let value = digits_value 10 word in
-    if are_digits word && (nat_le 1 value && nat_le value (most_of number)) then Some value else None
+    if are_digits word && (nat_le (least_of number) value && nat_le value (most_of number)) then Some value else None
 
 -- ---- the program in clap's terms
 
@@ -55,10 +68,13 @@ stats_option = record (new_rule (codes "stats")) { long = Some (codes "stats"); 
 abbrev pub bare_run_app : App
 bare_run_app = with_rule (with_rule (with_rule (new_app (codes "run")) (place (codes "SCHEMA"))) (place (codes "DIR"))) (place (codes "QUERIES"))
 
+-- `.. [--quantum N] [--pages N] [--steps N] [--stats]`
+abbrev pub with_run_options : App → App
+with_run_options app = with_rule (with_rule (with_rule (with_rule app (option (name_of Quantum))) (option (name_of Pages))) (option (name_of Steps))) stats_option
+
 -- `run SCHEMA DIR QUERIES [--quantum N] [--pages N] [--steps N] [--stats]`
 abbrev pub run_app : App
-run_app =
-    with_rule (with_rule (with_rule (with_rule bare_run_app (option (name_of Quantum))) (option (name_of Pages))) (option (name_of Steps))) stats_option
+run_app = with_run_options bare_run_app
 
 -- `compile SCHEMA QUERIES --statement K`
 abbrev pub compile_app : App
@@ -68,12 +84,20 @@ compile_app = with_rule (with_rule (with_rule (new_app (codes "compile")) (place
 abbrev pub check_app : App
 check_app = with_rule (new_app (codes "check")) (place (codes "MODULE"))
 
+-- `gen SEED ROWS`
+abbrev pub bare_gen_app : App
+bare_gen_app = with_rule (with_rule (new_app (codes "gen")) (place (name_of Seed))) (place (name_of Rows))
+
+-- `gen SEED ROWS [--quantum N] [--pages N] [--steps N] [--stats]`
+abbrev pub gen_app : App
+gen_app = with_run_options bare_gen_app
+
 -- one of the commands has to be given, and the words come without the program's own name
 abbrev pub bare_app : App
 bare_app = on_top (λ s. record s { no_binary_name = true; subcommand_required = true }) (new_app (codes "qwasm"))
 
 abbrev pub program : App
-program = with_subcommand (with_subcommand (with_subcommand bare_app run_app.top) compile_app.top) check_app.top
+program = with_subcommand (with_subcommand (with_subcommand (with_subcommand bare_app run_app.top) compile_app.top) check_app.top) gen_app.top
 
 -- ---- words that are read
 
@@ -83,7 +107,7 @@ pub record Names : Type 0 where
   pub folder : Text
   pub queries : Text
 
--- What `run` is given beside its files: how many pages a query may hold, how many instructions it may run, how many of them a turn has, and
+-- What `run` and `gen` are given beside their input: how many pages a query may hold, how many instructions it may run, how many of them a turn has, and
 -- whether counts of what was used are written.
 pub record RunOptions : Type 0 where
   pub pages : ℕ
@@ -91,7 +115,7 @@ pub record RunOptions : Type 0 where
   pub quantum : ℕ
   pub counts : Bool
 
--- those of `run` where no word says otherwise
+-- those where no word says otherwise
 abbrev pub default_options : RunOptions
 default_options = record { pages = 128; steps = 999999999999999999; quantum = 10000; counts = false }
 
@@ -100,11 +124,13 @@ pub record TextNames : Type 0 where
   pub schema : Text
   pub queries : Text
 
--- A command, with what it is given: `run` its files and options; `compile` the number of a statement too, counted from 1; `check` the file of a module.
+-- A command, with what it is given: `run` its files and options; `compile` the number of a statement too, counted from 1; `check` the file of a module;
+-- `gen` the seed and the number of rows of generated input, and options.
 pub data Command : Type 0 where
   run : Names → RunOptions → Command
   compile : TextNames → (statement : ℕ) → Command
   check : (file : Text) → Command
+  gen : (seed rows : ℕ) → RunOptions → Command
 
 -- How words are read: as a command; as those of one but for this number, whose word isn't digits or is out of its range; as those of no command.
 pub data Reading : Type 0 where
@@ -128,7 +154,7 @@ with_option rows number otherwise read = option_map_or (λ word. with_number num
 abbrev pub is_given : List Row → (id : Text) → Bool
 is_given rows id = option_map_or (λ text. bytes_eq text (codes "true")) (first_of id rows) false
 
--- what the options of `run` are read as, of which the first that is out of its range is told
+-- what the options of a run are read as, of which the first that is out of its range is told
 abbrev pub with_options : List Row → (RunOptions → Reading) → Reading
 with_options rows read = with_option rows Quantum default_options.quantum (λ quantum. with_option rows Pages default_options.pages (λ pages.
     with_option rows Steps default_options.steps (λ steps.
@@ -148,12 +174,20 @@ read_compile rows = with_value rows (codes "SCHEMA") (λ schema. with_value rows
 abbrev pub read_check : List Row → Reading
 read_check rows = with_value rows (codes "MODULE") (λ file. command (check file))
 
+-- those of `gen`, by the words for its seed and its rows
+abbrev pub gen_with : List Row → (seed rows : Text) → Reading
+gen_with matches seed rows = with_number Seed seed (λ seed. with_number Rows rows (λ rows. with_options matches (λ options. command (gen seed rows options))))
+
+abbrev pub read_gen : List Row → Reading
+read_gen matches = with_value matches (name_of Seed) (λ seed. with_value matches (name_of Rows) (λ rows. gen_with matches seed rows))
+
 -- the matches of the command of this name
 abbrev pub read_as : (name : Text) → List Row → Reading
 read_as name rows =
     if bytes_eq name (codes "run") then read_run rows
     else (if bytes_eq name (codes "compile") then read_compile rows
-    else (if bytes_eq name (codes "check") then read_check rows else no_command))
+    else (if bytes_eq name (codes "check") then read_check rows
+    else (if bytes_eq name (codes "gen") then read_gen rows else no_command)))
 
 -- the command that was entered, if any was
 abbrev pub read_entered : Option (Text × List Row) → Reading

@@ -1,11 +1,11 @@
 //! What words that were read ask for, and why others aren't read.
 
 ghost use Rattle.std.specs.Prelude.{◌≡◌, ◌≤◌};
-ghost use Rattle.qw_command_line.specs.Words.{most_of, name_of};
+ghost use Rattle.qw_command_line.specs.Words.{least_of, most_of, name_of};
 
 use thiserror::Error;
 
-/// A number that a word gives, from 1 to a greatest value of its own.
+/// A number that a word gives, from a least to a greatest value of its own.
 #[derive(Clone, Copy, Debug)]
 pub enum Number {
     /// How many instructions of a query have a turn.
@@ -16,10 +16,14 @@ pub enum Number {
     Steps,
     /// Which statement of a script is compiled, counted from 1.
     Statement,
+    /// What the draws of generated input begin with.
+    Seed,
+    /// How many rows of a table are generated.
+    Rows,
 }
 
 impl Number {
-    /// Its name, which is that of its option.
+    /// Its name, which is that of its option or of its place.
     pub fn name(self) -> &'static str
         ensures { result.now ≡ name_of self }
     {
@@ -28,6 +32,18 @@ impl Number {
             Number::Pages => "pages",
             Number::Steps => "steps",
             Number::Statement => "statement",
+            Number::Seed => "SEED",
+            Number::Rows => "ROWS",
+        }
+    }
+
+    /// Its least value.
+    pub fn least(self) -> u64
+        ensures { result ≡ least_of self }
+    {
+        match self {
+            Number::Quantum | Number::Pages | Number::Steps | Number::Statement => 1,
+            Number::Seed | Number::Rows => 0,
         }
     }
 
@@ -40,11 +56,13 @@ impl Number {
             Number::Pages => 65_535,
             Number::Steps => 999_999_999_999_999_999,
             Number::Statement => 64,
+            Number::Seed => 18_446_744_073_709_551_615,
+            Number::Rows => 100_000,
         }
     }
 }
 
-/// What `run` is given beside its files, each in its range.
+/// What `run` and `gen` are given beside their input, each in its range.
 #[derive(Clone, Copy, Debug)]
 pub struct RunOptions {
     /// How many pages of 65,536 octets a query may hold.
@@ -64,7 +82,7 @@ pub struct RunOptions {
     ghost few_quantum: { quantum ≤ 1000000000 },
 }
 
-/// The options of `run` where no word says otherwise.
+/// The options of `run` and `gen` where no word says otherwise.
 pub const DEFAULT_OPTIONS: RunOptions = RunOptions {
     pages: 128,
     steps: 999_999_999_999_999_999,
@@ -96,6 +114,17 @@ pub struct CompileWords<'a> {
     pub statement: u64,
 }
 
+/// The words of `gen`.
+#[derive(Clone, Copy, Debug)]
+pub struct GenWords {
+    /// What the draws of the generated input begin with.
+    pub seed: u64,
+    /// How many rows of SALE are generated, at most 100,000.
+    pub rows: u32,
+    /// What else it is given.
+    pub options: RunOptions,
+}
+
 /// A command, with the words that belong to it.
 #[derive(Clone, Copy, Debug)]
 pub enum Command<'a> {
@@ -105,6 +134,8 @@ pub enum Command<'a> {
     Compile(CompileWords<'a>),
     /// `check`: the file of this name is checked to be a valid module.
     Check(&'a str),
+    /// `gen`: the queries of generated input are run over its tables, and their rows reported.
+    Gen(GenWords),
 }
 
 /// Why words aren't read.

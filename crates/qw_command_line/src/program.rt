@@ -24,32 +24,15 @@ pub(crate) fn program<'a>(alloc: Global) -> Result<Command<'a>, AllocError>
         .bin_name("qwasm")?;
     let program = program.subcommand(run(alloc)?)?;
     let program = program.subcommand(compile(alloc)?)?;
-    program.subcommand(check(alloc)?)
+    let program = program.subcommand(check(alloc)?)?;
+    program.subcommand(generate(alloc)?)
 }
 
 /// `run SCHEMA DIR QUERIES [--quantum N] [--pages N] [--steps N] [--stats]`.
 fn run<'a>(alloc: Global) -> Result<Command<'a>, AllocError>
     ensures { IfOk result (λ run. IsApp run spec.run_app) }
 {
-    let run = with_option(
-        alloc,
-        bare_run(alloc)?,
-        Number::Quantum.name(),
-        "Instructions of a query in one turn, 1 to 1000000000 [default: 10000]",
-    )?;
-    let run = with_option(
-        alloc,
-        run,
-        Number::Pages.name(),
-        "Pages of 65536 octets that a query may hold, 1 to 65535 [default: 128]",
-    )?;
-    let run = with_option(
-        alloc,
-        run,
-        Number::Steps.name(),
-        "Instructions that a query may run [default: 999999999999999999]",
-    )?;
-    with_stats(alloc, run)
+    with_run_options(alloc, bare_run(alloc)?)
 }
 
 /// `run SCHEMA DIR QUERIES`.
@@ -114,6 +97,59 @@ fn check<'a>(alloc: Global) -> Result<Command<'a>, AllocError>
         "MODULE",
         "The file of the module, in the binary format",
     )
+}
+
+/// `gen SEED ROWS [--quantum N] [--pages N] [--steps N] [--stats]`.
+fn generate<'a>(alloc: Global) -> Result<Command<'a>, AllocError>
+    ensures { IfOk result (λ generate. IsApp generate spec.gen_app) }
+{
+    with_run_options(alloc, bare_generate(alloc)?)
+}
+
+/// `gen SEED ROWS`.
+fn bare_generate<'a>(alloc: Global) -> Result<Command<'a>, AllocError>
+    ensures { IfOk result (λ generate. IsApp generate spec.bare_gen_app) }
+{
+    let generate = Command::new(alloc, "gen").about(
+        "Runs three queries over generated tables, and reports their rows",
+    );
+    let generate = with_place(
+        alloc,
+        generate,
+        Number::Seed.name(),
+        "The number that rows are drawn by, 0 to 18446744073709551615",
+    )?;
+    with_place(
+        alloc,
+        generate,
+        Number::Rows.name(),
+        "How many rows of SALE are generated, 0 to 100000",
+    )
+}
+
+/// The command with the options of runs.
+fn with_run_options<'a>(alloc: Global, command: Command<'a>) -> Result<Command<'a>, AllocError>
+    ensures { IfOk result (λ more. (app : App) → IsApp command.entry app → IsApp more (spec.with_run_options app)) }
+{
+    let command = with_option(
+        alloc,
+        command,
+        Number::Quantum.name(),
+        "Instructions of a query in one turn, 1 to 1000000000 [default: 10000]",
+    )?;
+    let command = with_option(
+        alloc,
+        command,
+        Number::Pages.name(),
+        "Pages of 65536 octets that a query may hold, 1 to 65535 [default: 128]",
+    )?;
+    let command = with_option(
+        alloc,
+        command,
+        Number::Steps.name(),
+        "Instructions that a query may run [default: 999999999999999999]",
+    )?;
+    with_stats(alloc, command)
 }
 
 /// The command with one more place, which has to be filled, and a line of help on it.

@@ -3,12 +3,12 @@
 ghost use Rattle.std.specs.Prelude.{◌≡◌, ◌≤◌, ℕ, map, IfOk};
 ghost use Rattle.std.specs.String.{string_bytes};
 ghost use Rattle.clap.specs.Words.{first_of, found_of, kind_of, rows_of, subcommand_rows_of};
-ghost use Rattle.qw_command_line.specs.Inner.Values.{IsRefusal, IsValue, number_read, options_read};
+ghost use Rattle.qw_command_line.specs.Inner.Values.{IsRefusal, IsValue, gen_read, number_read, options_read};
 ghost use Rattle.qw_command_line.specs.Read.{Answers};
 ghost use Rattle.qw_command_line.specs.Words as spec;
 
 use crate::command::{
-    Command, CompileWords, DEFAULT_OPTIONS, Number, RunOptions, RunWords, WordsFault,
+    Command, CompileWords, DEFAULT_OPTIONS, GenWords, Number, RunOptions, RunWords, WordsFault,
 };
 use crate::program::program;
 use clap::error::ErrorKind;
@@ -21,7 +21,8 @@ use std::alloc::Global;
 /// # Errors
 ///
 /// `Refused` where `clap` takes them for no command of the program, with its text; `OutOfRange` where it does, and the word for this
-/// number isn't one or more digits with a value in its range, those for `quantum`, `pages` and `steps` being read in this order; `NoMemory`.
+/// number isn't one or more digits with a value in its range, those for `SEED`, `ROWS`, `quantum`, `pages` and `steps` being read in this order;
+/// `NoMemory`.
 pub fn read<'a>(alloc: Global, words: &'a [String]) -> Result<Command<'a>, WordsFault>
     ensures { Answers (spec.reading (map string_bytes words.entry.now)) result }
 {
@@ -75,6 +76,9 @@ fn read_as<'a>(
     if name == "check" {
         return read_check(alloc, matches);
     }
+    if name == "gen" {
+        return read_gen(alloc, matches);
+    }
     Err(no_command(alloc))
 }
 
@@ -121,6 +125,32 @@ fn read_check<'a>(alloc: Global, matches: &ArgMatches<'a>) -> Result<Command<'a>
     Ok(Command::Check(file))
 }
 
+/// The matches of `gen`.
+fn read_gen<'a>(alloc: Global, matches: &ArgMatches<'a>) -> Result<Command<'a>, WordsFault>
+    ensures { Answers (spec.read_gen (rows_of (found_of matches.now))) result }
+{
+    let seed = value(alloc, matches, Number::Seed.name())?;
+    let rows = value(alloc, matches, Number::Rows.name())?;
+    match gen_words(matches, seed, rows) {
+        Ok(words) => Ok(Command::Gen(words)),
+        Err(number) => Err(WordsFault::OutOfRange(number)),
+    }
+}
+
+/// What `gen` is given, by the words for its seed and its rows.
+fn gen_words(matches: &ArgMatches, seed: &str, rows: &str) -> Result<GenWords, Number>
+    ensures { spec.gen_with (rows_of (found_of matches.now)) seed.now rows.now ≡ gen_read result }
+{
+    let seed = value_in_range(Number::Seed, seed).ok_or(Number::Seed)?;
+    let rows = value_in_range(Number::Rows, rows).ok_or(Number::Rows)?;
+    let options = options_of(matches)?;
+    Ok(GenWords {
+        seed,
+        rows: rows as u32,
+        options,
+    })
+}
+
 /// The value of a place or an option of a command. `clap` takes no words that leave one without, so it is always there.
 fn value<'a>(alloc: Global, matches: &ArgMatches<'a>, id: &str) -> Result<&'a str, WordsFault>
     ensures { IsValue result (first_of id.now (rows_of (found_of matches.now))) }
@@ -141,7 +171,7 @@ fn no_command(alloc: Global) -> WordsFault
     }
 }
 
-/// The options of `run`.
+/// The options of a run.
 fn options_of(matches: &ArgMatches) -> Result<RunOptions, Number>
     ensures { (read : spec.RunOptions → spec.Reading) → spec.with_options (rows_of (found_of matches.now)) read ≡ options_read result read }
 {
@@ -162,10 +192,10 @@ fn options_of(matches: &ArgMatches) -> Result<RunOptions, Number>
 ///
 /// The number where its word isn't digits, or out of its range.
 fn number_of(matches: &ArgMatches, number: Number, otherwise: u64) -> Result<u64, Number>
-    requires least { 1 ≤ otherwise }
+    requires least { spec.least_of number ≤ otherwise }
     requires most { otherwise ≤ spec.most_of number }
     ensures reads { (read : ℕ → spec.Reading) → spec.with_option (rows_of (found_of matches.now)) number otherwise read ≡ number_read result read }
-    ensures least { IfOk result (λ value. 1 ≤ value) }
+    ensures least { IfOk result (λ value. spec.least_of number ≤ value) }
     ensures most { IfOk result (λ value. value ≤ spec.most_of number) }
 {
     match matches.get_str(number.name()) {
@@ -194,7 +224,7 @@ fn value_in_range(number: Number, word: &str) -> Option<u64>
     let Ok(value) = word.parse::<u64>() else {
         return None;
     };
-    if 1 <= value && value <= number.most() {
+    if number.least() <= value && value <= number.most() {
         Some(value)
     } else {
         None

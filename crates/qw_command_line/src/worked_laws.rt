@@ -3,9 +3,9 @@
 ghost use Rattle.std.specs.Prelude.{◌≡◌, ◌-◌, ◌^◌, [], ◌∷◌, codes, true, false};
 ghost use Rattle.qw_command_line.specs.Words as spec;
 ghost use Rattle.qw_command_line.specs.Worked.{run_with, runs};
-ghost use Rattle.qw_command_line.specs.declared.command.Number.TheVariants.{Quantum, Pages, Steps, Statement};
+ghost use Rattle.qw_command_line.specs.declared.command.Number.TheVariants.{Quantum, Pages, Steps, Statement, Seed, Rows};
 
-/// Words of each command, and words that are refused: the number of a statement may have leading zeros, but no sign, and is from 1
+/// Words of `run`, `compile` and `check`, and words that are refused: the number of a statement may have leading zeros, but no sign, and is from 1
 /// to 64; the option stands anywhere, with or without `=`; `run` has its default options; a request for help is none of the commands.
 pub fn worked_words()
     ensures run { spec.reading (codes "run" ∷ codes "s" ∷ codes "d" ∷ codes "q" ∷ []) ≡ spec.command (spec.run (record { schema = codes "s"; folder = codes "d"; queries = codes "q" }) spec.default_options) }
@@ -22,7 +22,26 @@ pub fn worked_words()
     ensures too_many { spec.reading (codes "check" ∷ codes "m" ∷ codes "n" ∷ []) ≡ spec.no_command }
     ensures option { spec.reading (codes "run" ∷ codes "-s" ∷ codes "d" ∷ codes "q" ∷ []) ≡ spec.no_command }
     ensures help { spec.reading (codes "check" ∷ codes "--help" ∷ []) ≡ spec.no_command }
-    ensures other { spec.reading (codes "gen" ∷ codes "7" ∷ codes "0" ∷ []) ≡ spec.no_command }
+    ensures other { spec.reading (codes "generate" ∷ codes "7" ∷ codes "0" ∷ []) ≡ spec.no_command }
+{}
+
+/// Words of `gen`: both ends of the ranges of its seed and of its rows, and words beside them; its options, which are those of `run`; and of several
+/// numbers the first of the seed, the rows and the options is told.
+pub fn worked_generation()
+    ensures least { spec.reading (codes "gen" ∷ codes "0" ∷ codes "0" ∷ []) ≡ spec.command (spec.gen 0 0 spec.default_options) }
+    ensures greatest { spec.reading (codes "gen" ∷ codes "18446744073709551615" ∷ codes "100000" ∷ []) ≡ spec.command (spec.gen (2 ^ 64 - 1) (10 ^ 5) spec.default_options) }
+    ensures large_seed { spec.reading (codes "gen" ∷ codes "18446744073709551616" ∷ codes "0" ∷ []) ≡ spec.out_of_range Seed }
+    ensures many_rows { spec.reading (codes "gen" ∷ codes "0" ∷ codes "100001" ∷ []) ≡ spec.out_of_range Rows }
+    ensures letters { spec.reading (codes "gen" ∷ codes "seed" ∷ codes "0" ∷ []) ≡ spec.out_of_range Seed }
+    ensures sign { spec.reading (codes "gen" ∷ codes "0" ∷ codes "+1" ∷ []) ≡ spec.out_of_range Rows }
+    ensures below { spec.reading (codes "gen" ∷ codes "-1" ∷ codes "0" ∷ []) ≡ spec.no_command }
+    ensures first { spec.reading (codes "gen" ∷ codes "x" ∷ codes "x" ∷ codes "--pages=0" ∷ []) ≡ spec.out_of_range Seed }
+    ensures second { spec.reading (codes "gen" ∷ codes "0" ∷ codes "x" ∷ codes "--pages=0" ∷ []) ≡ spec.out_of_range Rows }
+    ensures third { spec.reading (codes "gen" ∷ codes "0" ∷ codes "0" ∷ codes "--pages=0" ∷ []) ≡ spec.out_of_range Pages }
+    ensures options { spec.reading (codes "gen" ∷ codes "--pages=5" ∷ codes "7" ∷ codes "--stats" ∷ codes "100" ∷ codes "--steps" ∷ codes "7" ∷ codes "--quantum=009" ∷ [])
+        ≡ spec.command (spec.gen 7 100 (record { pages = 5; steps = 7; quantum = 9; counts = true })) }
+    ensures no_rows { spec.reading (codes "gen" ∷ codes "7" ∷ []) ≡ spec.no_command }
+    ensures too_many { spec.reading (codes "gen" ∷ codes "7" ∷ codes "0" ∷ codes "0" ∷ []) ≡ spec.no_command }
 {}
 
 /// The options of `run` that are numbers, at both ends of their ranges and beside them.

@@ -29,7 +29,7 @@ pub use file_shelf::FileShelf;
 pub use file_system::FileSystem;
 pub use memory_shelf::MemoryShelf;
 pub use memory_sink::MemorySink;
-pub use piece::NamedFile;
+pub use piece::{NamedFile, copy_piece};
 pub use plain_sink::PlainSink;
 pub use shelf::Shelf;
 pub use sink::Sink;

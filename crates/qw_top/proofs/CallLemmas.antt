@@ -8,12 +8,14 @@ use Rattle.qw_check.specs.Check.{HasFault, SpellsValid}
 use Rattle.qw_check.specs.declared.check.CheckFault.{CheckFault}
 use Rattle.qw_check.specs.declared.check.CheckFault.TheVariants as check_faults
 use Rattle.qw_command_line.specs.Read.{Answers}
-use Rattle.qw_command_line.specs.Words.{run, compile, check, Reading, command, no_command, out_of_range, Names, TextNames}
+use Rattle.qw_command_line.specs.Words.{run, compile, check, gen, Reading, RunOptions, command, no_command, out_of_range, Names, TextNames}
 use Rattle.qw_command_line.specs.declared.command.Number.{Number}
 use Rattle.qw_command_line.specs.declared.command.WordsFault.{WordsFault}
 use Rattle.qw_command_line.specs.declared.command.WordsFault.TheVariants as words_faults
 use Rattle.qw_top.specs.Call.{CheckSettles, CompileSettles, ExplainsBy, HasScript, HasStatement, IsEndOfWords, IsValidFile, LeavesBy, NamesBy, NotesBy, SettlesBy, TookText}
 use Rattle.qw_top.specs.Causes.{AreOne, Cause, line_of_cause, status_of_cause, words_refused, number_out_of_range, schema_too_long, schema_refused, queries_too_long, queries_refused, queries_mistyped, no_statement, module_too_long, module_refused}
+use Rattle.qw_top.specs.Delivered.{RunLeaves}
+use Rattle.qw_top.specs.Generated.{generated_files, generated_names, told_generated}
 use Rattle.qw_top.specs.Limits.{limits_of, most_module_octets}
 use Rattle.qw_top.specs.Notes.{want_of_memory_line}
 use Rattle.qw_top.specs.Top.{Asked, Files, FilesSettle, IsFault, IsRefusal, IsReported, QueriesAre, RunExplains, SchemaIs}
@@ -34,6 +36,24 @@ pub run_explains : (limits : Limits) (files : Files) (names : Names) (kept : Opt
 run_explains limits files names kept result (inl (cause, h, is)) = subst (RunExplains limits files names kept) (sym is) (settled_explains limits files names kept cause h)
 run_explains limits files names kept result (inr fault) = fault_explains limits files names kept result fault
 
+want_ends : (result : Status) (old new : Option (List ℕ)) → NotesLine want_of_memory_line NoMemory result old new → (result ≡ WriteFailed) ⊎ (result ≡ NoMemory)
+want_ends result old new (inl (is, took)) = inr is
+want_ends result old new (inr (ends, front)) = ends
+
+-- where memory is wanted before there is a bench, nothing is left of it
+module _ (limits : Limits) (options : RunOptions) (files : Files) (names : Names) (result : Status) (old new taken : Option (List ℕ)) (noted : NotesLine want_of_memory_line NoMemory result old new) where
+  pub want_run_explains : (kept : Option Standing) → RunExplains limits files names kept result
+  want_run_explains kept = elim (want_ends result old new noted) [
+    | inl is ↦ subst (RunExplains limits files names kept) (sym is) tt
+    | inr is ↦ subst (RunExplains limits files names kept) (sym is) tt
+  ]
+
+  pub want_run_leaves : (kept : Option Standing) → kept ≡ None → RunLeaves options files names result kept taken taken
+  want_run_leaves kept none = elim (want_ends result old new noted) [
+    | inl is ↦ subst (λ (s : Status). RunLeaves options files names s kept taken taken) (sym is) (inl (none, refl))
+    | inr is ↦ subst (λ (s : Status). RunLeaves options files names s kept taken taken) (sym is) (inl (none, refl))
+  ]
+
 -- ---- words that aren't read
 
 noted_end : (line : List ℕ) (status result : Status) (old new : Option (List ℕ)) → IsEndOfWords status → NotesLine line status result old new → IsEndOfWords result
@@ -45,10 +65,6 @@ noted_text : (line : List ℕ) (status result : Status) (old new : Option (List 
 noted_text line status result old new (inl (is, took)) = (line, took)
 noted_text line status result old new (inr (ends, (n, within, took))) = (_, took)
 
-want_ends : (result : Status) (old new : Option (List ℕ)) → NotesLine want_of_memory_line NoMemory result old new → (result ≡ WriteFailed) ⊎ (result ≡ NoMemory)
-want_ends result old new (inl (is, took)) = inr is
-want_ends result old new (inr (ends, front)) = ends
-
 module _ (files : Files) where
   want_explains : (r : Reading) (kept : Option Standing) (result : Status) → (result ≡ WriteFailed) ⊎ (result ≡ NoMemory) → ExplainsBy files r kept result
   want_explains no_command kept result (inl is) = subst IsEndOfWords (sym is) tt
@@ -57,6 +73,8 @@ module _ (files : Files) where
   want_explains (out_of_range number) kept result (inr is) = subst IsEndOfWords (sym is) tt
   want_explains (command (run names options)) kept result (inl is) = subst (RunExplains (limits_of options) files names kept) (sym is) tt
   want_explains (command (run names options)) kept result (inr is) = subst (RunExplains (limits_of options) files names kept) (sym is) tt
+  want_explains (command (gen seed rows options)) kept result (inl is) = subst (RunExplains (limits_of options) (generated_files seed rows) generated_names kept) (sym is) tt
+  want_explains (command (gen seed rows options)) kept result (inr is) = subst (RunExplains (limits_of options) (generated_files seed rows) generated_names kept) (sym is) tt
   want_explains (command (compile names k)) kept result (inl is) = subst (λ (s : Status). ExplainsBy files (command (compile names k)) kept s) (sym is) tt
   want_explains (command (compile names k)) kept result (inr is) = subst (λ (s : Status). ExplainsBy files (command (compile names k)) kept s) (sym is) tt
   want_explains (command (check name)) kept result (inl is) = subst (λ (s : Status). ExplainsBy files (command (check name)) kept s) (sym is) tt
@@ -96,6 +114,8 @@ want_leaves files no_command result taken ends = (refl, refl)
 want_leaves files (out_of_range number) result taken ends = (refl, refl)
 want_leaves files (command (run names options)) result taken (inl is) = subst (λ (s : Status). LeavesBy files (command (run names options)) s None taken taken) (sym is) (inl (refl, refl))
 want_leaves files (command (run names options)) result taken (inr is) = subst (λ (s : Status). LeavesBy files (command (run names options)) s None taken taken) (sym is) (inl (refl, refl))
+want_leaves files (command (gen seed rows options)) result taken (inl is) = subst (λ (s : Status). LeavesBy files (command (gen seed rows options)) s None taken taken) (sym is) (inl (refl, refl))
+want_leaves files (command (gen seed rows options)) result taken (inr is) = subst (λ (s : Status). LeavesBy files (command (gen seed rows options)) s None taken taken) (sym is) (inl (refl, refl))
 want_leaves files (command (compile names k)) result taken (inl is) = subst (λ (s : Status). LeavesBy files (command (compile names k)) s None taken taken) (sym is) (refl, inl refl)
 want_leaves files (command (compile names k)) result taken (inr is) = subst (λ (s : Status). LeavesBy files (command (compile names k)) s None taken taken) (sym is) (refl, inl refl)
 want_leaves files (command (check name)) result taken (inl is) = subst (λ (s : Status). LeavesBy files (command (check name)) s None taken taken) (sym is) (refl, inl refl)
@@ -127,6 +147,7 @@ refusal_cause : (files : Files) (r : Reading) (kept : Option Standing) (status :
 refusal_cause files no_command kept status refusal why = (words_refused, refl, end_of_words status refusal why)
 refusal_cause files (out_of_range number) kept status refusal why = (number_out_of_range number, refl, end_of_words status refusal why)
 refusal_cause files (command (run names options)) kept status refusal why = refusal_settled (limits_of options) files names kept status refusal why
+refusal_cause files (command (gen seed rows options)) kept status refusal why = refusal_settled (limits_of options) (generated_files seed rows) generated_names kept status refusal why
 refusal_cause files (command (compile names k)) kept status refusal why = text_cause ((one : Asked) × HasStatement files names k one) (CompileSettles files names k) status refusal why
 refusal_cause files (command (check name)) kept status refusal why = text_cause (IsValidFile files name) (CheckSettles files name) status refusal why
 
@@ -202,6 +223,7 @@ module _ (told : List ℕ → Option (List ℕ))
   one_settled_by no_command cause other h k = inl (h ∙ sym k)
   one_settled_by (out_of_range number) cause other h k = inl (h ∙ sym k)
   one_settled_by (command (run names options)) cause other h k = one_settled (limits_of options) told names cause other h k
+  one_settled_by (command (gen seed rows options)) cause other h k = one_settled (limits_of options) (told_generated seed rows) generated_names cause other h k
   one_settled_by (command (compile names n)) cause other h k = one_compile told names n cause other (compile_at (Some told) names n cause h) (compile_at (Some told) names n other k)
   one_settled_by (command (check name)) cause other h k = inl (one_check name cause other h k)
 
@@ -218,6 +240,9 @@ module _ (told : List ℕ → Option (List ℕ))
   done_settles_none (command (run names options)) cause kept status reported why h =
       let asked = reported_asks (limits_of options) (Some told) names kept status reported why in
       asked_settles_none (limits_of options) told names asked.0 asked.1 asked.2 cause asked.3 asked.4 h
+  done_settles_none (command (gen seed rows options)) cause kept status reported why h =
+      let asked = reported_asks (limits_of options) (generated_files seed rows) generated_names kept status reported why in
+      asked_settles_none (limits_of options) (told_generated seed rows) generated_names asked.0 asked.1 asked.2 cause asked.3 asked.4 h
   done_settles_none (command (compile names n)) cause kept status reported why h =
       let work = (text_done ((one : Asked) × HasStatement (Some told) names n one) (CompileSettles (Some told) names n) status reported why).1 in
       none_compiled told names n work.0 cause work.1 (compile_at (Some told) names n cause h)

@@ -2,7 +2,7 @@
 use Rattle.std.proofs.Common.{◌≡◌, ℕ, List, ◌++◌, ◌∙◌, codes, refl, sym, append_assoc}
 use Rattle.qw_command_line.specs.Words.{name_of}
 use Rattle.qw_command_line.specs.declared.command.Number.{Number}
-use Rattle.qw_command_line.specs.declared.command.Number.TheVariants.{Quantum, Pages, Steps, Statement}
+use Rattle.qw_command_line.specs.declared.command.Number.TheVariants.{Quantum, Pages, Steps, Statement, Seed, Rows}
 use Rattle.qw_top.specs.Causes.{line_of_cause, number_out_of_range}
 
 pub pieces_4 : (a b c d : List ℕ) → a ++ (b ++ (c ++ d)) ≡ a ++ b ++ c ++ d
@@ -20,3 +20,5 @@ line_of_number Quantum name is = rw is refl
 line_of_number Pages name is = rw is refl
 line_of_number Steps name is = rw is refl
 line_of_number Statement name is = rw is refl
+line_of_number Seed name is = rw is refl
+line_of_number Rows name is = rw is refl

@@ -8,13 +8,13 @@ use Rattle.qw_io.specs.declared.fault.IoFault.TheVariants.{Failed, NoMemory as N
 use Rattle.qw_map.specs.Turns.{End}
 use Rattle.qw_bench.specs.Bench.{end_in}
 use Rattle.qw_bench.specs.Standing.{Standing}
+use Rattle.qw_top.specs.Causes.{Cause}
 use Rattle.qw_top.specs.Delivered.{CommandNotes, LeavesBench, Reports, RunLeaves, ShowsEnds, ends_below, is_exception, is_pages, is_steps, status_of_ends}
-use Rattle.qw_bench.specs.declared.bench.Limits.{Limits}
 use Rattle.qw_command_line.specs.Words.{RunOptions}
 use Rattle.qw_top.specs.Limits.{limits_of}
 use Rattle.qw_top.specs.Notes.{want_of_memory_line}
 use Rattle.qw_top.specs.Output.{TookFront, with_text}
-use Rattle.qw_top.specs.Top.{Asked, Files, FilesSettle, IsFileOf, Names, RunExplains}
+use Rattle.qw_top.specs.Top.{Asked, Files, Names, RunExplains}
 use Rattle.qw_top.specs.declared.status.Status.{Status}
 use Rattle.qw_top.specs.declared.status.Status.TheVariants.{Done, ReadFailed, WriteFailed, Raised, PageLimitMet, StepLimitMet, NoMemory}
 use Rattle.qw_top.specs.Inner.Reports.{AreBlocks}
@@ -124,15 +124,15 @@ written_front status WriteFailed old new report front = front
 written_front status NoMemory old new report front = front
 written_front status _ old new report writes = absurd writes
 
-written_noted : (limits : Limits) (files : Files) (names : Names) (fault_name : Option (List ℕ)) (status result : Status) (old new taken : Option (List ℕ)) (report : List ℕ) → Writes status result old new report →
-    CommandNotes (FilesSettle limits files names) (IsFileOf files names) fault_name result taken taken
-written_noted limits files names fault_name status Done old new taken report writes = refl
-written_noted limits files names fault_name status Raised old new taken report writes = refl
-written_noted limits files names fault_name status PageLimitMet old new taken report writes = refl
-written_noted limits files names fault_name status StepLimitMet old new taken report writes = refl
-written_noted limits files names fault_name status WriteFailed old new taken report writes = (want_of_memory_line, inl refl, TookFront-none taken want_of_memory_line)
-written_noted limits files names fault_name status NoMemory old new taken report writes = (want_of_memory_line, inl refl, TookFront-none taken want_of_memory_line)
-written_noted limits files names fault_name status _ old new taken report writes = absurd writes
+written_noted : (settles : Cause → Type 0) (named : List ℕ → Type 0) (fault_name : Option (List ℕ)) (status result : Status) (old new taken : Option (List ℕ)) (report : List ℕ) → Writes status result old new report →
+    CommandNotes settles named fault_name result taken taken
+written_noted settles named fault_name status Done old new taken report writes = refl
+written_noted settles named fault_name status Raised old new taken report writes = refl
+written_noted settles named fault_name status PageLimitMet old new taken report writes = refl
+written_noted settles named fault_name status StepLimitMet old new taken report writes = refl
+written_noted settles named fault_name status WriteFailed old new taken report writes = (want_of_memory_line, inl refl, TookFront-none taken want_of_memory_line)
+written_noted settles named fault_name status NoMemory old new taken report writes = (want_of_memory_line, inl refl, TookFront-none taken want_of_memory_line)
+written_noted settles named fault_name status _ old new taken report writes = absurd writes
 
 line_ends : (line : List ℕ) (result : Status) (old new : Option (List ℕ)) → NotesLine line NoMemory result old new → (result ≡ WriteFailed) ⊎ (result ≡ NoMemory)
 line_ends line result old new (inl (is, took)) = inr is
@@ -149,8 +149,8 @@ module _ (options : RunOptions) (files : Files) (names : Names) (b : Standing) (
   delivered_front = (b, d.report, d.status, refl, d.reports, written_front d.status result old new d.report d.writes)
 
   -- the writing of a report notes nothing
-  pub delivered_noted : (fault_name taken : Option (List ℕ)) → CommandNotes (FilesSettle (limits_of options) files names) (IsFileOf files names) fault_name result taken taken
-  delivered_noted fault_name taken = written_noted (limits_of options) files names fault_name d.status result old new taken d.report d.writes
+  pub delivered_noted : (settles : Cause → Type 0) (named : List ℕ → Type 0) (fault_name taken : Option (List ℕ)) → CommandNotes settles named fault_name result taken taken
+  delivered_noted settles named fault_name taken = written_noted settles named fault_name d.status result old new taken d.report d.writes
 
   -- and it doesn't end with a failed read
   pub delivered_reads : result ≡ ReadFailed → ⊥

@@ -9,6 +9,8 @@ mod ContentLemmas
 mod DeliverLemmas
 mod EachLemmas
 mod EntryLemmas
+mod GeneratedLemmas
+mod InputLemmas
 mod OutputLemmas
 mod QueryLemmas
 mod ReportLemmas
@@ -17,4 +19,5 @@ mod SettleLemmas
 mod ShortLemmas
 mod StopLemmas
 mod StoppedLemmas
+mod UnreadLemmas
 mod WholeFileLemmas

@@ -13,10 +13,11 @@ use Rattle.qw_map.specs.Layout.{Layout}
 use Rattle.qw_promise.specs.Compiled.{IsCompiled}
 use Rattle.qw_whole.specs.WholePromises.{promise_of_whole}
 use Rattle.qw_bench.specs.Standing.{Standing}
-use Rattle.qw_command_line.specs.Words.{run, compile, check, Reading, RunOptions, command, no_command, out_of_range, TextNames, reading}
+use Rattle.qw_command_line.specs.Words.{run, compile, check, gen, Reading, RunOptions, command, no_command, out_of_range, TextNames, reading}
 use Rattle.qw_top.specs.Causes.{Cause, words_refused, number_out_of_range, schema_too_long, schema_refused, queries_too_long, queries_refused, queries_mistyped, no_statement, module_too_long, module_refused, status_of_cause}
 use Rattle.qw_top.specs.Delivered.{CommandNotes, LeavesBench, LeavesNothing, RunLeaves}
 use Rattle.qw_top.specs.FileNames.{table_file_of}
+use Rattle.qw_top.specs.Generated.{generated_files, generated_names}
 use Rattle.qw_top.specs.Limits.{limits_of, most_module_octets, most_table_octets, most_text_octets}
 use Rattle.qw_top.specs.Output.{TookFront, with_text}
 use Rattle.qw_top.specs.Top.{Asked, Files, FilesSettle, HasQueries, IsFile, IsFileOf, IsMistyped, IsTooLong, Names, QueriesAre, RunExplains, SchemaIs}
@@ -126,6 +127,7 @@ SettlesBy files (out_of_range number) cause = cause ≡ number_out_of_range numb
 SettlesBy files (command (run names options)) cause = FilesSettle (limits_of options) files names cause
 SettlesBy files (command (compile names statement)) cause = CompileSettles files names statement cause
 SettlesBy files (command (check name)) cause = CheckSettles files name cause
+SettlesBy files (command (gen seed rows options)) cause = FilesSettle (limits_of options) (generated_files seed rows) generated_names cause
 
 abbrev pub Settles : Files → (words : List (List ℕ)) → Cause → Type 0
 Settles files words cause = SettlesBy files (reading words) cause
@@ -138,15 +140,17 @@ ExplainsBy files (command (run names options)) kept status = RunExplains (limits
 ExplainsBy files (command (compile names statement)) kept status =
     TextExplains ((one : Asked) × HasStatement files names statement one) (CompileSettles files names statement) status
 ExplainsBy files (command (check name)) kept status = TextExplains (IsValidFile files name) (CheckSettles files name) status
+ExplainsBy files (command (gen seed rows options)) kept status = RunExplains (limits_of options) (generated_files seed rows) generated_names kept status
 
 abbrev pub Explains : Files → (words : List (List ℕ)) → (kept : Option Standing) → Status → Type 0
 Explains files words kept status = ExplainsBy files (reading words) kept status
 
--- the bench that was kept, and what `out` had taken before and has taken now; a run alone keeps a bench
+-- the bench that was kept, and what `out` had taken before and has taken now; only `run` and `gen` keep a bench
 abbrev pub LeavesBy : Files → Reading → Status → (kept : Option Standing) → (old new : Option (List ℕ)) → Type 0
 LeavesBy files (command (run names options)) status kept old new = RunLeaves options files names status kept old new
 LeavesBy files (command (compile names statement)) status kept old new = (kept ≡ None) × LeavesText (CompileWrites files names statement) status old new
 LeavesBy files (command (check name)) status kept old new = (kept ≡ None) × LeavesText (CheckWrites files name) status old new
+LeavesBy files (command (gen seed rows options)) status kept old new = RunLeaves options (generated_files seed rows) generated_names status kept old new
 LeavesBy files _ status kept old new = LeavesNothing kept old new
 
 abbrev pub Leaves : Files → (words : List (List ℕ)) → Status → (kept : Option Standing) → (old new : Option (List ℕ)) → Type 0
@@ -158,12 +162,14 @@ LeavesFrontBy files (command (run names options)) kept old new =
     LeavesBench options files names kept (λ status report. TookFront old new report)
 LeavesFrontBy files (command (compile names statement)) kept old new = (kept ≡ None) × TookFrontOf (CompileWrites files names statement) old new
 LeavesFrontBy files (command (check name)) kept old new = (kept ≡ None) × TookFrontOf (CheckWrites files name) old new
+LeavesFrontBy files (command (gen seed rows options)) kept old new =
+    LeavesBench options (generated_files seed rows) generated_names kept (λ status report. TookFront old new report)
 LeavesFrontBy files _ kept old new = ⊥
 
 abbrev pub LeavesFront : Files → (words : List (List ℕ)) → (kept : Option Standing) → (old new : Option (List ℕ)) → Type 0
 LeavesFront files words kept old new = LeavesFrontBy files (reading words) kept old new
 
--- the name of a file that the call may read
+-- the name of a file that the call may read; `gen` reads none
 abbrev pub NamesBy : Files → Reading → (name : List ℕ) → Type 0
 NamesBy files (command (run names options)) name = IsFileOf files names name
 NamesBy files (command (compile names statement)) name = IsScriptFile files names name
@@ -207,9 +213,22 @@ IsLimit words name limit = IsLimitBy (reading words) name limit
 
 -- ---- what words ask for
 
--- they are read as `run` with these options, and the files ask for these queries over these tables
+-- What a run reads, and its options.
+pub record Input : Type 0 where
+  pub files : Files
+  pub names : Names
+  pub options : RunOptions
+
+-- that of `run`, and that of `gen`, which is generated
+abbrev pub input_of : Files → Reading → Option Input
+input_of files (command (run names options)) = Some (record { files = files; names = names; options = options })
+input_of files (command (gen seed rows options)) = Some (record { files = generated_files seed rows; names = generated_names; options = options })
+input_of files _ = None
+
+-- they are read as `run` or `gen` with these options, over files that are told, and these ask for these queries over these tables
 abbrev pub Asks : Files → (words : List (List ℕ)) → RunOptions → List Table → List Contents → List Asked → Type 0
-Asks files words options schema tables queries = (names : Names) × (reading words ≡ command (run names options)) × HasQueries files names schema tables queries
+Asks files words options schema tables queries = (told : List ℕ → Option (List ℕ)) × (names : Names)
+    × (input_of files (reading words) ≡ Some (record { files = Some told; names = names; options = options })) × HasQueries (Some told) names schema tables queries
 
 -- they are read as `compile`, and the statement asks for this query
 abbrev pub AsksToCompile : Files → (words : List (List ℕ)) → Asked → Type 0

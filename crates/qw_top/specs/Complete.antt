@@ -75,11 +75,10 @@ pub record EndsAsMeant (counts : Bool) (tables : List (List (List Val))) (querie
   pub tells : TellsOutcomes counts tables queries bench 0 report
   pub written : new ≡ with_text old report
 
--- Where the words ask for a run of queries over told files, there is room for them, and the limits are enough, the run ended as the queries mean over
--- the tables, or with a fault of the outside or want of memory.
+-- Where the words ask for a run of queries over told or generated files, there is room for them, and the limits are enough, the run ended as the queries
+-- mean over the tables, or with a fault of the outside or want of memory.
 abbrev pub Completes : Files → (words : List (List ℕ)) → (kept : Option Standing) → Status → (old new : Option (List ℕ)) → Type 0
 Completes files words kept result old new =
-    (told : List ℕ → Option (List ℕ)) (options : RunOptions) (schema : List Table) (tables : List Contents) (queries : List Asked) →
-    files ≡ Some told → Asks (Some told) words options schema tables queries →
+    (options : RunOptions) (schema : List Table) (tables : List Contents) (queries : List Asked) → Asks files words options schema tables queries →
     HaveRoom (limits_of options) tables queries → AreEnough (limits_of options) (rows_in_tables tables) queries kept →
     EndsAsMeant options.counts (rows_in_tables tables) queries result kept old new ⊎ IsFault result

@@ -4,6 +4,7 @@ pub mod Causes
 pub mod Complete
 pub mod Delivered
 pub mod FileNames
+pub mod Generated
 pub mod Inner
 pub mod Limits
 pub mod Notes

@@ -4,6 +4,7 @@
 //! report, one for the lines on what went wrong, and a place for the bench, and answers the [`Status`] of the run.
 //!
 //! - [`files`]: a whole file, within its limit.
+//! - `generated`: generated input as the files of a run.
 //! - [`output`]: a text written whole.
 //! - [`notes`]: the lines on what went wrong.
 //! - `causes`: the lines on the causes for which a file is refused.
@@ -18,6 +19,7 @@
 
 mod causes;
 pub mod files;
+mod generated;
 pub mod notes;
 pub mod output;
 pub mod status;

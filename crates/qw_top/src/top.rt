@@ -38,8 +38,9 @@ pub mod queries;
 mod report;
 mod run;
 
-/// Does what the words of a command line ask for, which come without the program's own name: runs queries and writes their report
-/// to `out`, or writes the module of a statement, or says of a file that it is a valid module. `notes` gets a line where it couldn't.
+/// Does what the words of a command line ask for, which come without the program's own name: runs queries over files or over generated
+/// input and writes their report to `out`, or writes the module of a statement, or says of a file that it is a valid module. `notes` gets
+/// a line where it couldn't.
 ///
 /// `kept` holds the bench of a run afterwards where its report was written, and where `out` counted a fault; else, at
 /// `WriteFailed` and `NoMemory`, the bench or nothing; and at any other status, and of the other commands, nothing.
@@ -55,15 +56,15 @@ pub fn qwasm<F: Shelf, O: Sink, E: Sink>(
     ensures exactly { (told : List ℕ → Option (List ℕ)) (cause : Cause) → F.files files.old ≡ Some told
         → Settles (Some told) (map string_bytes words.now) cause
         → (result ≡ status_of_cause cause) ⊎ IsFault result }
-    ensures runs { (told : List ℕ → Option (List ℕ)) (options : RunOptions) (schema : List Table) (tables : List Contents) (queries : List Asked)
-        → F.files files.old ≡ Some told → Asks (Some told) (map string_bytes words.now) options schema tables queries
+    ensures runs { (options : RunOptions) (schema : List Table) (tables : List Contents) (queries : List Asked)
+        → Asks (F.files files.old) (map string_bytes words.now) options schema tables queries
         → HaveRoom (limits_of options) tables queries → IsReported result ⊎ IsFault result }
-    ensures enough { (told : List ℕ → Option (List ℕ)) (options : RunOptions) (schema : List Table) (tables : List Contents) (queries : List Asked) (b : Standing)
-        → F.files files.old ≡ Some told → Asks (Some told) (map string_bytes words.now) options schema tables queries
+    ensures enough { (options : RunOptions) (schema : List Table) (tables : List Contents) (queries : List Asked) (b : Standing)
+        → Asks (F.files files.old) (map string_bytes words.now) options schema tables queries
         → kept.new ≡ Some b → IsEnough (limits_of options) (rows_in_tables tables) queries b
         → (result ≢ Status.PageLimitMet) × (result ≢ Status.StepLimitMet) }
-    ensures plain { (told : List ℕ → Option (List ℕ)) (options : RunOptions) (schema : List Table) (tables : List Contents) (queries : List Asked)
-        → F.files files.old ≡ Some told → Asks (Some told) (map string_bytes words.now) options schema tables queries
+    ensures plain { (options : RunOptions) (schema : List Table) (tables : List Contents) (queries : List Asked)
+        → Asks (F.files files.old) (map string_bytes words.now) options schema tables queries
         → AllByRecursion (RaisesNothing (rows_in_tables tables)) queries → result ≢ Status.Raised }
     ensures complete { Completes (F.files files.old) (map string_bytes words.now) kept.new result (O.taken out.old) (O.taken out.new) }
     ensures compiles { (told : List ℕ → Option (List ℕ)) (one : Asked) → F.files files.old ≡ Some told

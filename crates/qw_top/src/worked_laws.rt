@@ -1,6 +1,6 @@
 //! Cases with numbers of definitions that no function computes as they stand. No function here computes anything.
 
-ghost use Rattle.std.specs.Prelude.{◌≡◌, ◌^◌, pos, [], ◌∷◌, Some, None, codes};
+ghost use Rattle.std.specs.Prelude.{◌≡◌, ◌^◌, ◌++◌, pos, [], ◌∷◌, Some, None, codes};
 ghost use Rattle.qw_types.specs.declared.numeral.FieldFault.TheVariants.{NotDate, NotNumber, TooFine, TooLarge};
 ghost use Rattle.qw_types.specs.declared.value.Val.TheVariants.{Num};
 ghost use Rattle.qw_csv.specs.declared.cell.CellFault.TheVariants as cell;
@@ -19,10 +19,13 @@ ghost use Rattle.qw_valid.specs.declared.valid.Part.TheVariants.{Exports};
 ghost use Rattle.qw_check.specs.declared.check.CheckFault.TheVariants as check;
 ghost use Rattle.qw_whole.specs.WholePromises.{whole_pages};
 ghost use Rattle.qw_bench.specs.Bench.{rows_in_tables};
+ghost use Rattle.qw_generate.specs.Generated.{queries_text, schema_text, shop_text};
 ghost use Rattle.qw_top.specs.Asking.{AsksWithin, IsOne};
 ghost use Rattle.qw_top.specs.Causes.{line_of_cause, module_refused, module_too_long, no_statement, number_out_of_range, queries_mistyped, queries_refused, queries_too_long, schema_refused, schema_too_long, table_refused, table_too_long, total_pages};
 ghost use Rattle.qw_top.specs.Complete.{AreEnough, most_steps, status_meant};
 ghost use Rattle.qw_top.specs.Delivered.{status_of_ends};
+ghost use Rattle.qw_top.specs.FileNames.{table_file_of};
+ghost use Rattle.qw_top.specs.Generated.{generated_names, told_generated};
 ghost use Rattle.qw_top.specs.Limits.{limits_of, most_module_octets, most_table_octets, most_text_octets};
 ghost use Rattle.qw_top.specs.Top.{IsHeader, RaisesNothing};
 ghost use Rattle.qw_top.specs.Worked.{divided, joined, joined_tables, watched_file, worked_table};
@@ -133,6 +136,19 @@ pub fn worked_word_lines()
     ensures pages { line_of_cause (number_out_of_range number.Pages) ≡ codes "words: pages out of range\n" }
     ensures steps { line_of_cause (number_out_of_range number.Steps) ≡ codes "words: steps out of range\n" }
     ensures statement { line_of_cause (number_out_of_range number.Statement) ≡ codes "words: statement out of range\n" }
+    ensures seed { line_of_cause (number_out_of_range number.Seed) ≡ codes "words: SEED out of range\n" }
+    ensures rows { line_of_cause (number_out_of_range number.Rows) ≡ codes "words: ROWS out of range\n" }
+{}
+
+/// The files of generated input, by the names that a run of them takes: the schema, the file of each table that it declares, one row of SALE being
+/// asked for, and the queries.
+pub fn worked_generated_files()
+    ensures schema { told_generated 0 1 generated_names.schema ≡ Some schema_text }
+    ensures sale { told_generated 0 1 (table_file_of generated_names.folder (codes "SALE"))
+        ≡ Some (codes "ID,SHOP,PRICE,SOLD,KIND\n" ++ codes "1,8,964.24,2007-10-15,bolt\n") }
+    ensures shop { told_generated 0 1 (table_file_of generated_names.folder (codes "SHOP")) ≡ Some shop_text }
+    ensures queries { told_generated 0 1 generated_names.queries ≡ Some queries_text }
+    ensures none { told_generated 0 1 (table_file_of generated_names.folder (codes "T")) ≡ Some [] }
 {}
 
 /// The limits of files: 1,048,576 octets of a schema file and of a queries file, 268,435,456 of a table file, 67,108,864 of a module's;

@@ -1,6 +1,6 @@
 //! The program: `qwasm run SCHEMA DIR QUERIES` runs the queries of a file over table files, each as a WebAssembly module, and reports
-//! their rows on standard output. `qwasm compile SCHEMA QUERIES --statement K` writes such a module, and `qwasm check MODULE` says whether
-//! a file is a valid one. The program ends with the status of the call.
+//! their rows on standard output. `qwasm gen SEED ROWS` does so over tables that it generates. `qwasm compile SCHEMA QUERIES --statement K`
+//! writes such a module, and `qwasm check MODULE` says whether a file is a valid one. The program ends with the status of the call.
 //!
 //! All that it does is [`qw_top::qwasm`], whose clauses say what a call promises (docs/THEOREMS.md); here it is given the outside:
 //!

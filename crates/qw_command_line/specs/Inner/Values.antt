@@ -1,9 +1,10 @@
--- Mirrors `read::value`, `read::number_of` and `read::options_of`: how what they return is read on.
+-- Mirrors `read::value`, `read::number_of`, `read::options_of` and `read::gen_words`: how what they return is read on.
 use Rattle.std.specs.Prelude.{◌≡◌, ℕ, List, Option, Some, None, Result, Ok, Err}
 use Rattle.std.specs.Borrow.{Bor}
 use Rattle.qw_command_line.specs.Read.{options_of}
-use Rattle.qw_command_line.specs.Words.{Reading, RunOptions, out_of_range}
+use Rattle.qw_command_line.specs.Words.{Reading, RunOptions, command, gen, out_of_range}
 use Rattle.qw_command_line.specs.declared.command.Number.{Number}
+use Rattle.qw_command_line.specs.declared.command.GenWords.{GenWords}
 use Rattle.qw_command_line.specs.declared.command.RunOptions.{RunOptions as ReadOptions}
 use Rattle.qw_command_line.specs.declared.command.WordsFault.{WordsFault}
 use Rattle.qw_command_line.specs.declared.command.WordsFault.TheVariants.{Refused, OutOfRange, NoMemory}
@@ -30,3 +31,8 @@ number_read (Err number) read = out_of_range number
 abbrev pub options_read : Result ReadOptions Number → (RunOptions → Reading) → Reading
 options_read (Ok options) read = read (options_of options)
 options_read (Err number) read = out_of_range number
+
+-- what the words of `gen` are read as, or the number that is out of its range
+abbrev pub gen_read : Result GenWords Number → Reading
+gen_read (Ok words) = command (gen words.seed words.rows (options_of words.options))
+gen_read (Err number) = out_of_range number

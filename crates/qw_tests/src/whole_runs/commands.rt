@@ -1,7 +1,7 @@
 // Whole calls of the commands that write one text, and of words that are refused.
 
 use super::{QUERY, SCHEMA, TABLE};
-use crate::tables::{End, assert_ends, call, refused, shelf, shelf_of, sink};
+use crate::tables::{End, assert_ends, call, done, refused, shelf, shelf_of, sink};
 use qw_io::MemorySink;
 use qw_top::status::Status;
 use std::alloc::Global;
@@ -163,6 +163,23 @@ fn a_compiled_statement_is_a_valid_module(rt: HostRuntime) -> Result<(), Fail> {
         assert_checked(&rt, rt.alloc(), module.bytes(), &end)?;
     }
     Ok(())
+}
+
+// What the one sale of seed 0 comes to.
+const ONE_SALE: &[u8] =
+    b"QUERY 1 ROWS 1\nKIND,N,S\nbolt,1,964.24\nQUERY 2 ROWS 1\nCITY,N,A\ncity0,1,964.240000\nQUERY 3 ROWS 1\nN\n0\n";
+
+// The shelf has no file that a run of generated input could read.
+#[test]
+fn generated_input_is_run(rt: HostRuntime) -> Result<(), Fail> {
+    let alloc = rt.alloc();
+    let mut files = shelf_of(alloc, b"", &[], b"")?;
+    let sinks = (sink(alloc, 1), sink(alloc, 1));
+    let end = done(ONE_SALE);
+    assert_ends(&rt, alloc, &mut files, &["gen", "0", "1"], sinks, &end)?;
+    let sinks = (sink(alloc, 1), sink(alloc, 1));
+    let end = refused(Status::WordsRefused, b"words: ROWS out of range\n");
+    assert_ends(&rt, alloc, &mut files, &["gen", "0", "100001"], sinks, &end)
 }
 
 const REFUSED_WORDS: [&[&str]; 4] = [

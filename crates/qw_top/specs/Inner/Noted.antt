@@ -1,6 +1,7 @@
 -- What the noting of a line leaves.
 use Rattle.std.specs.Prelude.{◌≡◌, ◌⊎◌, ℕ, List, Option}
 use Rattle.std.specs.String.{string_bytes}
+use Rattle.qw_io.specs.Faults.{IsCounted}
 use Rattle.qw_top.specs.declared.status.Status.{Status}
 use Rattle.qw_top.specs.declared.status.Status.TheVariants.{Done, WordsRefused, ReadFailed, WriteFailed, NoMemory}
 use Rattle.qw_top.specs.declared.stop.Stop.{Stop}
@@ -24,6 +25,10 @@ abbrev pub NotesStop : Stop → (result : Status) → (old new : Option (List �
 NotesStop (Refused refusal line) result old new = NotesLine (string_bytes line) (refusal_status refusal) result old new
 NotesStop (Unread name) result old new = NotesLine (read_fault_line (octets_of name)) ReadFailed result old new
 NotesStop NoMemoryLeft result old new = NotesLine want_of_memory_line NoMemory result old new
+
+-- the name of such a file, where a fault was counted between these two counts
+abbrev pub IsUnread : (named : List ℕ → Type 0) → (before after : ℕ) → (name : List ℕ) → Type 0
+IsUnread named before after name = named name × IsCounted before after
 
 -- what is noted of words that aren't read
 abbrev pub NotesWords : WordsFault → (result : Status) → (old new : Option (List ℕ)) → Type 0

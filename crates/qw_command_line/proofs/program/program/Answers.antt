@@ -15,4 +15,5 @@ returns c =
     } in
     let first = subcommand_added _ _ _ _ _ bare c.in_ok-run.ensures c.in_ok-program-2.ensures in
     let second = subcommand_added _ _ _ _ _ first c.in_ok-compile.ensures c.in_ok-program-3.ensures in
-    IfOk-weaker c.subcommand-3.result _ _ (λ program adds. subcommand_added _ _ _ _ _ second c.in_ok-check.ensures adds) c.subcommand-3.ensures
+    let third = subcommand_added _ _ _ _ _ second c.in_ok-check.ensures c.in_ok-program-4.ensures in
+    IfOk-weaker c.subcommand-4.result _ _ (λ program adds. subcommand_added _ _ _ _ _ third c.in_ok-generate.ensures adds) c.subcommand-4.ensures

@@ -1,11 +1,12 @@
-use Rattle.std.proofs.Common.{map, subst, Some}
+use Rattle.std.proofs.Common.{map, refl, subst, Some}
 use Rattle.std.specs.String.{string_bytes}
 use Rattle.qw_command_line.specs.Words.{Reading, reading}
-use Rattle.qw_top.specs.Call.{Explains, ExplainsBy, LeavesBy}
+use Rattle.qw_top.specs.Call.{Explains, ExplainsBy}
 use Rattle.qw_top.specs.Limits.{limits_of}
 use Rattle.qw_top.specs.Top.{Files}
 use Rattle.qw_top.proofs.CallLemmas.{check_ends, compile_ends, ends_by}
 use Rattle.qw_top.proofs.CompleteLemmas.{ends_as_meant}
+use Rattle.qw_top.proofs.InputLemmas.{input_explains, input_leaves}
 use Rattle.qw_top.proofs.SettleLemmas.{enough_explained, plain_explained, runs_explained}
 use Rattle.qw_top.proofs.top.qwasm.Goals as goal
 
@@ -16,31 +17,29 @@ returns-clause-exactly g c told cause is h =
     (subst (λ (f : Files). Explains f words c.perform.new.kept c.perform.result) is c.perform.ensures.explained)
 
 pub returns-clause-runs : goal.returns-clause-runs
-returns-clause-runs g c told options schema tables queries is (names, are, held) room =
-    let files = g.F.Shelf.files c.args.files.now in
-    runs_explained (limits_of options) files names c.perform.new.kept c.perform.result (subst (λ (r : Reading). ExplainsBy files r c.perform.new.kept c.perform.result) are c.perform.ensures.explained)
-    told schema tables queries is held room
+returns-clause-runs g c options schema tables queries (told, names, is, held) room =
+    let why = input_explains (g.F.Shelf.files c.args.files.now) _ (reading (map string_bytes c.args.words.now)) c.perform.new.kept c.perform.result is c.perform.ensures.explained in
+    runs_explained (limits_of options) (Some told) names c.perform.new.kept c.perform.result why told schema tables queries refl held room
 
 pub returns-clause-enough : goal.returns-clause-enough
-returns-clause-enough g c told options schema tables queries b is (names, are, held) kept enough =
-    let files = g.F.Shelf.files c.args.files.now in
-    enough_explained (limits_of options) files names c.perform.new.kept c.perform.result (subst (λ (r : Reading). ExplainsBy files r c.perform.new.kept c.perform.result) are c.perform.ensures.explained)
-    told schema tables queries is held b kept enough
+returns-clause-enough g c options schema tables queries b (told, names, is, held) kept enough =
+    let why = input_explains (g.F.Shelf.files c.args.files.now) _ (reading (map string_bytes c.args.words.now)) c.perform.new.kept c.perform.result is c.perform.ensures.explained in
+    enough_explained (limits_of options) (Some told) names c.perform.new.kept c.perform.result why told schema tables queries refl held b kept enough
 
 pub returns-clause-plain : goal.returns-clause-plain
-returns-clause-plain g c told options schema tables queries is (names, are, held) none =
-    let files = g.F.Shelf.files c.args.files.now in
-    plain_explained (limits_of options) files names c.perform.new.kept c.perform.result (subst (λ (r : Reading). ExplainsBy files r c.perform.new.kept c.perform.result) are c.perform.ensures.explained)
-    told schema tables queries is held none
+returns-clause-plain g c options schema tables queries (told, names, is, held) none =
+    let why = input_explains (g.F.Shelf.files c.args.files.now) _ (reading (map string_bytes c.args.words.now)) c.perform.new.kept c.perform.result is c.perform.ensures.explained in
+    plain_explained (limits_of options) (Some told) names c.perform.new.kept c.perform.result why told schema tables queries refl held none
 
 pub returns-clause-complete : goal.returns-clause-complete
-returns-clause-complete g c told options schema tables queries is (names, are, held) room enough =
+returns-clause-complete g c options schema tables queries (told, names, is, held) room enough =
     let files = g.F.Shelf.files c.args.files.now in
+    let r = reading (map string_bytes c.args.words.now) in
     let old = g.O.Sink.taken c.args.out.now in
     let new = g.O.Sink.taken c.perform.new.out in
-    ends_as_meant options files names c.perform.new.kept c.perform.result old new told schema tables queries is held
-    (subst (λ (r : Reading). ExplainsBy files r c.perform.new.kept c.perform.result) are c.perform.ensures.explained)
-    (subst (λ (r : Reading). LeavesBy files r c.perform.result c.perform.new.kept old new) are c.perform.ensures.left) room enough
+    let why = input_explains files _ r c.perform.new.kept c.perform.result is c.perform.ensures.explained in
+    let left = input_leaves files _ r c.perform.new.kept c.perform.result old new is c.perform.ensures.left in
+    ends_as_meant options (Some told) names c.perform.new.kept c.perform.result old new told schema tables queries refl held why left room enough
 
 pub returns-clause-compiles : goal.returns-clause-compiles
 returns-clause-compiles g c told one is (names, k, are, has) =
