@@ -17,7 +17,7 @@ use Rattle.qw_scalar.specs.declared.expression.Operator.TheVariants.{Add, Subtra
 use Rattle.qw_scalar.specs.declared.expression.Cond.{Cond}
 use Rattle.qw_scalar.specs.declared.expression.Expr.{Expr}
 use Rattle.qw_scalar.specs.Tree.{condition_of, expression_of}
-use Rattle.qw_scalar.specs.Expression.{Condition, Expression, arithmetic, column, comparison, number, scale_after, scale_of}
+use Rattle.qw_scalar.specs.Expression.{Condition, Expression, arithmetic, column, comparison, number, scale_after, scale_of, text}
 use Rattle.qw_scalar.specs.Typing.{ScalesAllowed, are_comparable, has_kind, is_number}
 use Rattle.qw_scalar.proofs.ColumnLemmas.{columns_more, conditions_more}
 use Rattle.qw_meaning.specs.Select.{AreJoinsOver, AreSourcesOver, Entry, IsColumnOf, IsConditionOver, IsItemOver, IsReached, IsSpecification, Joined, Source, conjuncts_on, entries_in, entries_of, type_in, types_of}
@@ -317,6 +317,9 @@ all_after P xs pushed x is h p = subst (λ ys. AllByRecursion P ys) (sym is) (al
 
 pub literal_number : (first next : ℕ) (v : ℤ) → IsTrue (fits v) → IsNumberOver first next (number v 0)
 literal_number first next v h = record { typed = (h, omega arith); kind_is = refl; scale = refl; columns = tt }
+
+pub literal_text : (first next : ℕ) (n : ℕ) (t : List ℕ) → IsValueOver first next (Varchar n) (text t)
+literal_text first next n t = record { typed = tt; kind_is = refl; scale = refl; columns = tt }
 
 pub compared_over : {E : Type 0} (first next : ℕ) (op : Comparison) (one other : Ty) (a b : Expression) (r : Result Cond E) → IfOk r (λ made. condition_of made ≡ comparison op a b)
     → IsTrue (are_comparable (Some (type_kind one)) (Some (type_kind other))) → IsValueOver first next one a → IsValueOver first next other b → IfOk r (λ made. IsTestOver first next (condition_of made))

@@ -11,7 +11,7 @@ use Rattle.qw_scalar.specs.declared.expression.Operator.{Operator}
 use Rattle.qw_scalar.specs.declared.expression.Cond.{Cond}
 use Rattle.qw_scalar.specs.declared.expression.Expr.{Expr}
 use Rattle.qw_scalar.specs.Tree.{condition_of, expression_of}
-use Rattle.qw_scalar.specs.Expression.{Expression, arithmetic, column, comparison}
+use Rattle.qw_scalar.specs.Expression.{Expression, arithmetic, column, comparison, text}
 use Rattle.qw_scalar.specs.Typing.{are_comparable, is_number}
 use Rattle.qw_meaning.specs.Select.{IsItemOver, entries_of}
 use Rattle.qw_meaning.specs.Query.{source_of}
@@ -68,6 +68,10 @@ arithmetic_at types ty operator a b (Err e) is numeric few h g = tt
 
 comparison_of : (types : List Ty) (ty : Ty) (op : Comparison) (a b : Expression) → IsValueAt types ty a → IsComparandAt types ty b → IsTestAt types (comparison op a b)
 comparison_of types ty op a b h g = (((h.typed, g.typed), rw h.kind_is g.comparable), (h.columns, g.columns))
+
+-- of texts a literal
+pub text_comparand : (types : List Ty) (ty : Ty) (t : List ℕ) → type_kind ty ≡ kind.Text → IsComparandAt types ty (text t)
+text_comparand types ty t is = record { typed = tt; comparable = rw is refl; columns = tt }
 
 pub compared_at : {E : Type 0} (types : List Ty) (ty : Ty) (op : Comparison) (a b : Expression) (r : Result Cond E) → IfOk r (λ made. condition_of made ≡ comparison op a b)
     → IsValueAt types ty a → IsComparandAt types ty b → IfOk r (λ made. IsTestAt types (condition_of made))

@@ -41,6 +41,8 @@ mod row_programs;
 #[cfg(test)]
 mod scripts;
 #[cfg(test)]
+mod shares;
+#[cfg(test)]
 mod sources_and_sinks;
 #[cfg(test)]
 mod texts;

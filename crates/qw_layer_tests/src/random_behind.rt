@@ -5,7 +5,7 @@ ghost use Rattle.std.specs.List.{AllByRecursion};
 ghost use Rattle.qw_types.specs.Arithmetic.{fits};
 ghost use Rattle.qw_types.specs.Kind.{type_kind};
 ghost use Rattle.qw_types.specs.Value.{type_scale};
-ghost use Rattle.qw_types.specs.declared.kind.Kind.TheVariants.{Number};
+ghost use Rattle.qw_types.specs.declared.kind.Kind.TheVariants.{Number, Text};
 ghost use Rattle.qw_types.specs.declared.value.Ty.{Ty};
 ghost use Rattle.qw_types.specs.declared.value.Ty.TheVariants.{Integer};
 ghost use Rattle.qw_scalar.specs.Tree.{condition_of, expression_of};
@@ -13,7 +13,7 @@ ghost use Rattle.qw_scalar.specs.Typing.{are_comparable};
 ghost use Rattle.qw_layer_tests.specs.RandomGroups.{AreScaled, IsComparandAt, IsItemAt, IsTestAt, IsValueAt};
 
 use crate::random_queries::{arithmetic, compared, comparison_operator, operator};
-use crate::random_values::{Random, day, whole, word};
+use crate::random_values::{Random, day, like_operator, pattern, whole, word};
 use qw_scalar::expression::{Cond, Expr};
 use qw_types::{NoMemory, Ty};
 use std::alloc::Global;
@@ -56,16 +56,41 @@ fn test_at(alloc: Global, random: &mut Random, types: &[Ty]) -> Result<Cond, NoM
     }
 }
 
-/// A comparison of a value with a literal, or with a column.
+/// A comparison of a value with a literal, or with a column; of texts in one of three cases LIKE.
 fn comparison_at(alloc: Global, random: &mut Random, types: &[Ty]) -> Result<Cond, NoMemory>
     requires some { 1 ≤ length types.now }
     requires scaled { AreScaled types.now }
     ensures { IfOk result (λ made. IsTestAt types.now (condition_of made)) }
 {
-    let op = comparison_operator(random);
     let left = value_at(alloc, random, types)?;
+    if is_text(left.1) && random.below(3) == 0 {
+        return like_at(alloc, random, types, left);
+    }
+    let op = comparison_operator(random);
     let right = comparand_at(alloc, random, types, left.1)?;
     compared(alloc, op, left.0, right)
+}
+
+fn is_text(ty: Ty) -> bool
+    ensures { IsTrue result → type_kind ty ≡ Text }
+{
+    matches!(ty, Ty::Varchar { .. })
+}
+
+/// A text that is, or isn't, LIKE a literal.
+fn like_at(
+    alloc: Global,
+    random: &mut Random,
+    types: &[Ty],
+    text: (Expr, Ty),
+) -> Result<Cond, NoMemory>
+    requires value { IsValueAt types.now text.1 (expression_of text.0) }
+    requires text { type_kind text.1 ≡ Text }
+    ensures { IfOk result (λ made. IsTestAt types.now (condition_of made)) }
+{
+    let op = like_operator(random);
+    let pattern = Expr::Text(pattern(alloc, random)?);
+    compared(alloc, op, text.0, pattern)
 }
 
 /// A column whose values compare with those of a type, or a literal.

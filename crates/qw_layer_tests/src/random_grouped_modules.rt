@@ -12,12 +12,14 @@ use crate::random_groups::random_whole;
 use crate::random_modules::{are_same, bench_of, ends_so, turn_to_the_end};
 use crate::random_tables::{loaded_tables, random_tables};
 use crate::random_values::Random;
+use crate::shares::{Shares, has_like, have_like};
 use qw_bench::bench::{Bench, Job};
 use qw_compile_whole::compile_whole::compile_whole;
 use qw_csv::Loaded;
 use qw_grouped::front::front_of;
 use qw_grouped::{Body, GroupedQuery, WholeQuery};
 use qw_plain::outcome::{Answer, plain_outcome};
+use qw_plain::partners::partners;
 use qw_plain_grouped::outcome::plain_whole_outcome;
 use qw_types::{NoMemory, Row, Val};
 use qw_valid::valid::validate;
@@ -31,8 +33,11 @@ const ORDERS: u64 = 1_000;
 /// What was seen of grouped queries.
 #[derive(Drop)]
 struct Seen {
+    shares: Shares,
     /// How many raise an exception.
     raised: u64,
+    /// How many give rows.
+    rows: u64,
     /// How many groups there are where no exception comes before them.
     groups: u64,
     /// How many of these have several rows, and how many a null in their key.
@@ -45,7 +50,9 @@ struct Seen {
 impl Seen {
     fn new() -> Self {
         Seen {
+            shares: Shares::new(),
             raised: 0,
+            rows: 0,
             groups: 0,
             several: 0,
             of_null: 0,
@@ -53,7 +60,7 @@ impl Seen {
         }
     }
 
-    /// Notes what a query comes to, where it is a grouped one.
+    /// Notes what a query has and comes to, where it is a grouped one.
     fn note(
         &mut self,
         alloc: Global,
@@ -67,14 +74,26 @@ impl Seen {
         let Body::Grouped(grouped) = &query.body else {
             return Ok(());
         };
-        if let Answer::Raises(_) = answer {
-            self.raised = self.raised.wrapping_add(1);
-        }
-        if let Answer::Rows(reached) = reached_by(alloc, grouped, tables)? {
-            let groups = self.note_groups(&reached, grouped.columns().len());
+        self.shares.note_like(grouped_has_like(grouped));
+        self.note_answer(answer);
+        let (before, partners) = reached_by(alloc, grouped, tables)?;
+        self.shares.note_partners(&before, &partners);
+        if let Answer::Rows(reached) = &before {
+            let groups = self.note_groups(reached, grouped.columns().len());
             self.note_dropping(groups, query.distinct, answer);
         }
         Ok(())
+    }
+
+    fn note_answer(&mut self, answer: &Answer) {
+        match answer {
+            Answer::Raises(_) => self.raised = self.raised.wrapping_add(1),
+            Answer::Rows(rows) => {
+                if !rows.is_empty() {
+                    self.rows = self.rows.wrapping_add(1);
+                }
+            }
+        }
     }
 
     /// Notes whether a query of so many groups comes to fewer rows.
@@ -111,13 +130,22 @@ impl Seen {
     }
 }
 
-/// The rows that reach GROUP BY.
-fn reached_by(alloc: Global, query: &GroupedQuery, tables: &[Vec<Row>]) -> Result<Answer, NoMemory>
+fn grouped_has_like(query: &GroupedQuery) -> bool {
+    has_like(query.sources(), query.conjuncts()) || have_like(query.having())
+}
+
+/// The rows that reach GROUP BY, and how many partners the left rows of LEFT JOINs have.
+fn reached_by(
+    alloc: Global,
+    query: &GroupedQuery,
+    tables: &[Vec<Row>],
+) -> Result<(Answer, Vec<usize>), NoMemory>
     requires entries { AllByRecursion IsRandomEntry (entries_of (grouped_of query.now).sources) }
     requires rows { AllByRecursion HasRandomRows (map (λ t. t.items) tables.now) }
 {
     let front = front_of(alloc, query)?;
-    plain_outcome(alloc, &front, tables)
+    let reached = plain_outcome(alloc, &front, tables)?;
+    Ok((reached, partners(alloc, &front, tables)?))
 }
 
 /// The first values of a row.
@@ -234,8 +262,8 @@ fn one_order(
 }
 
 /// Runs the orders of a test, which begin with a number, and asserts that there was enough to see: at least a tenth of the 2,000 grouped queries
-/// raise an exception, at least a third of the groups have several rows, at least 200 have a null in their key, and HAVING drops groups of at
-/// least 100.
+/// raise an exception, as many give rows, and as many have LIKE; at least a third of the groups have several rows, at least 200 have a null in
+/// their key, and HAVING drops groups of at least 100; LEFT JOINs of at least 100 have left rows without partner, and of as many such with partners.
 fn orders(rt: &impl Abort, alloc: Global, seed: u64) -> Result<(), Fail> {
     let mut random = Random::of_all_types(seed);
     let mut seen = Seen::new();
@@ -249,6 +277,11 @@ fn orders(rt: &impl Abort, alloc: Global, seed: u64) -> Result<(), Fail> {
         ORDERS / 10 <= seen.dropping,
     );
     assert_eq!(rt; enough, (true, true, true, true));
+    assert_eq!(rt; seen.shares.have_left_joins(ORDERS / 10), (true, true));
+    assert_eq!(rt;
+        (ORDERS / 5 <= seen.rows, ORDERS / 5 <= seen.shares.like),
+        (true, true)
+    );
     Ok(())
 }
 

@@ -10,12 +10,14 @@ use crate::random_queries::random_query;
 use crate::random_tables::random_tables;
 use crate::random_values::Random;
 use crate::row_programs::{Cells, Found, cells_of, pipelines_found, plan_found};
+use crate::shares::Shares;
 use qw_algebra::Plan;
 use qw_algebra::written::plan_of;
 use qw_meaning::query::Query;
 use qw_pipe::pipeline::{Pipeline, Target};
 use qw_pipe::split::split;
 use qw_plain::outcome::{Answer, plain_outcome};
+use qw_plain::partners::partners;
 use qw_rewrite::place_laws::written_plans_are_sized;
 use qw_rewrite::rewrite::rewrite;
 use qw_types::{Code, Row};
@@ -35,6 +37,7 @@ struct Seen {
     raised: u64,
     /// Several pipelines, one of which looks rows up by keys.
     keyed: u64,
+    shares: Shares,
 }
 
 /// What differs from the query's outcome first.
@@ -48,6 +51,8 @@ fn difference(
     requires tables { AllByRecursion HasRandomRows (map (λ t. t.items) tables.now) }
 {
     let answer = plain_outcome(alloc, query, tables)?;
+    seen.shares
+        .note_partners(&answer, &partners(alloc, query, tables)?);
     if query.sources().is_empty() {
         return Ok(Some("no source"));
     }
@@ -155,6 +160,7 @@ fn random_queries(rt: HostRuntime) -> Result<(), Fail> {
         rows: 0,
         raised: 0,
         keyed: 0,
+        shares: Shares::new(),
     };
     for _ in 0..QUERIES {
         let tables = random_tables(alloc, &mut random, 3)?;
@@ -164,5 +170,6 @@ fn random_queries(rt: HostRuntime) -> Result<(), Fail> {
     }
     let enough = (1_000 < seen.rows, 1_000 < seen.raised, 1_000 < seen.keyed);
     assert_eq!(rt; enough, (true, true, true));
+    assert_eq!(rt; seen.shares.have_left_joins(500), (true, true));
     Ok(())
 }

@@ -13,11 +13,13 @@ ghost use Rattle.qw_layer_tests.specs.RandomQueries.{HasRandomColumns, HasRandom
 use crate::random_queries::random_query;
 use crate::random_tables::{loaded_tables, random_tables};
 use crate::random_values::Random;
+use crate::shares::{Shares, has_like};
 use qw_bench::bench::{Bench, BenchFault, Ended, Job, Limits, MAX_STEPS};
 use qw_compile::compile::compile;
 use qw_csv::Loaded;
 use qw_meaning::query::Query;
 use qw_plain::outcome::{Answer, plain_outcome};
+use qw_plain::partners::partners;
 use qw_sink::results::received;
 use qw_types::{Code, NoMemory, Row, Val};
 use qw_valid::valid::validate;
@@ -77,6 +79,9 @@ fn bench_over(
 #[derive(Drop)]
 struct Expected {
     answer: Answer,
+    /// How many partners the left rows of its LEFT JOINs have.
+    partners: Vec<usize>,
+    has_like: bool,
     /// How many instructions and pages it took alone.
     taken: (u64, u32),
 }
@@ -106,7 +111,12 @@ fn prepared(
     let answer = answer_of(alloc, &query, tables)?;
     let bench = run_alone(alloc, loaded, job_of(alloc, &query)?)?;
     let taken = taken(&bench, 0);
-    expected.push(Expected { answer, taken })?;
+    expected.push(Expected {
+        answer,
+        partners: partners_of(alloc, &query, tables)?,
+        has_like: has_like(query.sources(), query.conjuncts()),
+        taken,
+    })?;
     job_of(alloc, &query)
 }
 
@@ -116,6 +126,14 @@ pub fn answer_of(alloc: Global, query: &Query, tables: &[Vec<Row>]) -> Result<An
     requires rows { AllByRecursion HasRandomRows (map (λ t. t.items) tables.now) }
 {
     plain_outcome(alloc, query, tables)
+}
+
+/// How many partners the left rows of a query's LEFT JOINs have.
+fn partners_of(alloc: Global, query: &Query, tables: &[Vec<Row>]) -> Result<Vec<usize>, NoMemory>
+    requires entries { AllByRecursion IsRandomEntry (entries_of (query_of query.now).sources) }
+    requires rows { AllByRecursion HasRandomRows (map (λ t. t.items) tables.now) }
+{
+    partners(alloc, query, tables)
 }
 
 /// A bench of the jobs of three random queries, before its first turn.
@@ -258,11 +276,14 @@ fn first_other(
 struct Seen {
     rows: u64,
     raised: u64,
+    shares: Shares,
 }
 
 impl Seen {
     fn note(&mut self, expected: &[Expected]) {
         for one in expected {
+            self.shares.note_like(one.has_like);
+            self.shares.note_partners(&one.answer, &one.partners);
             match &one.answer {
                 Answer::Rows(rows) => {
                     if !rows.is_empty() {
@@ -296,11 +317,17 @@ fn one_order(
 #[test]
 fn jobs_beside_each_other(rt: HostRuntime) -> Result<(), Fail> {
     let mut random = Random::of_all_types(19_981_130);
-    let mut seen = Seen { rows: 0, raised: 0 };
+    let mut seen = Seen {
+        rows: 0,
+        raised: 0,
+        shares: Shares::new(),
+    };
     for order in 0..ORDERS {
         one_order(&rt, rt.alloc(), &mut random, order, &mut seen)?;
     }
     let enough = (60 < seen.rows, 40 < seen.raised);
     assert_eq!(rt; enough, (true, true));
+    assert_eq!(rt; seen.shares.have_left_joins(20), (true, true));
+    assert!(rt; 30 < seen.shares.like);
     Ok(())
 }

@@ -1,5 +1,5 @@
-//! Random queries of one to five entries over three tables of the same columns: joins with and without an equality that can be a key,
-//! divisions that may raise, and, where the numbers say so, columns and literals of all types.
+//! Random queries of one to five entries over three tables of the same columns: joins, half of them LEFT, with and without an equality that can
+//! be a key, divisions that may raise, and, where the numbers say so, columns and literals of all types and LIKE.
 
 ghost use Rattle.std.specs.Prelude.{◌≡◌, ◌+◌, ◌*◌, ◌≤◌, ◌<◌, IfOk, Some, false, length, map, slice_get, ℕ};
 ghost use Rattle.std.specs.List.{AllByRecursion};
@@ -12,7 +12,9 @@ ghost use Rattle.qw_meaning.specs.Select.{entries_of};
 ghost use Rattle.qw_layer_tests.specs.RandomQueries.{AreRandomJoins, AreRandomSources, AreTestsOver, IsNumberOver, IsRandomEntry, IsRandomItem, IsRandomSource, IsTestOver, IsValueOver, random_columns, random_types};
 
 use crate::random_tables::TABLES;
-use crate::random_values::{AMOUNT, Random, WORD, any_column, comparable_column, day, whole, word};
+use crate::random_values::{
+    AMOUNT, Random, WORD, any_column, comparable_column, day, like_operator, pattern, whole, word,
+};
 use qw_meaning::query::{Entry, Joined, Query, Source};
 use qw_scalar::comparison::Comparison;
 use qw_scalar::expression::{Cond, Expr, Operator};
@@ -120,7 +122,7 @@ fn random_joins(
     Ok(joins)
 }
 
-/// A join of entry number `next` to a source whose first entry is number `first`.
+/// A join, in half of the cases a LEFT one, of entry number `next` to a source whose first entry is number `first`.
 fn random_join(
     alloc: Global,
     random: &mut Random,
@@ -131,12 +133,9 @@ fn random_join(
     ensures { IfOk result (λ join. IsRandomEntry (joined_of join).entry × AreTestsOver first (next + 1) (joined_of join).on) }
 {
     let entry = random_entry(alloc, random)?;
+    let outer = random.below(2) == 0;
     let on = random_on(alloc, random, first, next)?;
-    Ok(Joined {
-        entry,
-        outer: false,
-        on,
-    })
+    Ok(Joined { entry, outer, on })
 }
 
 /// Tests, and in two of three cases an equality between the entry and those before it.
@@ -224,13 +223,41 @@ fn comparison(
     requires { (first < next) × (next ≤ 5) }
     ensures { IfOk result (λ made. IsTestOver first next (condition_of made)) }
 {
-    let op = comparison_operator(random);
     if random.takes_any() {
-        return of_any_type(alloc, random, op, (first, next), (first, next));
+        return of_all_types(alloc, random, first, next);
     }
+    let op = comparison_operator(random);
     let left = number(alloc, random, 2, first, next)?;
     let right = number(alloc, random, 1, first, next)?;
     compared(alloc, op, left, right)
+}
+
+/// LIKE of a text in one of four cases, else a comparison of values of any type.
+fn of_all_types(
+    alloc: Global,
+    random: &mut Random,
+    first: usize,
+    next: usize,
+) -> Result<Cond, NoMemory>
+    requires { (first < next) × (next ≤ 5) }
+    ensures { IfOk result (λ made. IsTestOver first next (condition_of made)) }
+{
+    if random.below(4) == 0 {
+        return like(alloc, random, first, next);
+    }
+    let op = comparison_operator(random);
+    of_any_type(alloc, random, op, (first, next), (first, next))
+}
+
+/// A text of the entries that is, or isn't, LIKE a literal.
+fn like(alloc: Global, random: &mut Random, first: usize, next: usize) -> Result<Cond, NoMemory>
+    requires { (first < next) × (next ≤ 5) }
+    ensures { IfOk result (λ made. IsTestOver first next (condition_of made)) }
+{
+    let op = like_operator(random);
+    let text = column(random, (4, WORD), first, next);
+    let pattern = Expr::Text(pattern(alloc, random)?);
+    compared(alloc, op, text, pattern)
 }
 
 /// One of the six comparisons.

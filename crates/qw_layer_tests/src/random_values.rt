@@ -8,6 +8,7 @@ ghost use Rattle.qw_types.specs.declared.kind.Kind.TheVariants as kind;
 ghost use Rattle.qw_scalar.specs.Typing.{are_comparable};
 ghost use Rattle.qw_layer_tests.specs.RandomQueries.{random_types};
 
+use qw_scalar::comparison::Comparison;
 use qw_types::{NoMemory, Text, Ty, Val};
 use std::alloc::Global;
 
@@ -178,6 +179,29 @@ pub fn word(alloc: Global, random: &mut Random) -> Result<Text, NoMemory> {
         _ => "abcdefghijkl",
     };
     Ok(Text::new(String::from_str(alloc, word)?))
+}
+
+/// A pattern that some of the words match, and some do not.
+pub fn pattern(alloc: Global, random: &mut Random) -> Result<Text, NoMemory> {
+    let pattern = match random.below(7) {
+        0 => "a%",
+        1 => "_",
+        2 => "%b%",
+        3 => "%_l",
+        4 => "_b%_h%",
+        5 => "a",
+        _ => "%\u{DF}",
+    };
+    Ok(Text::new(String::from_str(alloc, pattern)?))
+}
+
+/// LIKE or NOT LIKE.
+pub fn like_operator(random: &mut Random) -> Comparison {
+    if random.below(2) == 0 {
+        Comparison::Like
+    } else {
+        Comparison::NotLike
+    }
 }
 
 /// A small number, or one that a product takes out of range.

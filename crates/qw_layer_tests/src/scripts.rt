@@ -12,7 +12,7 @@ use std::process::Abort;
 use std::test::Fail;
 
 // Scripts of one statement, and what it says.
-const SELECTS: [(&str, &str); 89] = [
+const SELECTS: [(&str, &str); 92] = [
     ("SELECT * FROM t", "* FROM t"),
     ("select ALL * from T;", "* FROM T"),
     ("SELECT a FROM t", "a FROM t"),
@@ -54,6 +54,18 @@ const SELECTS: [(&str, &str); 89] = [
     (
         "SELECT a FROM t JOIN u ON a = 1 OR b = 2, v",
         "a FROM t JOIN u ON (a = 1 OR b = 2); v",
+    ),
+    (
+        "SELECT a FROM t LEFT JOIN u ON a = b",
+        "a FROM t LEFT JOIN u ON a = b",
+    ),
+    (
+        "SELECT a FROM t left outer join u AS x ON a = b AND c = 1 INNER JOIN v ON d = 2 LEFT JOIN w y ON (e = 3) WHERE e IS NULL",
+        "a FROM t LEFT JOIN u AS x ON (a = b AND c = 1) JOIN v ON d = 2 LEFT JOIN w AS y ON [e = 3] WHERE e IS NULL",
+    ),
+    (
+        "SELECT a FROM t, u Left Join v ON a = b, w",
+        "a FROM t; u LEFT JOIN v ON a = b; w",
     ),
     // the order of the rows
     ("SELECT a FROM t ORDER BY a", "a FROM t ORDER BY a"),
@@ -283,7 +295,7 @@ const SELECTS: [(&str, &str); 89] = [
 ];
 
 // Texts of one statement that is no query.
-const NO_SELECTS: [&str; 97] = [
+const NO_SELECTS: [&str; 104] = [
     "",
     ";",
     "SELECT",
@@ -307,6 +319,13 @@ const NO_SELECTS: [&str; 97] = [
     "SELECT a FROM t JOIN ON a = b",
     "SELECT a FROM t INNER u ON a = b",
     "SELECT a FROM t RIGHT JOIN u ON a = b",
+    "SELECT a FROM t FULL JOIN u ON a = b",
+    "SELECT a FROM t FULL OUTER JOIN u ON a = b",
+    "SELECT a FROM t OUTER JOIN u ON a = b",
+    "SELECT a FROM t LEFT u ON a = b",
+    "SELECT a FROM t LEFT INNER JOIN u ON a = b",
+    "SELECT a FROM t OUTER LEFT JOIN u ON a = b",
+    "SELECT a FROM t LEFT JOIN u",
     "SELECT a FROM t CROSS JOIN u",
     "SELECT a FROM (t JOIN u ON a = b)",
     "SELECT a FROM t WHERE a = 1, u",

@@ -296,7 +296,14 @@ fn put_entry(out: &mut Line, entry: &Entry<'_>) {
 fn put_source(out: &mut Line, source: &Source<'_>) {
     put_entry(out, &source.first);
     for join in &source.joins {
-        put(out, b" JOIN ");
+        put(
+            out,
+            if join.outer {
+                b" LEFT JOIN ".as_slice()
+            } else {
+                b" JOIN ".as_slice()
+            },
+        );
         put_entry(out, &join.entry);
         put(out, b" ON ");
         put_condition(out, &join.on);

@@ -12,3 +12,10 @@ plain_outcome-requires c = record {
       subst (λ (s : Specification). AllByRecursion (HasRowsOf (map (λ t. t.items) c.args.tables.now)) (entries_of s.sources)) (sym c.in_ok-front.ensures)
       (entries_rows (map (λ t. t.items) c.args.tables.now) (entries_of (grouped_of c.args.query.now).sources) c.requires.rows c.requires.entries);
 }
+
+pub partners-requires : goal.partners-requires
+partners-requires c = record {
+  rows =
+      subst (λ (s : Specification). AllByRecursion (HasRowsOf (map (λ t. t.items) c.args.tables.now)) (entries_of s.sources)) (sym c.in_ok-front.ensures)
+      (entries_rows (map (λ t. t.items) c.args.tables.now) (entries_of (grouped_of c.args.query.now).sources) c.requires.rows c.requires.entries);
+}
