@@ -4,7 +4,7 @@ use Rattle.std.specs.List.{flat_map}
 use Rattle.qw_scalar.specs.declared.expression.Expr.{Expr}
 use Rattle.qw_scalar.specs.declared.expression.Cond.{Cond}
 use Rattle.qw_scalar.specs.Nodes.{nodes, nodes_of}
-use Rattle.qw_fold.specs.Texts.{texts_in, texts_within}
+use Rattle.qw_scalar.specs.Texts.{texts_in, texts_within}
 use Rattle.qw_meaning.specs.Query.{QueryParts}
 use Rattle.qw_meaning.specs.declared.query.Joined.{Joined}
 use Rattle.qw_meaning.specs.declared.query.Source.{Source}

@@ -7,7 +7,6 @@
 //! What a plan means is in `specs/Node`: a flow of rows and exceptions over tables, as a query has one.
 #![tactic(auto)]
 
-mod copy;
 pub mod plan;
 pub mod plan_laws;
 pub mod worked_laws;

@@ -6,7 +6,7 @@ use Rattle.qw_scalar.specs.Nodes.{nodes, nodes_of}
 use Rattle.qw_scalar.specs.declared.expression.Cond.{Cond}
 use Rattle.qw_scalar.specs.declared.expression.Expr.{Expr}
 use Rattle.qw_meaning.specs.Query.{QueryParts}
-use Rattle.qw_fold.specs.Texts.{texts_in, texts_within}
+use Rattle.qw_scalar.specs.Texts.{texts_in, texts_within}
 use Rattle.qw_algebra.specs.Sizes.{query_size, tests_on}
 use Rattle.qw_leaves.specs.Leaves.{leaves_in, leaves_within}
 use Rattle.qw_leaves.proofs.LeafLists.{each_few, texts_few}

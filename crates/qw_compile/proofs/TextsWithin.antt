@@ -14,7 +14,7 @@ use Rattle.qw_scalar.specs.declared.expression.Exprs.TheVariants as Exprs
 use Rattle.qw_scalar.specs.declared.expression.Branches.TheVariants as Branches
 use Rattle.qw_scalar.specs.declared.expression.Matches.TheVariants as Matches
 use Rattle.qw_meaning.specs.Query.{QueryParts}
-use Rattle.qw_fold.specs.Texts.{texts_in, texts_of_all, texts_of_branches, texts_of_matches, texts_within as texts_of_condition}
+use Rattle.qw_scalar.specs.Texts.{texts_in, texts_of_all, texts_of_branches, texts_of_matches, texts_within as texts_of_condition}
 use Rattle.qw_algebra.specs.Sizes.{query_size, tests_on}
 use Rattle.qw_algebra.proofs.Lists.{all_append}
 use Rattle.qw_leaves.specs.declared.leaf.Leaf.{Leaf}

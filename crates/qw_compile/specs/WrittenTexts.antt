@@ -2,7 +2,7 @@
 -- the select list. In this order their octets lie in the first page, so that who has the query alone can write them there.
 use Rattle.std.specs.Prelude.{ℕ, List, ◌++◌}
 use Rattle.std.specs.List.{flat_map}
-use Rattle.qw_fold.specs.Texts.{texts_in, texts_within}
+use Rattle.qw_scalar.specs.Texts.{texts_in, texts_within}
 use Rattle.qw_meaning.specs.Query.{QueryParts}
 use Rattle.qw_algebra.specs.Sizes.{tests_on}
 

@@ -3,7 +3,7 @@ use Rattle.std.proofs.Common.{◌≡◌, ℕ, ◌+◌, ◌≤◌, List, [], ◌�
 use Rattle.std.specs.List.{AllZip, flat_map}
 use Rattle.std.proofs.lemmas.List.Sums.{sum_by-cons}
 use Rattle.qw_fold.specs.Stands.{Follows, FollowsTruth}
-use Rattle.qw_fold.specs.Texts.{texts_in, texts_within}
+use Rattle.qw_scalar.specs.Texts.{texts_in, texts_within}
 use Rattle.qw_leaves.specs.Leaves.{leaves_in, leaves_within, texts_among}
 use Rattle.qw_leaves.specs.declared.leaf.Leaf.{Leaf}
 use Rattle.qw_leaves.proofs.LeafLists.{texts_of_both}

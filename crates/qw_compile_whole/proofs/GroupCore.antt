@@ -19,7 +19,7 @@ use Rattle.qw_meaning.specs.Select.{AreOfEntries, Specification, entries_of}
 use Rattle.qw_grouped.specs.Grouped.{Grouped, SetFunction, kinds_of}
 use Rattle.qw_grouped.specs.Groups.{function_values, groups, key_of, keys, members}
 use Rattle.qw_grouped.specs.declared.set_function.SetFunctionKind.{SetFunctionKind}
-use Rattle.qw_grouped.proofs.TypedRows.{all_more}
+use Rattle.qw_meaning.proofs.ListLemmas.{all_more}
 use Rattle.qw_pipe.specs.General.{general_hashing}
 use Rattle.qw_pipe.specs.Octets.{greatest_entry, table_octets}
 use Rattle.qw_map.specs.Layout.{row_size}

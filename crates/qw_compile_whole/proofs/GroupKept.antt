@@ -26,7 +26,7 @@ use Rattle.qw_grouped.specs.Whole.{Whole, grouped, whole_outcome}
 use Rattle.qw_grouped.specs.declared.set_function.SetFunctionKind.{SetFunctionKind}
 use Rattle.qw_grouped.proofs.OrderLemmas as order
 use Rattle.qw_grouped.proofs.TypedGroups.{all_behind}
-use Rattle.qw_grouped.proofs.TypedRows.{all_more}
+use Rattle.qw_meaning.proofs.ListLemmas.{all_more}
 use Rattle.qw_pipe.specs.General.{general_hashing}
 use Rattle.qw_pipe.specs.Octets.{greatest_entry, table_count, table_octets}
 use Rattle.qw_map.specs.Layout.{row_size}

@@ -15,7 +15,7 @@ use Rattle.qw_meaning.specs.Select.{Specification}
 use Rattle.qw_grouped.specs.Grouped.{Grouped, kinds_of}
 use Rattle.qw_grouped.specs.Groups.{behind_front, function_values, key_of, keys, members}
 use Rattle.qw_grouped.specs.declared.set_function.SetFunctionKind.{SetFunctionKind}
-use Rattle.qw_grouped.proofs.TypedRows.{all_flat_map}
+use Rattle.qw_meaning.proofs.ListLemmas.{all_flat_map}
 use Rattle.qw_feed.specs.Feeds.{flow_by, flow_over, spend}
 use Rattle.qw_feed.specs.Rows.{Row}
 use Rattle.qw_table.specs.Keys.{text_octets}

@@ -3,7 +3,7 @@ use Rattle.std.proofs.Common.{◌≡◌, ℕ, List, [], ◌∷◌, ◌++◌, map
 use Rattle.std.specs.List.{AllByRecursion, flat_map}
 use Rattle.qw_scalar.specs.Tree.{expression_of}
 use Rattle.qw_scalar.specs.declared.expression.Expr.{Expr}
-use Rattle.qw_fold.specs.Texts.{texts_in, texts_within}
+use Rattle.qw_scalar.specs.Texts.{texts_in, texts_within}
 use Rattle.qw_leaves.specs.Leaves.{HasLeaves, OfText, leaves_in, texts_among}
 use Rattle.qw_leaves.specs.declared.leaf.Leaf.{Leaf}
 use Rattle.qw_leaves.specs.declared.leaf.Leaf.TheVariants as leaf

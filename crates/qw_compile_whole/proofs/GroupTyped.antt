@@ -1,10 +1,9 @@
 -- The rows that reach the groups of a query have values of the types of the grouped columns, and the values of set functions are of their columns' kinds
 -- (ISO/IEC 9075:1992, 6.5, 7.7).
-use Rattle.std.proofs.Common.{◌≡◌, ◌∙◌, ◌⊎◌, ℕ, zero, suc, ◌+◌, ◌*◌, ◌/◌, ◌%◌, ◌<◌, ◌≤◌, ◌^◌, nat_eq, Bool, true, false, List, [], ◌∷◌, ◌++◌, map, length, take, Option, Some, Result, Ok, Err, IfOk, slice_get, inl, inr, refl, sym, ap, subst, arith}
+use Rattle.std.proofs.Common.{◌≡◌, ◌∙◌, ℕ, zero, suc, ◌+◌, ◌<◌, ◌≤◌, ◌^◌, Bool, false, List, [], ◌∷◌, ◌++◌, map, length, take, Some, Result, Ok, Err, IfOk, slice_get, refl, sym, ap, subst, arith}
 use Rattle.std.specs.List.{AllByRecursion, AllZip, flat_map}
 use Rattle.std.specs.List.Sorted.{IsPermutation}
 use Rattle.std.proofs.ByRecursion.{all_shuffled}
-use Rattle.std.proofs.lemmas.Bool.Decides.{nat_tests}
 use Rattle.qw_types.specs.Arithmetic.{◌>>=◌}
 use Rattle.qw_types.specs.Contents.{IsOfColumnType, rows_of}
 use Rattle.qw_types.specs.Kind.{IsRowOf, type_kind}
@@ -15,52 +14,25 @@ use Rattle.qw_types.specs.declared.schema.ColumnType.{ColumnType}
 use Rattle.qw_types.specs.declared.value.Ty.{Ty}
 use Rattle.qw_types.specs.declared.value.Val.{Val}
 use Rattle.qw_types.specs.declared.value.Val.TheVariants.{Null, Num, Date, Text}
-use Rattle.qw_scalar.specs.Conjuncts.{passes}
 use Rattle.qw_scalar.specs.Evaluation.{at_row}
-use Rattle.qw_scalar.specs.Expression.{Condition, Expression}
+use Rattle.qw_scalar.specs.Expression.{Expression}
 use Rattle.qw_scalar.specs.Typing.{IsValueOf, kind_of}
-use Rattle.qw_meaning.specs.Flow.{Flow, each, kept, rows_given, selected, values_of}
-use Rattle.qw_meaning.specs.From.{at_places, behind_joins, behind_sources, completed, completed_pairs, crossed, entry_flow, first_of, from_sources, joined, merged, pairs, source_flow}
+use Rattle.qw_meaning.specs.Flow.{each, kept, rows_given, selected, values_of}
+use Rattle.qw_meaning.specs.From.{from_sources}
 use Rattle.qw_meaning.specs.Outcome.{flow}
-use Rattle.qw_meaning.specs.Select.{AreOfEntries, Entry, IsColumnOf, IsItemOver, IsOfEntry, IsSpecification, Joined, Source, Specification, entries_in, entries_of, type_in, types_of}
-use Rattle.qw_meaning.proofs.FromLemmas.{cell, cell_behind, merged_cell, null_beside}
+use Rattle.qw_meaning.specs.Select.{AreOfEntries, Entry, IsColumnOf, IsItemOver, IsOfEntry, IsSpecification, Specification, entries_of, types_of}
+use Rattle.qw_meaning.proofs.RowLemmas as lemmas
+use Rattle.qw_meaning.proofs.FromLemmas.{cell}
 use Rattle.qw_leaves.proofs.LeafLists.{all_back, all_front}
 use Rattle.qw_grouped.specs.Grouped.{Grouped, IsGrouped, arguments_of, expression_of_column, front, kinds_of, type_of_function, types_of_group}
 use Rattle.qw_grouped.specs.Groups.{Group, function_values, group_row, groups, key_of, keys, members}
 use Rattle.qw_grouped.specs.declared.query.GroupedColumn.{GroupedColumn}
 use Rattle.qw_grouped.specs.declared.set_function.SetFunctionKind.{SetFunctionKind}
 use Rattle.qw_grouped.proofs.TypedGroups.{all_once, table_typed}
-use Rattle.qw_grouped.proofs.TypedRows.{all_flat_map, all_map, all_more, rows_typed}
-
--- ---- places
-
-nat_is : (a b : ℕ) → nat_eq a b ≡ true → a ≡ b
-nat_is a b h = grind (arith, nat_tests)
-
-nat_is_not : (a b : ℕ) → nat_eq a b ≡ false → a ≡ b → ⊥
-nat_is_not a b h e = grind (arith, nat_tests)
-
-beside_of : (next i : ℕ) → (next ≡ i / 64 → ⊥) → (i < 64 * next) ⊎ (64 * next + 64 ≤ i)
-beside_of next i h = one (apart next (i / 64))
-  where
-    apart : (a b : ℕ) → (a < b) ⊎ ((a ≡ b) ⊎ (b < a))
-    apart a b = grind arith
-
-    one : (next < i / 64) ⊎ ((next ≡ i / 64) ⊎ (i / 64 < next)) → (i < 64 * next) ⊎ (64 * next + 64 ≤ i)
-    one (inl lt) = inr (omega arith)
-    one (inr (inl e)) = absurd (h e)
-    one (inr (inr gt)) = inl (omega arith)
-
-place_is : (next i : ℕ) → next ≡ i / 64 → i ≡ 64 * next + i % 64
-place_is next i e = omega (arith, e)
+use Rattle.qw_meaning.proofs.ListLemmas.{all_flat_map, all_map, all_more}
+use Rattle.qw_grouped.proofs.TypedRows.{rows_typed}
 
 -- ---- values
-
-first_held : (ty : Ty) (v w : Val) → IsOfTypeOrNull ty false v → IsOfTypeOrNull ty false w → IsOfTypeOrNull ty false (first_of v w)
-first_held ty Null w h g = g
-first_held ty (Num v) w h g = h
-first_held ty (Date d) w h g = h
-first_held ty (Text t) w h g = h
 
 null_or : (ty : Ty) (b : Bool) (v : Val) → IsOfTypeOrNull ty b v → IsOfTypeOrNull ty false v
 null_or ty b Null h = refl
@@ -84,112 +56,26 @@ row_long (c ∷ columns) (v ∷ row) h = ap suc (row_long columns row h.1)
 
 -- ---- FROM and WHERE
 
-module _ (entries : List Entry) (tables : List (List (List Val))) where
-  -- a row holds a value of its type, or null, for each column of the entries
-  abbrev pub HoldsEach : List Val → Type 0
-  HoldsEach row = (i : ℕ) (ty : Ty) → IsColumnOf entries i ty → IsOfTypeOrNull ty false (cell row i)
+-- a value of its type, or null
+abbrev pub IsOfItsType : Ty → Val → Type 0
+IsOfItsType ty v = IsOfTypeOrNull ty false v
 
-  merged_holds : (row other : List Val) → HoldsEach row → HoldsEach other → HoldsEach (merged row other)
-  merged_holds row other h g i ty col = subst (IsOfTypeOrNull ty false) (sym (merged_cell row other i)) (first_held ty (cell row i) (cell other i) (h i ty col) (g i ty col))
+pub null_of_type : (ty : Ty) → IsOfItsType ty Null
+null_of_type ty = refl
 
-  placed_holds : (next : ℕ) (e : Entry) (row : List Val) → slice_get entries next ≡ Some e → length e.columns ≤ 64 → AllZip IsOfColumnType e.columns row
-      → (i : ℕ) (b : Bool) → nat_eq next (i / 64) ≡ b → (ty : Ty) → IsColumnOf entries i ty → IsOfTypeOrNull ty false (cell (at_places next row) i)
-  placed_holds next e row there few typed i true own ty col =
-      let here : next ≡ i / 64 = nat_is next (i / 64) own in
-      let place : i ≡ 64 * next + i % 64 = place_is next i here in
-      let entry : slice_get entries (i / 64) ≡ Some e = subst (λ (k : ℕ). slice_get entries k ≡ Some e) here there in
-      let found : slice_get (types_of e.columns) (i % 64) ≡ Some ty = subst (λ (o : Option Entry). type_in o (i % 64) ≡ Some ty) entry col in
-      let value : cell (at_places next row) i ≡ cell row (i % 64) = ap (cell (at_places next row)) place ∙ cell_behind (64 * next) (i % 64) row in
-      subst (IsOfTypeOrNull ty false) (sym value) (row_holds e.columns row typed (i % 64) ty found)
-  placed_holds next e row there few typed i false other ty col =
-      let short : length row ≤ 64 = omega (arith, row_long e.columns row typed, few) in
-      subst (IsOfTypeOrNull ty false) (sym (null_beside next row i short (beside_of next i (nat_is_not next (i / 64) other)))) refl
+-- a row holds a value of its type, or null, for each column of the entries
+abbrev pub HoldsEach : List Entry → List Val → Type 0
+HoldsEach entries row = lemmas.HoldsEach IsOfItsType entries row
 
-  abbrev FlowHolds : Flow (List Val) → Type 0
-  FlowHolds f = AllByRecursion HoldsEach f.rows
+row_of_types : (entries : List Entry) (tables : List (List (List Val))) (e : Entry) (row : List Val) → AllZip IsOfColumnType e.columns row → lemmas.IsRowFor IsOfItsType null_of_type entries tables e row
+row_of_types entries tables e row typed = (row_long e.columns row typed, row_holds e.columns row typed)
 
-  entry_holds : (next : ℕ) (e : Entry) → slice_get entries next ≡ Some e → length e.columns ≤ 64 → IsOfEntry tables e → FlowHolds (entry_flow tables next e.table)
-  entry_holds next e there few of =
-      all_map (AllZip IsOfColumnType e.columns) HoldsEach (at_places next) (rows_of tables e.table)
-      (λ row typed. λ i ty col. placed_holds next e row there few typed i (nat_eq next (i / 64)) refl ty col) of.typed
-
-  crossed_holds : (one other : Flow (List Val)) → FlowHolds one → FlowHolds other → FlowHolds (crossed one other)
-  crossed_holds one other h g =
-      all_flat_map HoldsEach HoldsEach (λ row. map (merged row) other.rows) one.rows
-      (λ row held. all_map HoldsEach HoldsEach (merged row) other.rows (λ o more. merged_holds row o held more) g) h
-
-  kept_given : (conjuncts : List Condition) (row : List Val) (r : Result Bool Code) → passes conjuncts (at_row row) ≡ r → HoldsEach row → AllByRecursion HoldsEach (rows_given (kept conjuncts row))
-  kept_given conjuncts row (Ok true) e h = rw e (h, tt)
-  kept_given conjuncts row (Ok false) e h = rw e tt
-  kept_given conjuncts row (Err code) e h = rw e tt
-
-  kept_holds : (conjuncts : List Condition) (f : Flow (List Val)) → FlowHolds f → FlowHolds (each (kept conjuncts) f)
-  kept_holds conjuncts f h =
-      all_flat_map HoldsEach HoldsEach (λ row. rows_given (kept conjuncts row)) f.rows (λ row held. kept_given conjuncts row (passes conjuncts (at_row row)) refl held) h
-
-  completed_holds : (row : List Val) (passed : List (List Val)) (raised : List Code) → HoldsEach row → AllByRecursion HoldsEach passed → AllByRecursion HoldsEach (completed row passed raised).rows
-  completed_holds row [] [] held h = (held, tt)
-  completed_holds row [] (code ∷ codes) held h = tt
-  completed_holds row (pair ∷ passed) codes held h = h
-
-  -- a row that is completed has null for each column of the other side
-  joined_holds : (outer : Bool) (on : List Condition) (one other : Flow (List Val)) → FlowHolds one → FlowHolds other → FlowHolds (joined outer on one other)
-  joined_holds false on one other h g = kept_holds on (crossed one other) (crossed_holds one other h g)
-  joined_holds true on one other h g =
-      all_flat_map HoldsEach HoldsEach (λ row. (completed_pairs on other.rows row).rows) one.rows
-      (λ row held. completed_holds row (pairs on other.rows row).rows (pairs on other.rows row).codes held
-      (kept_holds on (record { rows = map (merged row) other.rows; codes = [] }) (all_map HoldsEach HoldsEach (merged row) other.rows (λ o more. merged_holds row o held more) g))) h
-
-  -- what is known of the entries from number `next` on
-  abbrev Stand : ℕ → List Entry → Type 0
-  Stand next [] = Unit {0}
-  Stand next (e ∷ es) = ((slice_get entries next ≡ Some e) × (length e.columns ≤ 64)) × (IsOfEntry tables e × Stand (next + 1) es)
-
-  stand_parts : (es fs : List Entry) (next : ℕ) → Stand next (es ++ fs) → Stand next es × Stand (next + length es) fs
-  stand_parts [] fs next g = let count : next ≡ next + 0 = omega arith in (tt, subst (λ (k : ℕ). Stand k fs) count g)
-  stand_parts (e ∷ es) fs next g =
-      let rest = stand_parts es fs (next + 1) g.1.1 in
-      let count : (next + 1) + length es ≡ next + suc (length es) = omega arith in
-      ((g.0, (g.1.0, rest.0)), subst (λ (k : ℕ). Stand k fs) count rest.1)
-
-  joins_hold : (joins : List Joined) (next : ℕ) (before : Flow (List Val)) → FlowHolds before → Stand next (map (λ (j : Joined). j.entry) joins) → FlowHolds (behind_joins tables next before joins)
-  joins_hold [] next before h g = h
-  joins_hold (j ∷ joins) next before h g =
-      let entry : Flow (List Val) = entry_flow tables next j.entry.table in
-      joins_hold joins (next + 1) (joined j.outer j.on before entry) (joined_holds j.outer j.on before entry h (entry_holds next j.entry g.0.0 g.0.1 g.1.0)) g.1.1
-
-  source_holds : (source : Source) (first : ℕ) → Stand first (entries_in source) → FlowHolds (source_flow tables first source)
-  source_holds source first g = joins_hold source.joins (first + 1) (entry_flow tables first source.first.table) (entry_holds first source.first g.0.0 g.0.1 g.1.0) g.1.1
-
-  sources_hold : (sources : List Source) (next : ℕ) (before : Flow (List Val)) → FlowHolds before → Stand next (entries_of sources) → FlowHolds (behind_sources tables next before sources)
-  sources_hold [] next before h g = h
-  sources_hold (source ∷ sources) next before h g =
-      let parts = stand_parts (entries_in source) (entries_of sources) next g in
-      sources_hold sources (next + length (entries_in source)) (crossed before (source_flow tables next source))
-      (crossed_holds before (source_flow tables next source) h (source_holds source next parts.0)) parts.1
-
-  from_holds : (sources : List Source) → Stand 0 (entries_of sources) → FlowHolds (from_sources sources tables)
-  from_holds [] g = ((λ i ty col. refl), tt)
-  from_holds (source ∷ sources) g =
-      let parts = stand_parts (entries_in source) (entries_of sources) 0 g in
-      let count : 0 + length (entries_in source) ≡ length (entries_in source) = omega arith in
-      sources_hold sources (length (entries_in source)) (source_flow tables 0 source) (source_holds source 0 parts.0)
-      (subst (λ (k : ℕ). Stand k (entries_of sources)) count parts.1)
-
-  stand : (es : List Entry) (next : ℕ) → ((k : ℕ) → slice_get es k ≡ slice_get entries (next + k)) → AllByRecursion (λ (e : Entry). length e.columns ≤ 64) es → AllByRecursion (IsOfEntry tables) es → Stand next es
-  stand [] next at few of = tt
-  stand (e ∷ es) next at few of =
-      let here : next + 0 ≡ next = omega arith in
-      let later : (k : ℕ) → slice_get es k ≡ slice_get entries ((next + 1) + k) = λ k.
-      let shift : next + suc k ≡ (next + 1) + k = omega arith in
-      at (suc k) ∙ ap (slice_get entries) shift in
-      ((sym (at 0 ∙ ap (slice_get entries) here), few.0), (of.0, stand es (next + 1) later few.1 of.1))
-
-  -- ---- the values of grouped columns
+module _ (entries : List Entry) where
+  -- the values of grouped columns
   abbrev IsKeyOf : List GroupedColumn → List Val → Type 0
   IsKeyOf columns key = AllZip (λ (c : GroupedColumn) (v : Val). IsOfTypeOrNull c.ty false v) columns key
 
-  key_evaluated : (columns : List GroupedColumn) (arguments : List Expression) → AllByRecursion (IsItemOver (IsColumnOf entries)) (map expression_of_column columns ++ arguments) → (row : List Val) → HoldsEach row
+  key_evaluated : (columns : List GroupedColumn) (arguments : List Expression) → AllByRecursion (IsItemOver (IsColumnOf entries)) (map expression_of_column columns ++ arguments) → (row : List Val) → HoldsEach entries row
       → IfOk (values_of (map expression_of_column columns ++ arguments) (at_row row)) (λ vs. IsKeyOf columns (take (length columns) vs))
   key_evaluated [] arguments typed row held = any (values_of arguments (at_row row))
     where
@@ -203,7 +89,7 @@ module _ (entries : List Entry) (tables : List (List (List Val))) where
       one (Ok vs) h = (held c.number c.ty typed.0.1, h)
       one (Err code) h = tt
 
-  key_selected : (columns : List GroupedColumn) (arguments : List Expression) → AllByRecursion (IsItemOver (IsColumnOf entries)) (map expression_of_column columns ++ arguments) → (row : List Val) → HoldsEach row
+  key_selected : (columns : List GroupedColumn) (arguments : List Expression) → AllByRecursion (IsItemOver (IsColumnOf entries)) (map expression_of_column columns ++ arguments) → (row : List Val) → HoldsEach entries row
       → AllByRecursion (λ (r : List Val). IsKeyOf columns (take (length columns) r)) (rows_given (selected (map expression_of_column columns ++ arguments) row))
   key_selected columns arguments typed row held = one (values_of (map expression_of_column columns ++ arguments) (at_row row)) (key_evaluated columns arguments typed row held)
     where
@@ -220,13 +106,11 @@ both_all P Q R (x ∷ xs) f h g = (f x h.0 g.0, both_all P Q R xs f h.1 g.1)
 
 -- the rows that FROM and WHERE leave
 pub clauses_hold : (query : Specification) (tables : List (List (List Val))) → IsSpecification query → AreOfEntries (entries_of query.sources) tables
-    → AllByRecursion (HoldsEach (entries_of query.sources) tables) (each (kept query.conjuncts) (from_sources query.sources tables)).rows
+    → AllByRecursion (HoldsEach (entries_of query.sources)) (each (kept query.conjuncts) (from_sources query.sources tables)).rows
 clauses_hold query tables whole loaded =
-    kept_holds (entries_of query.sources) tables query.conjuncts (from_sources query.sources tables)
-    (from_holds (entries_of query.sources) tables query.sources (stand (entries_of query.sources) tables (entries_of query.sources) 0 (λ k. ap (slice_get (entries_of query.sources)) (zero_plus k)) whole.few_columns loaded))
-  where
-    zero_plus : (k : ℕ) → k ≡ 0 + k
-    zero_plus k = omega arith
+    lemmas.clauses_hold IsOfItsType null_of_type query tables whole.few_columns
+    (all_more (IsOfEntry tables) (lemmas.HasRowsFor IsOfItsType null_of_type (entries_of query.sources) tables) (entries_of query.sources)
+    (λ e of. all_more (AllZip IsOfColumnType e.columns) (lemmas.IsRowFor IsOfItsType null_of_type (entries_of query.sources) tables e) (rows_of tables e.table) (row_of_types (entries_of query.sources) tables e) of.typed) loaded)
 
 kinds_of_row : (columns : List ColumnType) (row : List Val) → AllByRecursion (λ (c : ColumnType). IsSized c.ty) columns → AllZip IsOfColumnType columns row → IsRowOf (map type_kind (types_of columns)) row
 kinds_of_row [] [] s h = tt
@@ -281,13 +165,13 @@ groups_of (suc columns) rows some = refl
 
 module _ (query : Grouped) (whole : IsGrouped query) (tables : List (List (List Val))) (loaded : AreOfEntries (entries_of query.sources) tables) where
   -- the rows that FROM and WHERE leave
-  pub from_rows : AllByRecursion (HoldsEach (entries_of query.sources) tables) (each (kept query.conjuncts) (from_sources query.sources tables)).rows
+  pub from_rows : AllByRecursion (HoldsEach (entries_of query.sources)) (each (kept query.conjuncts) (from_sources query.sources tables)).rows
   from_rows = clauses_hold (front query) tables whole.front loaded
 
   rows_hold : AllByRecursion (λ (r : List Val). IsTypedKey query (take (length query.columns) r)) (flow (front query) tables).rows
   rows_hold =
-      all_flat_map (HoldsEach (entries_of query.sources) tables) (λ (r : List Val). IsTypedKey query (take (length query.columns) r)) (λ row. rows_given (selected (front query).items row)) (each (kept query.conjuncts) (from_sources query.sources tables)).rows
-      (key_selected (entries_of query.sources) tables query.columns (arguments_of query.functions) whole.front.items) from_rows
+      all_flat_map (HoldsEach (entries_of query.sources)) (λ (r : List Val). IsTypedKey query (take (length query.columns) r)) (λ row. rows_given (selected (front query).items row)) (each (kept query.conjuncts) (from_sources query.sources tables)).rows
+      (key_selected (entries_of query.sources) query.columns (arguments_of query.functions) whole.front.items) from_rows
 
   -- of those rows, in any order
   module _ (rows : List (List Val)) (same : IsPermutation (flow (front query) tables).rows rows) where

@@ -21,7 +21,7 @@ use Rattle.qw_grouped.specs.declared.query.GroupedColumn.{GroupedColumn}
 use Rattle.qw_grouped.specs.declared.set_function.SetFunctionKind.{SetFunctionKind}
 use Rattle.qw_grouped.specs.declared.set_function.SetFunctionKind.TheVariants.{CountRows, Count, Sum, Avg, Min, Max}
 use Rattle.qw_grouped.proofs.Lists.{all_filter}
-use Rattle.qw_grouped.proofs.TypedRows.{all_map, all_more}
+use Rattle.qw_meaning.proofs.ListLemmas.{all_map, all_more}
 use Rattle.qw_operator.proofs.KnownLeaves.{IsUtf8Value}
 use Rattle.qw_compile_whole.proofs.HeldRows.{IsHeldRow, row_utf8, rows_held}
 

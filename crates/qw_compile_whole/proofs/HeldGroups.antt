@@ -27,7 +27,7 @@ use Rattle.qw_grouped.specs.declared.query.GroupedColumn.{GroupedColumn}
 use Rattle.qw_grouped.specs.declared.set_function.SetFunctionKind.{SetFunctionKind}
 use Rattle.qw_grouped.proofs.Lists.{all_filter}
 use Rattle.qw_grouped.proofs.TypedGroups.{all_once, table_typed}
-use Rattle.qw_grouped.proofs.TypedRows.{all_append, all_flat_map, all_map}
+use Rattle.qw_meaning.proofs.ListLemmas.{all_append, all_flat_map, all_map}
 use Rattle.qw_operator.proofs.KnownLeaves.{IsUtf8Value}
 use Rattle.qw_operator.proofs.PairRows.{IsHeld}
 use Rattle.qw_compile_whole.proofs.GroupTyped.{kinds_hold}

@@ -29,7 +29,7 @@ use Rattle.qw_meaning.specs.Outcome.{flow}
 use Rattle.qw_meaning.specs.Select.{AreOfEntries, Entry, IsColumnOf, IsItemOver, IsSpecification, Specification, entries_of, type_in, types_of}
 use Rattle.qw_meaning.proofs.FromLemmas.{cell}
 use Rattle.qw_grouped.specs.Grouped.{widest}
-use Rattle.qw_grouped.proofs.TypedRows.{all_flat_map}
+use Rattle.qw_meaning.proofs.ListLemmas.{all_flat_map}
 use Rattle.qw_operator.proofs.KnownLeaves.{Fits, IsUtf8Value}
 use Rattle.qw_operator.proofs.PairRows.{IsHeld, held_utf8, stored_utf8}
 use Rattle.qw_operator.proofs.Promised.{value_utf8}
@@ -110,11 +110,11 @@ column_sized (one ∷ entries) (suc k) j ty h e = column_sized entries k j ty h.
 pub rows_held : (query : Specification) (tables : List (List (List Val))) → IsSpecification query → AreOfEntries (entries_of query.sources) tables → AllByRecursion (λ (e : Entry). AllByRecursion (λ (c : ColumnType). IsSized c.ty) e.columns) (entries_of query.sources) →
     AllByRecursion (HasLeaves (OfText IsUtf8)) query.items → AllByRecursion (λ (row : List Val). AllZip (λ (e : Expression) (v : Val). IsHeld (widest (kind_of e)) false v) query.items row) (flow query tables).rows
 rows_held query tables whole loaded sized texts =
-    all_flat_map (HoldsEach (entries_of query.sources) tables) (IsHeldRow query.items) (λ row. rows_given (selected query.items row)) (each (kept query.conjuncts) (from_sources query.sources tables)).rows
+    all_flat_map (HoldsEach (entries_of query.sources)) (IsHeldRow query.items) (λ row. rows_given (selected query.items row)) (each (kept query.conjuncts) (from_sources query.sources tables)).rows
     (λ row held. selected_held (IsColumnOf (entries_of query.sources)) row (λ i ty c. column_good row held i ty c) query.items whole.items texts)
     (clauses_hold query tables whole loaded)
   where
-    column_good : (row : List Val) → HoldsEach (entries_of query.sources) tables row → (i : ℕ) (ty : Ty) → IsColumnOf (entries_of query.sources) i ty → HoldsIn row i ty × IsUtf8Value (cell row i)
+    column_good : (row : List Val) → HoldsEach (entries_of query.sources) row → (i : ℕ) (ty : Ty) → IsColumnOf (entries_of query.sources) i ty → HoldsIn row i ty × IsUtf8Value (cell row i)
     column_good row held i ty c =
         let of : IsOfTypeOrNull ty false (cell row i) = held i ty c in
         (stored_of_kind ty false (cell row i) (column_sized (entries_of query.sources) (i / 64) (i % 64) ty sized c) of, stored_utf8 ty false (cell row i) of)

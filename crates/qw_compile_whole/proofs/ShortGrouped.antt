@@ -3,7 +3,7 @@ use Rattle.std.proofs.Common.{◌≡◌, ℕ, ◌+◌, ◌≤◌, List, [], ◌+
 use Rattle.std.specs.List.{concat, flat_map}
 use Rattle.std.proofs.lemmas.List.Sums.{sum_by-append}
 use Rattle.qw_scalar.specs.Nodes.{nodes, nodes_of}
-use Rattle.qw_fold.specs.Texts.{texts_in, texts_within}
+use Rattle.qw_scalar.specs.Texts.{texts_in, texts_within}
 use Rattle.qw_meaning.specs.Query.{QueryParts}
 use Rattle.qw_algebra.specs.Sizes.{query_size}
 use Rattle.qw_grouped.specs.Query.{GroupedParts}

@@ -22,7 +22,7 @@ use Rattle.qw_meaning.specs.Select.{AreOfEntries, Specification, entries_of, Ent
 use Rattle.qw_grouped.specs.Grouped.{Grouped, SetFunction, front, kinds_of, IsGrouped, arguments_of, expression_of_column, type_of_function}
 use Rattle.qw_grouped.specs.Groups.{function_values, groups, behind_front}
 use Rattle.qw_grouped.specs.declared.set_function.SetFunctionKind.{SetFunctionKind}
-use Rattle.qw_grouped.proofs.TypedRows.{all_more}
+use Rattle.qw_meaning.proofs.ListLemmas.{all_more}
 use Rattle.qw_pipe.specs.General.{general_hashing}
 use Rattle.qw_pipe.specs.Octets.{greatest_entry, table_octets, table_count}
 use Rattle.qw_map.specs.Layout.{row_size}

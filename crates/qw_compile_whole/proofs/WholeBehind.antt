@@ -19,7 +19,7 @@ use Rattle.qw_grouped.specs.Grouped.{Grouped, expression_of_column}
 use Rattle.qw_grouped.specs.Groups.{Group, behind_front, group_row, grouped_table, groups, key_of, keys, members, once}
 use Rattle.qw_grouped.specs.declared.query.GroupedColumn.{GroupedColumn}
 use Rattle.qw_grouped.proofs.TypedGroups.{all_once}
-use Rattle.qw_grouped.proofs.TypedRows.{all_flat_map}
+use Rattle.qw_meaning.proofs.ListLemmas.{all_flat_map}
 use Rattle.qw_pipe.specs.Units.{Hashing, tested_units}
 use Rattle.qw_whole.specs.GroupTables.{all_groups, chosen_units, distinct_octets, distinct_units, group_keys, group_octets, group_units, read_units, table_octets, table_units}
 use Rattle.qw_whole.proofs.GrowingTables.{distinct_keys}

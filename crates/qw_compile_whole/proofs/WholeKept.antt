@@ -24,7 +24,7 @@ use Rattle.qw_grouped.specs.Groups.{function_values, keys, members, once}
 use Rattle.qw_grouped.specs.Whole.{Whole, plain, whole_outcome}
 use Rattle.qw_grouped.proofs.GroupLemmas.{once_permuted}
 use Rattle.qw_grouped.proofs.TypedGroups.{all_once}
-use Rattle.qw_grouped.proofs.TypedRows.{all_more}
+use Rattle.qw_meaning.proofs.ListLemmas.{all_more}
 use Rattle.qw_pipe.specs.General.{general_hashing}
 use Rattle.qw_pipe.specs.Octets.{greatest_entry, table_octets}
 use Rattle.qw_map.specs.Layout.{row_size}

@@ -28,7 +28,7 @@ use Rattle.qw_grouped.specs.declared.set_function.SetFunctionKind.{SetFunctionKi
 use Rattle.qw_grouped.proofs.GroupLemmas.{once_permuted}
 use Rattle.qw_grouped.proofs.OrderLemmas as order
 use Rattle.qw_grouped.proofs.TypedGroups.{all_once}
-use Rattle.qw_grouped.proofs.TypedRows.{all_more}
+use Rattle.qw_meaning.proofs.ListLemmas.{all_more}
 use Rattle.qw_pipe.specs.General.{general_hashing}
 use Rattle.qw_pipe.specs.Octets.{greatest_entry, table_count, table_octets}
 use Rattle.qw_map.specs.Layout.{row_size}

@@ -2,7 +2,7 @@
 -- of each ON in written order, of WHERE, and of the arguments of the set functions; and then those of HAVING, and of the select list.
 use Rattle.std.specs.Prelude.{ℕ, List, ◌++◌}
 use Rattle.std.specs.List.{flat_map}
-use Rattle.qw_fold.specs.Texts.{texts_in, texts_within}
+use Rattle.qw_scalar.specs.Texts.{texts_in, texts_within}
 use Rattle.qw_algebra.specs.Sizes.{tests_on}
 use Rattle.qw_grouped.specs.Query.{GroupedParts}
 use Rattle.qw_grouped.specs.declared.set_function.SetFunction.{SetFunction}

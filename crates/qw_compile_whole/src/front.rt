@@ -2,7 +2,7 @@
 
 ghost use Rattle.std.specs.Prelude.{◌≡◌, ◌+◌, ◌++◌, IfOk, OnOk, length, map, sum_by};
 ghost use Rattle.std.specs.List.{flat_map};
-ghost use Rattle.qw_fold.specs.Texts.{texts_in, texts_within};
+ghost use Rattle.qw_scalar.specs.Texts.{texts_in, texts_within};
 ghost use Rattle.qw_scalar.specs.Nodes.{nodes, nodes_of};
 ghost use Rattle.qw_scalar.specs.Tree.{condition_of, expression_of};
 ghost use Rattle.qw_meaning.specs.Query.{entry_of, joined_of, query_of, source_of};
@@ -14,10 +14,10 @@ ghost use Rattle.qw_compile.specs.WrittenTexts.{texts_of_query};
 ghost use Rattle.qw_compile_whole.specs.WholeLimits.{front_size};
 ghost use Rattle.qw_compile_whole.specs.WholeTexts.{argument_texts, front_texts};
 
-use crate::copy;
 use qw_grouped::query::{GroupedColumn, GroupedQuery};
 use qw_grouped::set_function::SetFunction;
 use qw_meaning::query::{Entry, Joined, Query, Source};
+use qw_scalar::copy;
 use qw_scalar::expression::{Cond, Expr};
 use qw_types::NoMemory;
 use std::alloc::Global;

@@ -24,7 +24,6 @@ mod compile_plain;
 mod compile_single;
 mod compile_single_distinct;
 pub mod compile_whole;
-mod copy;
 mod counted;
 pub mod distinct_columns;
 pub mod distinct_statement;

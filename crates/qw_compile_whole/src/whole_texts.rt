@@ -2,7 +2,7 @@
 
 ghost use Rattle.std.specs.Prelude.{◌≡◌, ◌++◌, IsUtf8, IfOk};
 ghost use Rattle.std.specs.List.{AllByRecursion, flat_map};
-ghost use Rattle.qw_fold.specs.Texts.{texts_in, texts_within};
+ghost use Rattle.qw_scalar.specs.Texts.{texts_in, texts_within};
 ghost use Rattle.qw_compile.specs.WrittenTexts.{texts_of_query};
 ghost use Rattle.qw_compile_whole.specs.WholeTexts.{front_texts, texts_of_grouped};
 

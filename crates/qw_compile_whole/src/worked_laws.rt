@@ -6,7 +6,7 @@ ghost use Rattle.qw_types.specs.declared.value.Ty.TheVariants.{Decimal, Integer,
 ghost use Rattle.qw_scalar.specs.Nodes.{nodes_of};
 ghost use Rattle.qw_scalar.specs.declared.expression.Cond.{Cond};
 ghost use Rattle.qw_scalar.specs.declared.expression.Expr.TheVariants.{Column, Text};
-ghost use Rattle.qw_fold.specs.Texts.{texts_within};
+ghost use Rattle.qw_scalar.specs.Texts.{texts_within};
 ghost use Rattle.qw_grouped.specs.WorkedGroups.{applied_to, by_label, by_price, count_rows, label, label_at, number_at, of_items, price};
 ghost use Rattle.qw_grouped.specs.declared.set_function.SetFunctionKind.TheVariants.{Avg, CountRows, Max, Min};
 ghost use Rattle.qw_compile_whole.specs.DistinctLimits.{IsShortDistinct};

@@ -18,7 +18,7 @@ use Rattle.qw_scalar.specs.Tree.{expression_of}
 use Rattle.qw_scalar.specs.Typing.{IsTyped, ScalesAllowed, kind_of}
 use Rattle.qw_scalar.specs.Units as text
 use Rattle.qw_fold.specs.Folded.{IsFolded, IsLeft}
-use Rattle.qw_fold.specs.Texts.{texts_in}
+use Rattle.qw_scalar.specs.Texts.{texts_in}
 use Rattle.qw_fold.specs.Inner.Made.{BroughtTogether, Follows, IsBuilt, IsFoldOf, is_date, is_number, number_in}
 use Rattle.qw_fold.proofs.Congruence.{itself, then}
 use Rattle.qw_fold.proofs.Literals.{combined_brought, linear}

@@ -13,7 +13,7 @@ use Rattle.qw_scalar.specs.Tree.{condition_of, expression_of}
 use Rattle.qw_fold.specs.Folded.{AreFolded, IsFolded}
 use Rattle.qw_scalar.specs.Same.{AreSame, IsSame}
 use Rattle.qw_meaning.specs.Same.{MeansTheSame}
-use Rattle.qw_fold.specs.Texts.{texts_in, texts_within}
+use Rattle.qw_scalar.specs.Texts.{texts_in, texts_within}
 use Rattle.qw_fold.specs.Inner.Made.{AreFoldOf, ConjunctsFold, IsFoldOf, ItemsFold}
 use Rattle.qw_fold.proofs.Named.{follows_columns, follows_conditions}
 

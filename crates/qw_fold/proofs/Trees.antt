@@ -15,7 +15,7 @@ use Rattle.qw_scalar.specs.Nodes.{nodes, nodes_of, nodes_of_all, nodes_of_branch
 use Rattle.qw_scalar.specs.Tree.{choices_of, condition_of, expression_of, expressions_of, matches_of}
 use Rattle.qw_scalar.specs.Typing.{AreTyped, IsTyped}
 use Rattle.qw_fold.specs.Folded.{AllFolded, AreAtOneScale, AreFolded, BranchesFolded, IsAtScale, IsFolded, MatchesFolded}
-use Rattle.qw_fold.specs.Texts.{texts_in, texts_of_all, texts_of_branches, texts_of_matches, texts_within}
+use Rattle.qw_scalar.specs.Texts.{texts_in, texts_of_all, texts_of_branches, texts_of_matches, texts_within}
 use Rattle.qw_fold.specs.Inner.Made.{AllFoldAt, AreBuilt, AreFoldOf, BranchesFold, BroughtTogether, ChoicesBuilt, Follows, FollowsTruth, IsBuilt, IsFoldAt, IsFoldOf, MatchesBuilt, MatchesFold, StandsAt}
 use Rattle.qw_fold.specs.Inner.Typed.{AllTyped, ChoicesTyped, MatchesTyped}
 use Rattle.qw_fold.proofs.Congruence.{arithmetic_follows, both_follows, comparison_follows, either_follows, then, truth_then}

@@ -11,7 +11,7 @@ use Rattle.qw_scalar.specs.Same.{AreSame, IsSame}
 use Rattle.qw_scalar.specs.Tree.{condition_of, expression_of}
 use Rattle.qw_scalar.specs.Typing.{AreTyped, IsTyped}
 use Rattle.qw_fold.specs.Folded.{AreFolded, IsFolded}
-use Rattle.qw_fold.specs.Texts.{texts_in, texts_within}
+use Rattle.qw_scalar.specs.Texts.{texts_in, texts_within}
 
 -- one of these columns, each its number and its type
 abbrev pub IsAmong : List (ℕ × Ty) → ℕ → Ty → Type 0

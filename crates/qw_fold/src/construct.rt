@@ -6,7 +6,7 @@ ghost use Rattle.qw_scalar.specs.Expression.{Expression, among, arithmetic, betw
 ghost use Rattle.qw_scalar.specs.Nodes.{nodes, nodes_of, nodes_of_all, nodes_of_branches, nodes_of_matches};
 ghost use Rattle.qw_scalar.specs.Tree.{choices_of, condition_of, expression_of, expressions_of, matches_of};
 ghost use Rattle.qw_fold.specs.Folded.{AllFolded, AreAtOneScale, AreFolded, AreOperands, BranchesFolded, IsAtScale, IsFolded, IsLeft, IsNoDate, IsNoNumber, MatchesFolded};
-ghost use Rattle.qw_fold.specs.Texts.{texts_in, texts_of_all, texts_of_branches, texts_of_matches, texts_within};
+ghost use Rattle.qw_scalar.specs.Texts.{texts_in, texts_of_all, texts_of_branches, texts_of_matches, texts_within};
 ghost use Rattle.qw_fold.specs.Inner.Made.{AllBuilt, AreBuilt, ChoicesBuilt, IsBuilt, MatchesBuilt};
 
 use qw_scalar::comparison::Comparison;

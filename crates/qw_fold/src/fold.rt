@@ -8,7 +8,7 @@ ghost use Rattle.qw_scalar.specs.Tree.{condition_of, expression_of};
 ghost use Rattle.qw_scalar.specs.Typing.{AreTyped, IsTyped};
 ghost use Rattle.qw_fold.specs.Folded.{AreFolded, IsFolded};
 ghost use Rattle.qw_meaning.specs.Same.{MeansTheSame};
-ghost use Rattle.qw_fold.specs.Texts.{texts_in, texts_within};
+ghost use Rattle.qw_scalar.specs.Texts.{texts_in, texts_within};
 ghost use Rattle.qw_fold.specs.Inner.Made.{ConjunctsFold, ItemsFold};
 
 use crate::tree::{condition, expression};

@@ -10,7 +10,7 @@ ghost use Rattle.qw_scalar.specs.Tree.{expression_of};
 ghost use Rattle.qw_scalar.specs.Typing.{IsTyped};
 ghost use Rattle.qw_scalar.specs.declared.expression.Expr.TheVariants.{Number};
 ghost use Rattle.qw_fold.specs.Folded.{IsAtScale, IsFolded};
-ghost use Rattle.qw_fold.specs.Texts.{texts_in};
+ghost use Rattle.qw_scalar.specs.Texts.{texts_in};
 ghost use Rattle.qw_fold.specs.Inner.Made.{IsBrought, IsFoldAt, IsFoldOf, number_in};
 
 use qw_scalar::evaluate::{scale, value};

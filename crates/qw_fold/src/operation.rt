@@ -6,7 +6,7 @@ ghost use Rattle.qw_scalar.specs.Nodes.{nodes};
 ghost use Rattle.qw_scalar.specs.Tree.{expression_of};
 ghost use Rattle.qw_scalar.specs.Typing.{IsTyped};
 ghost use Rattle.qw_fold.specs.Folded.{AreOperands, IsFolded, IsLeft, IsNoDate, IsNoNumber};
-ghost use Rattle.qw_fold.specs.Texts.{texts_in};
+ghost use Rattle.qw_scalar.specs.Texts.{texts_in};
 ghost use Rattle.qw_fold.specs.Inner.Made.{AreFoldOf, BroughtTogether, IsBuilt, IsFoldOf};
 
 use crate::construct::{arithmetic_tree, compare_tree, extract_tree, negative_tree};

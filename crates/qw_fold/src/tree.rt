@@ -4,7 +4,7 @@ ghost use Rattle.std.specs.Prelude.{◌≡◌, ◌≤◌, IfOk};
 ghost use Rattle.qw_scalar.specs.Nodes.{nodes, nodes_of, nodes_of_all, nodes_of_branches};
 ghost use Rattle.qw_scalar.specs.Tree.{choices_of, condition_of, expression_of, expressions_of};
 ghost use Rattle.qw_scalar.specs.Typing.{AreTyped, IsTyped};
-ghost use Rattle.qw_fold.specs.Texts.{texts_in, texts_of_all, texts_of_branches, texts_within};
+ghost use Rattle.qw_scalar.specs.Texts.{texts_in, texts_of_all, texts_of_branches, texts_within};
 ghost use Rattle.qw_fold.specs.Stands.{AreFoldOf, IsFoldOf};
 ghost use Rattle.qw_fold.specs.Inner.Made.{AllFoldAt, BranchesFold, MatchesFold};
 ghost use Rattle.qw_fold.specs.Inner.Typed.{AllTyped, ChoicesTyped, MatchesTyped};

@@ -6,19 +6,19 @@ use Rattle.std.proofs.lemmas.Bool.{cases_Bool, false≢true}
 use Rattle.qw_types.specs.ValueOrder.{is_same_row}
 use Rattle.qw_types.specs.declared.value.Val.{Val}
 use Rattle.qw_grouped.specs.Groups.{key_of, keys, members}
-use Rattle.qw_grouped.proofs.ValueTotal.{row_itself, same_row}
+use Rattle.qw_types.proofs.ValueOrderLemmas as ordered
 use Rattle.qw_group.specs.Groups.{In}
 use Rattle.qw_group.proofs.TakenFacts.{filter-more, filter-less}
 
 -- ---- keys that aren't distinct are equal
 pub is-same : (a b : List Val) → a ≡ b → is_same_row a b ≡ true
-is-same a b is = subst (λ (x : List Val). is_same_row a x ≡ true) is (row_itself a)
+is-same a b is = subst (λ (x : List Val). is_same_row a x ≡ true) is (ordered.same_row a)
 
 pub isnt-same : (a b : List Val) → (a ≡ b → ⊥) → is_same_row a b ≡ false
-isnt-same a b isnt = ⊎_elim (λ yes. absurd (isnt (same_row a b yes))) (λ no. no) (cases_Bool (is_same_row a b))
+isnt-same a b isnt = ⊎_elim (λ yes. absurd (isnt (ordered.rows a b yes))) (λ no. no) (cases_Bool (is_same_row a b))
 
 pub same-or : (a b : List Val) → (a ≡ b) ⊎ (a ≡ b → ⊥)
-same-or a b = ⊎_elim (λ yes. inl (same_row a b yes)) (λ no. inr (λ is. false≢true (sym no ∙ is-same a b is))) (cases_Bool (is_same_row a b))
+same-or a b = ⊎_elim (λ yes. inl (ordered.rows a b yes)) (λ no. inr (λ is. false≢true (sym no ∙ is-same a b is))) (cases_Bool (is_same_row a b))
 
 pub in-append : {A : Type 0} → (x y : A) (xs : List A) → In x (xs ++ y ∷ []) → In x xs ⊎ (x ≡ y)
 in-append x y [] (inl is) = inr is

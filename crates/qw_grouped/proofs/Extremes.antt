@@ -12,7 +12,7 @@ use Rattle.qw_types.specs.declared.value.Val.{Val}
 use Rattle.qw_types.specs.declared.value.Val.TheVariants.{Num}
 use Rattle.qw_scalar.specs.Evaluation.{as_number}
 use Rattle.qw_grouped.specs.SetFunctions.{average_value, greater, greatest, greatest_value, least, least_value, lesser, sum_value, total}
-use Rattle.qw_grouped.proofs.TypedRows.{all_more}
+use Rattle.qw_meaning.proofs.ListLemmas.{all_more}
 use Rattle.qw_grouped.proofs.ValueTotal.{value_total}
 
 -- ---- no greater, and no less

@@ -11,14 +11,14 @@ use Rattle.qw_grouped.specs.Groups.{Group, groups, key_of, keys, members, once}
 use Rattle.qw_grouped.proofs.FunctionLemmas.{filter_permuted, two_places}
 use Rattle.qw_grouped.proofs.Lists.{all_filter, dropped, filter_within, filters_commute, flat_map_each, flat_map_map, passed}
 use Rattle.qw_grouped.proofs.Permuting.{permuted}
-use Rattle.qw_grouped.proofs.ValueTotal.{row_itself, same_row}
+use Rattle.qw_types.proofs.ValueOrderLemmas as ordered
 
 -- ---- rows that are and aren't distinct
 
 other_way : (a b : List Val) (c : Bool) → is_same_row b a ≡ c → is_same_row a b ≡ false → c ≡ false
 other_way a b true e h =
-    let same : b ≡ a = same_row b a e in
-    let itself : is_same_row a b ≡ true = subst (λ r. is_same_row a r ≡ true) (sym same) (row_itself a) in
+    let same : b ≡ a = ordered.rows b a e in
+    let itself : is_same_row a b ≡ true = subst (λ r. is_same_row a r ≡ true) (sym same) (ordered.same_row a) in
     absurd cc
 other_way a b false e h = refl
 
@@ -37,7 +37,7 @@ apart (row ∷ rows) =
     (AllPairs-filter (λ r other. is_same_row r other ≡ false) (λ other. not (is_same_row row other)) (once rows) (apart rows))
 
 once_two : (x y : List Val) (zs : List (List Val)) (b : Bool) → is_same_row x y ≡ b → IsPermutation (once (x ∷ y ∷ zs)) (once (y ∷ x ∷ zs))
-once_two x y zs true e = subst (λ r. IsPermutation (once (x ∷ r ∷ zs)) (once (r ∷ x ∷ zs))) (same_row x y e) (IsPermutation-refl (once (x ∷ x ∷ zs)))
+once_two x y zs true e = subst (λ r. IsPermutation (once (x ∷ r ∷ zs)) (once (r ∷ x ∷ zs))) (ordered.rows x y e) (IsPermutation-refl (once (x ∷ x ∷ zs)))
 once_two x y zs false e =
     let p : List Val → Bool = λ other. not (is_same_row x other) in
     let q : List Val → Bool = λ other. not (is_same_row y other) in
@@ -112,7 +112,7 @@ among_once (other ∷ ks) k (inl e) = inl e
 among_once (other ∷ ks) k (inr m) = by_test (is_same_row other k) refl (among_once ks k m)
   where
     by_test : (b : Bool) → is_same_row other k ≡ b → Among (once ks) k → Among (once (other ∷ ks)) k
-    by_test true e rest = inl (same_row other k e)
+    by_test true e rest = inl (ordered.rows other k e)
     by_test false e rest = inr (among_filter (λ o. not (is_same_row other o)) (once ks) k (ap not e) rest)
 
 module _ {X : Type 0} (key : X → List Val) where
@@ -133,14 +133,14 @@ module _ {X : Type 0} (key : X → List Val) where
       by_test : (b : Bool) → is_same_row k (key row) ≡ b → Among (k ∷ ks) (key row) → AllByRecursion (λ r. Among ks (key r)) (of_others k rows) → AllByRecursion (λ r. Among ks (key r)) (of_others k (row ∷ rows))
       by_test true e m rest = rw e rest
       by_test false e (inl same) rest =
-          let itself : is_same_row k (key row) ≡ true = subst (λ r. is_same_row k r ≡ true) same (row_itself k) in
+          let itself : is_same_row k (key row) ≡ true = subst (λ r. is_same_row k r ≡ true) same (ordered.same_row k) in
           absurd cc
       by_test false e (inr m) rest = rw e (m, rest)
 
   -- the rows of a key are among those that are of no other
   key_among : (k other : List Val) (rows : List X) → is_same_row k other ≡ false → of_key other (of_others k rows) ≡ of_key other rows
   key_among k other rows h = filter_within (λ row. is_same_row other (key row)) (λ row. not (is_same_row k (key row))) rows
-      (λ row is. ap not (subst (λ r. is_same_row k r ≡ false) (same_row other (key row) is) h))
+      (λ row is. ap not (subst (λ r. is_same_row k r ≡ false) (ordered.rows other (key row) is) h))
 
   covered : (ks : List (List Val)) (rows : List X) → Apart ks → AllByRecursion (λ row. Among ks (key row)) rows → IsPermutation rows (flat_map (λ k. of_key k rows) ks)
   covered [] [] h m = IsPermutation-refl []

@@ -26,7 +26,7 @@ use Rattle.qw_grouped.specs.declared.query.GroupedColumn.{GroupedColumn}
 use Rattle.qw_grouped.specs.declared.set_function.SetFunctionKind.{SetFunctionKind}
 use Rattle.qw_grouped.specs.declared.set_function.SetFunctionKind.TheVariants.{CountRows, Count, Sum, Avg, Min, Max}
 use Rattle.qw_grouped.proofs.Lists.{all_filter}
-use Rattle.qw_grouped.proofs.TypedRows.{all_flat_map, all_map, all_more}
+use Rattle.qw_meaning.proofs.ListLemmas.{all_flat_map, all_map, all_more}
 
 -- ---- lists
 

@@ -1,22 +1,17 @@
 -- The order of values is total, so the lesser and the greater of several are the same however they are found.
-use Rattle.std.proofs.Common.{◌≡◌, ◌∙◌, ◌<◌, ◌<ℤ◌, ℕ, ℤ, pos, Bool, true, false, List, [], ◌∷◌, if◌then◌else◌, refl, sym, ap}
-use Rattle.std.proofs.lemmas.Cmp.{back_total, tied_itself, upto, on_total, then_total, nat_cmp_total, int_cmp_total, nat_list_cmp_total}
-use Rattle.std.specs.Cmp.{IsTotalOrder, int_ranks, ranks}
-use Rattle.std.specs.Ordering.{MatchOrdering, int_cmp, is_eq, is_ge, flip_args, is_gt, is_le, nat_cmp, on, ordering_reverse, ordering_then, then_cmp}
+use Rattle.std.proofs.Common.{◌≡◌, ◌∙◌, ℕ, ℤ, pos, Bool, true, false, List, [], if◌then◌else◌, refl, sym, ap}
+use Rattle.std.proofs.lemmas.Cmp.{back_total, upto, on_total, then_total, nat_cmp_total, int_cmp_total, nat_list_cmp_total}
+use Rattle.std.specs.Cmp.{IsTotalOrder}
+use Rattle.std.specs.Ordering.{int_cmp, is_ge, flip_args, is_gt, is_le, nat_cmp, on, ordering_reverse, ordering_then, then_cmp}
 use Rattle.std.specs.Cmp.Lexicographic.{slice_cmp}
 use Rattle.std.specs.declared.cmp.Ordering.{Ordering}
 use Rattle.std.specs.declared.cmp.Ordering.TheVariants.{Less, Equal, Greater}
-use Rattle.qw_types.specs.TextOrder.{text_order}
-use Rattle.qw_types.specs.ValueOrder.{is_same_row, row_order, value_order}
+use Rattle.qw_types.specs.ValueOrder.{value_order}
 use Rattle.qw_types.specs.declared.value.Val.{Val}
 use Rattle.qw_types.specs.declared.value.Val.TheVariants.{Null, Num, Date, Text}
+use Rattle.qw_types.proofs.TextOrderLemmas.{as_slices}
+use Rattle.qw_types.proofs.ValueOrderLemmas.{only_same}
 use Rattle.qw_grouped.specs.SetFunctions.{greater, lesser}
-
-as_slices : (left right : List ℕ) → text_order left right ≡ slice_cmp nat_cmp left right
-as_slices [] [] = refl
-as_slices [] (b ∷ others) = refl
-as_slices (a ∷ rest) [] = refl
-as_slices (a ∷ rest) (b ∷ others) = ap (ordering_then (nat_cmp a b)) (as_slices rest others)
 
 abbrev rank : Val → ℕ
 rank Null = 0
@@ -72,75 +67,6 @@ value_total = record {
   congr = λ a b c h. is_by_parts a c ∙ parts_total.congr a b c (sym (is_by_parts a b) ∙ h) ∙ sym (is_by_parts b c);
 }
 
--- ---- what is equal in the order is the same
-
-number_equal : (a b : ℤ) (r : Ordering) → r ≡ Equal → MatchOrdering r (a <ℤ b) (a ≡ b) (b <ℤ a) → a ≡ b
-number_equal a b Less h m = absurd cc
-number_equal a b Equal h m = m
-number_equal a b Greater h m = absurd cc
-
-same_number : (a b : ℤ) → int_cmp a b ≡ Equal → a ≡ b
-same_number a b h = number_equal a b (int_cmp a b) h (int_ranks a b)
-
-octet_equal : (a b : ℕ) (r : Ordering) → r ≡ Equal → MatchOrdering r (a < b) (a ≡ b) (b < a) → a ≡ b
-octet_equal a b Less h m = absurd cc
-octet_equal a b Equal h m = m
-octet_equal a b Greater h m = absurd cc
-
-both_equal : (r s : Ordering) → ordering_then r s ≡ Equal → (r ≡ Equal) × (s ≡ Equal)
-both_equal Less s h = absurd cc
-both_equal Equal s h = (refl, h)
-both_equal Greater s h = absurd cc
-
-same_text : (left right : List ℕ) → text_order left right ≡ Equal → left ≡ right
-same_text [] [] h = refl
-same_text [] (b ∷ others) h = absurd cc
-same_text (a ∷ rest) [] h = absurd cc
-same_text (a ∷ rest) (b ∷ others) h =
-    let parts = both_equal (nat_cmp a b) (text_order rest others) h in
-    let head : a ≡ b = octet_equal a b (nat_cmp a b) parts.0 (ranks a b) in
-    let tail : rest ≡ others = same_text rest others parts.1 in
-    cc
-
-pub same_value : (a b : Val) → value_order a b ≡ Equal → a ≡ b
-same_value Null Null h = refl
-same_value Null (Num b) h = absurd cc
-same_value Null (Date b) h = absurd cc
-same_value Null (Text b) h = absurd cc
-same_value (Num a) Null h = absurd cc
-same_value (Num a) (Num b) h = ap Num (same_number a b h)
-same_value (Num a) (Date b) h = absurd cc
-same_value (Num a) (Text b) h = absurd cc
-same_value (Date a) Null h = absurd cc
-same_value (Date a) (Num b) h = absurd cc
-same_value (Date a) (Date b) h = ap Date (same_number a b h)
-same_value (Date a) (Text b) h = absurd cc
-same_value (Text a) Null h = absurd cc
-same_value (Text a) (Num b) h = absurd cc
-same_value (Text a) (Date b) h = absurd cc
-same_value (Text a) (Text b) h = ap Text (same_text a b h)
-
--- rows that aren't distinct are the same, and the other way round
-rows_equal : (row other : List Val) → row_order row other ≡ Equal → row ≡ other
-rows_equal [] [] h = refl
-rows_equal [] (b ∷ others) h = absurd cc
-rows_equal (a ∷ rest) [] h = absurd cc
-rows_equal (a ∷ rest) (b ∷ others) h =
-    let parts = both_equal (value_order a b) (row_order rest others) h in
-    rw (same_value a b parts.0, rows_equal rest others parts.1) refl
-
-equal_if : (r : Ordering) → is_eq r ≡ true → r ≡ Equal
-equal_if Less h = absurd cc
-equal_if Equal h = refl
-equal_if Greater h = absurd cc
-
-pub same_row : (row other : List Val) → is_same_row row other ≡ true → row ≡ other
-same_row row other h = rows_equal row other (equal_if (row_order row other) h)
-
-pub row_itself : (row : List Val) → is_same_row row row ≡ true
-row_itself [] = refl
-row_itself (a ∷ rest) = rw (tied_itself value_total a) (row_itself rest)
-
 -- ---- the lesser of two, by any total order in which only the same is equal
 
 module _ (R : Val → Val → Ordering) (total : IsTotalOrder R) (only : (a b : Val) → R a b ≡ Equal → a ≡ b) where
@@ -194,17 +120,17 @@ module _ (R : Val → Val → Ordering) (total : IsTotalOrder R) (only : (a b : 
   low_any a b c = any_by a b c (is_gt (R a b)) (is_gt (R b c)) refl refl
 
 pub lesser_either : (a b : Val) → lesser a b ≡ lesser b a
-lesser_either = low_either value_order value_total same_value
+lesser_either = low_either value_order value_total only_same
 
 pub lesser_any : (a b c : Val) → lesser (lesser a b) c ≡ lesser a (lesser b c)
-lesser_any = low_any value_order value_total same_value
+lesser_any = low_any value_order value_total only_same
 
 -- the greater is the lesser of the order turned round
 turned_total : IsTotalOrder (flip_args value_order)
 turned_total = back_total value_total
 
 turned_same : (a b : Val) → flip_args value_order a b ≡ Equal → a ≡ b
-turned_same a b h = sym (same_value b a h)
+turned_same a b h = sym (only_same b a h)
 
 is_turned : (a b : Val) (r s : Ordering) → s ≡ ordering_reverse r → (if is_ge r then a else b) ≡ (if is_le s then a else b)
 is_turned a b Less s e = rw e refl

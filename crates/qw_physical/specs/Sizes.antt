@@ -7,7 +7,7 @@ use Rattle.qw_scalar.specs.declared.expression.Expr.TheVariants.{Null}
 use Rattle.qw_scalar.specs.Tree.{expression_of}
 use Rattle.qw_leaves.specs.Compared.{ComparedTrees, trees_compared}
 use Rattle.qw_algebra.specs.Columns.{is_of, names_only}
-use Rattle.qw_fold.specs.Texts.{texts_in, texts_within}
+use Rattle.qw_scalar.specs.Texts.{texts_in, texts_within}
 use Rattle.qw_pipe.specs.declared.pipeline.Lookup.{Lookup}
 use Rattle.qw_pipe.specs.declared.pipeline.Pipeline as split
 use Rattle.qw_pipe.specs.Sizes.{Measures, pipeline_weight}

@@ -16,7 +16,7 @@ use Rattle.qw_meaning.proofs.SelectLemmas.{row_holds}
 use Rattle.qw_grouped.specs.Grouped.{Grouped, IsGroupColumn, IsGrouped, front, kinds_of, types_of_group}
 use Rattle.qw_grouped.specs.Groups.{grouped_table}
 use Rattle.qw_grouped.proofs.TypedGroups.{table_typed}
-use Rattle.qw_grouped.proofs.TypedRows.{all_flat_map, all_more}
+use Rattle.qw_meaning.proofs.ListLemmas.{all_flat_map, all_more}
 use Rattle.qw_plain_grouped.specs.Inner.Evaluable.{AreEvaluable, AreTestable}
 
 kept_given : (P : List Val → Type 0) (conjuncts : List Condition) (row : List Val) (r : Result Bool Code) → passes conjuncts (at_row row) ≡ r → P row → AllByRecursion P (rows_given (kept conjuncts row))

@@ -4,6 +4,7 @@ pub mod Evaluation
 pub mod Expression
 pub mod Nodes
 pub mod Same
+pub mod Texts
 pub mod Tree
 pub mod Typing
 pub mod Units

@@ -1,7 +1,9 @@
-//! Copies of expressions and conditions, which stand for the same.
+//! Copies of expressions and conditions, which stand for the same and have as many nodes and the same texts.
 
 ghost use Rattle.std.specs.Prelude.{◌≡◌, IfOk};
+ghost use Rattle.qw_scalar.specs.Texts.{texts_in, texts_of_all, texts_of_branches, texts_of_matches, texts_within};
 ghost use Rattle.qw_scalar.specs.Expression.{Expression};
+ghost use Rattle.qw_scalar.specs.Nodes.{nodes, nodes_of, nodes_of_all, nodes_of_branches, nodes_of_matches};
 ghost use Rattle.qw_scalar.specs.Tree.{choices_of, condition_of, expression_of, expressions_of, matches_of};
 
 use crate::expression::{Branches, Cond, Expr, Exprs, Matches};
@@ -15,7 +17,9 @@ use std::alloc::Global;
 /// [`NoMemory`] where the copy does not fit memory, and nowhere else.
 #[cycle(copies)]
 pub fn expression(alloc: Global, expr: &Expr) -> Result<Expr, NoMemory>
-    ensures { IfOk result (λ made. expression_of made ≡ expression_of expr.now) }
+    ensures same { IfOk result (λ made. expression_of made ≡ expression_of expr.now) }
+    ensures nodes { IfOk result (λ made. nodes made ≡ nodes expr.now) }
+    ensures texts { IfOk result (λ made. texts_in made ≡ texts_in expr.now) }
 {
     match expr {
         Expr::Null => Ok(Expr::Null),
@@ -46,7 +50,9 @@ pub fn expression(alloc: Global, expr: &Expr) -> Result<Expr, NoMemory>
 /// An expression once more, in a box.
 #[cycle(copies)]
 fn boxed(alloc: Global, expr: &Expr) -> Result<Box<Expr>, NoMemory>
-    ensures { IfOk result (λ made. expression_of made.value ≡ expression_of expr.now) }
+    ensures same { IfOk result (λ made. expression_of made.value ≡ expression_of expr.now) }
+    ensures nodes { IfOk result (λ made. nodes made.value ≡ nodes expr.now) }
+    ensures texts { IfOk result (λ made. texts_in made.value ≡ texts_in expr.now) }
 {
     Ok(Box::new(alloc, expression(alloc, expr)?)?)
 }
@@ -58,7 +64,9 @@ fn boxed(alloc: Global, expr: &Expr) -> Result<Box<Expr>, NoMemory>
 /// [`NoMemory`] where the copy does not fit memory, and nowhere else.
 #[cycle(copies)]
 pub fn condition(alloc: Global, cond: &Cond) -> Result<Cond, NoMemory>
-    ensures { IfOk result (λ made. condition_of made ≡ condition_of cond.now) }
+    ensures same { IfOk result (λ made. condition_of made ≡ condition_of cond.now) }
+    ensures nodes { IfOk result (λ made. nodes_of made ≡ nodes_of cond.now) }
+    ensures texts { IfOk result (λ made. texts_within made ≡ texts_within cond.now) }
 {
     Ok(match cond {
         Cond::Compare(comparison, left, right) => Cond::Compare(
@@ -91,14 +99,18 @@ pub fn condition(alloc: Global, cond: &Cond) -> Result<Cond, NoMemory>
 
 #[cycle(copies)]
 fn boxed_condition(alloc: Global, cond: &Cond) -> Result<Box<Cond>, NoMemory>
-    ensures { IfOk result (λ made. condition_of made.value ≡ condition_of cond.now) }
+    ensures same { IfOk result (λ made. condition_of made.value ≡ condition_of cond.now) }
+    ensures nodes { IfOk result (λ made. nodes_of made.value ≡ nodes_of cond.now) }
+    ensures texts { IfOk result (λ made. texts_within made.value ≡ texts_within cond.now) }
 {
     Ok(Box::new(alloc, condition(alloc, cond)?)?)
 }
 
 #[cycle(copies)]
 fn expressions(alloc: Global, list: &Exprs) -> Result<Exprs, NoMemory>
-    ensures { IfOk result (λ made. expressions_of made ≡ expressions_of list.now) }
+    ensures same { IfOk result (λ made. expressions_of made ≡ expressions_of list.now) }
+    ensures nodes { IfOk result (λ made. nodes_of_all made ≡ nodes_of_all list.now) }
+    ensures texts { IfOk result (λ made. texts_of_all made ≡ texts_of_all list.now) }
 {
     Ok(match list {
         Exprs::Last(last) => Exprs::Last(boxed(alloc, last)?),
@@ -111,7 +123,9 @@ fn expressions(alloc: Global, list: &Exprs) -> Result<Exprs, NoMemory>
 
 #[cycle(copies)]
 fn branches(alloc: Global, cases: &Branches) -> Result<Branches, NoMemory>
-    ensures { IfOk result (λ made. choices_of made ≡ choices_of cases.now) }
+    ensures same { IfOk result (λ made. choices_of made ≡ choices_of cases.now) }
+    ensures nodes { IfOk result (λ made. nodes_of_branches made ≡ nodes_of_branches cases.now) }
+    ensures texts { IfOk result (λ made. texts_of_branches made ≡ texts_of_branches cases.now) }
 {
     Ok(match cases {
         Branches::Else(result) => Branches::Else(boxed(alloc, result)?),
@@ -125,7 +139,9 @@ fn branches(alloc: Global, cases: &Branches) -> Result<Branches, NoMemory>
 
 #[cycle(copies)]
 fn matches(alloc: Global, cases: &Matches) -> Result<Matches, NoMemory>
-    ensures { IfOk result (λ made. (x : Expression) → matches_of made x ≡ matches_of cases.now x) }
+    ensures same { IfOk result (λ made. (x : Expression) → matches_of made x ≡ matches_of cases.now x) }
+    ensures nodes { IfOk result (λ made. nodes_of_matches made ≡ nodes_of_matches cases.now) }
+    ensures texts { IfOk result (λ made. texts_of_matches made ≡ texts_of_matches cases.now) }
 {
     match cases {
         Matches::Last(value, result, other) => Ok(Matches::Last(

@@ -12,7 +12,7 @@ use Rattle.qw_scalar.specs.declared.expression.Cond.TheVariants.{Compare', Betwe
 use Rattle.qw_scalar.specs.declared.expression.Exprs.TheVariants as Exprs
 use Rattle.qw_scalar.specs.declared.expression.Branches.TheVariants as Branches
 use Rattle.qw_scalar.specs.declared.expression.Matches.TheVariants as Matches
-use Rattle.qw_fold.specs.Texts.{texts_in, texts_of_all, texts_of_branches, texts_of_matches, texts_within}
+use Rattle.qw_scalar.specs.Texts.{texts_in, texts_of_all, texts_of_branches, texts_of_matches, texts_within}
 use Rattle.qw_meaning.specs.Query.{QueryParts}
 use Rattle.qw_grouped.specs.Query.{GroupedParts}
 use Rattle.qw_grouped.specs.declared.set_function.SetFunction.{SetFunction}

@@ -15,6 +15,6 @@ mod NumeralLemmas
 mod PowerLemmas
 mod ShortNumberLemmas
 pub mod TextLaws
-mod TextOrderLemmas
+pub mod TextOrderLemmas
 mod ValueLemmas
-mod ValueOrderLemmas
+pub mod ValueOrderLemmas

@@ -20,7 +20,7 @@ use Rattle.qw_scalar.specs.Tree.{choices_of, condition_of, expression_of, expres
 use Rattle.qw_scalar.specs.Typing.{AreTyped, IsTyped}
 use Rattle.qw_fold.specs.Folded.{AllFolded, AreAtOneScale, AreFolded, BranchesFolded, IsAtScale, IsFolded, MatchesFolded}
 use Rattle.qw_scalar.specs.Same.{AreSame, IsSame}
-use Rattle.qw_fold.specs.Texts.{texts_in, texts_of_all, texts_of_branches, texts_of_matches, texts_within}
+use Rattle.qw_scalar.specs.Texts.{texts_in, texts_of_all, texts_of_branches, texts_of_matches, texts_within}
 pub use Rattle.qw_fold.specs.Stands.{AreFoldOf, Follows, FollowsTruth, IsAmong, IsFoldOf}
 
 -- so can results of a choice that are brought to a scale

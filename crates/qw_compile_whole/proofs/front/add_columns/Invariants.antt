@@ -1,6 +1,6 @@
 use Rattle.std.proofs.Common.{◌≡◌, ◌+◌, ◌++◌, length, map, sum_by, take}
 use Rattle.std.specs.List.{flat_map}
-use Rattle.qw_fold.specs.Texts.{texts_in}
+use Rattle.qw_scalar.specs.Texts.{texts_in}
 use Rattle.qw_scalar.specs.Nodes.{nodes}
 use Rattle.qw_scalar.specs.Tree.{expression_of}
 use Rattle.qw_grouped.specs.Grouped.{expression_of_column}

@@ -1,4 +1,4 @@
-use Rattle.qw_fold.specs.Texts.{texts_within}
+use Rattle.qw_scalar.specs.Texts.{texts_within}
 use Rattle.qw_scalar.specs.Nodes.{nodes_of}
 use Rattle.qw_meaning.specs.Query.{joined_of}
 use Rattle.qw_meaning.specs.declared.query.Joined.{Joined}

@@ -1,6 +1,6 @@
 use Rattle.std.proofs.Common.{◌≡◌, ◌∙◌, ◌++◌, [], IsUtf8, List, ap, subst, sym, append-nil}
 use Rattle.std.specs.List.{AllByRecursion, flat_map}
-use Rattle.qw_fold.specs.Texts.{texts_in, texts_within}
+use Rattle.qw_scalar.specs.Texts.{texts_in, texts_within}
 use Rattle.qw_scalar.specs.declared.expression.Cond.{Cond}
 use Rattle.qw_scalar.specs.declared.expression.Expr.{Expr}
 use Rattle.qw_meaning.specs.Query.{QueryParts}
