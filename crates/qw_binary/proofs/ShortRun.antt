@@ -1,5 +1,5 @@
 -- A short spelling of a module with one function alone.
-use Rattle.std.proofs.Common.{◌≡◌, ℕ, ◌+◌, ◌*◌, ◌^◌, ◌≤◌, All, List, [], ◌∷◌, length, map, reverse, replicate, Option, Some, None, slice_get, refl, sym, ap, subst, ◌∙◌, length-append, arith}
+use Rattle.std.proofs.Common.{◌≡◌, ℕ, ◌+◌, ◌*◌, ◌^◌, ◌≤◌, nat_lt, Bool, true, false, All, List, [], ◌∷◌, length, map, reverse, replicate, Option, Some, None, slice_get, refl, sym, ap, subst, ◌∙◌, length-append, arith}
 use Rattle.std.specs.Prelude.{IsSomeAnd}
 use Rattle.std.specs.Option.{option_map}
 use Rattle.std.specs.List.{AllByRecursion, sum_by, filter_map}
@@ -7,6 +7,7 @@ use Rattle.std.proofs.lemmas.List.{length-map, length-replicate}
 use Rattle.std.proofs.lemmas.List.Sums.{sum_by-cons}
 use Rattle.std.proofs.lemmas.List.Elements.{All-head}
 use Rattle.std.proofs.lemmas.Option.{slice_get-map}
+use Rattle.std.proofs.lemmas.Bool.Decides.{nat_tests}
 use Rattle.qw_module.specs.declared.module.FuncType.{FuncType}
 use Rattle.qw_module.specs.declared.module.Locals.{Locals}
 use Rattle.qw_module.specs.declared.module.Function.{Function}
@@ -27,25 +28,33 @@ use Rattle.qw_binary.proofs.ShortBodies.{octets_by_weight}
 use Rattle.qw_binary.proofs.ShortTyped.{IsNarrow, fits_typed}
 use Rattle.qw_binary.proofs.ShortModules.{spelled_modules}
 
-abbrev pub IsSingle : Locals → Type 0
-IsSingle run = run.count ≡ 1
+-- ---- runs of locals, of which each has one
 
--- ---- locals that are declared one by one
+counted_length : (runs : List Locals) → locals_count runs ≡ length (declared_types runs)
+counted_length [] = refl
+counted_length (run ∷ runs) = omega (arith, counted_length runs, length-append (replicate run.count run.ty) (declared_types runs), length-replicate run.count run.ty)
 
-declared_length : (runs : List Locals) → AllByRecursion IsSingle runs → length (declared_types runs) ≡ length runs
-declared_length [] h = refl
-declared_length (run ∷ runs) h = omega (arith, length-append (replicate run.count run.ty) (declared_types runs), length-replicate run.count run.ty, declared_length runs h.1, h.0)
+-- a run takes no more octets than its locals would take one by one
+short_run : (run : Locals) (few : Bool) → nat_lt run.count 128 ≡ few → 1 ≤ run.count → run_octets run ≤ 2 * run.count
+short_run run true h some =
+    let two : run_octets run ≡ 2 = rw h refl in
+    omega (arith, two, some)
+short_run run false h some =
+    let six : run_octets run ≡ 6 = rw h refl in
+    let many : 128 ≤ run.count = grind (arith, nat_tests, h) in
+    omega (arith, six, many)
 
-counted_length : (runs : List Locals) → AllByRecursion IsSingle runs → locals_count runs ≡ length runs
-counted_length [] h = refl
-counted_length (run ∷ runs) h = omega (arith, counted_length runs h.1, h.0)
-
-two_octets : (runs : List Locals) → AllByRecursion IsSingle runs → sum_by run_octets runs ≡ 2 * length runs
-two_octets [] h = refl
+two_octets : (runs : List Locals) → AllByRecursion (λ (run : Locals). 1 ≤ run.count) runs → sum_by run_octets runs ≤ 2 * length (declared_types runs)
+two_octets [] h = omega arith
 two_octets (run ∷ runs) h =
-    let count : run.count ≡ 1 = h.0 in
-    let one : run_octets run ≡ 2 = rw count refl in
-    omega (arith, sum_by-cons run_octets run runs, one, two_octets runs h.1)
+    omega (
+      arith,
+      sum_by-cons run_octets run runs,
+      short_run run (nat_lt run.count 128) refl h.0,
+      two_octets runs h.1,
+      length-append (replicate run.count run.ty) (declared_types runs),
+      length-replicate run.count run.ty,
+    )
 
 -- ---- exports by their names and kinds
 
@@ -63,7 +72,7 @@ some_there None P h = absurd h
 some_there (Some type) P h = (type, refl, h)
 
 module _ (m : Module) (function : Function) (valid : IsValid m) (is : IsRunAlone function m) (offsets : FitOffsets (code_of_body function.body))
-    (light : weight (code_of_body function.body) ≤ 2 ^ 22) (few : length function.locals.items ≤ 2 ^ 22 + 2 ^ 20) where
+    (light : weight (code_of_body function.body) ≤ 2 ^ 22) (few : length (declared_types function.locals.items) ≤ 2 ^ 22 + 2 ^ 20) where
   octets : code_octets (code_of_body function.body) ≤ 11 * 2 ^ 22
   octets =
       let none : length (numbered (code_of_body function.body)).labels ≡ 0 = ap (λ (s : Sequences). length s.labels) (sym is.order) ∙ ap length is.labels in
@@ -87,7 +96,7 @@ module _ (m : Module) (function : Function) (valid : IsValid m) (is : IsRunAlone
       let params : length (signature_of type).params ≡ 1 = ap (λ (s : Signature). length s.params) signature_is in
       let imported : length (imported_functions m) ≡ 1 = ap (λ imports. length (filter_map imported_function imports)) is.imports in
       let narrow : IsNarrow scope = record {
-        locals = omega (arith, length-append (signature_of type).params (declared_types function.locals.items), params, declared_length function.locals.items is.locals, few);
+        locals = omega (arith, length-append (signature_of type).params (declared_types function.locals.items), params, few);
         functions = omega (
           arith,
           length-map (functions_of m) (signature_in m),
@@ -103,7 +112,7 @@ module _ (m : Module) (function : Function) (valid : IsValid m) (is : IsRunAlone
   function_fits : FitsFunction (function_contents function)
   function_fits = record {
     index = omega (arith, is.index);
-    locals = omega (arith, few, counted_length function.locals.items is.locals);
+    locals = omega (arith, few, counted_length function.locals.items);
     order = is.order;
     code = code_fits;
   }

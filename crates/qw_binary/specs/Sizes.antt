@@ -19,7 +19,7 @@ use Rattle.qw_module.specs.Syntax.{Code, done, op, unreachable, block, loop, if_
 use Rattle.qw_module.specs.Typing.{Signature}
 use Rattle.qw_module.specs.Soundness.{raise_signature}
 use Rattle.qw_module.specs.Start.{weight}
-use Rattle.qw_module.specs.Validity.{signature_of, sequences_of, code_of_body, IsValid}
+use Rattle.qw_module.specs.Validity.{signature_of, sequences_of, code_of_body, IsValid, declared_types}
 use Rattle.qw_binary.specs.Contents.{FunctionContents, GlobalContents, ExportContents, Contents, contents_of}
 use Rattle.qw_binary.specs.Modules.{SpellsModule}
 use Rattle.qw_module.specs.Numbering.{IsInOrder}
@@ -163,13 +163,13 @@ abbrev pub named_export : Export → List ℕ × ExportKind
 named_export export = (string_bytes export.name, export.kind)
 
 -- A module with one function alone, `run`, which takes one i32 and leaves nothing: it imports the memory and `raise`, and has nothing
--- else. Each local of the function is declared by itself; its sequences stand in order; no br_table of it has labels.
+-- else. Each run of its locals has one; its sequences stand in order; no br_table of it has labels.
 pub record IsRunAlone (function : Function) (m : Module) : Type 0 where
   pub types : map signature_of m.types.items ≡ raise_signature ∷ []
   pub imports : m.imports.items ≡ import.Memory (record { min = 1; max = None }) ∷ import.Raise 0 ∷ []
   pub functions : m.functions.items ≡ function ∷ []
   pub index : function.type_index ≡ 0
-  pub locals : AllByRecursion (λ (run : Locals). run.count ≡ 1) function.locals.items
+  pub locals : AllByRecursion (λ (run : Locals). 1 ≤ run.count) function.locals.items
   pub order : IsInOrder (sequences_of function.body)
   pub labels : function.body.labels.items ≡ []
   pub memories : m.memories.items ≡ []
@@ -180,7 +180,7 @@ pub record IsRunAlone (function : Function) (m : Module) : Type 0 where
 abbrev pub SpelledIn64MiB : Type 0
 SpelledIn64MiB =
     (m : Module) (function : Function) → IsValid m → IsRunAlone function m → FitOffsets (code_of_body function.body)
-    → weight (code_of_body function.body) ≤ 2 ^ 22 → length function.locals.items ≤ 2 ^ 22 + 2 ^ 20
+    → weight (code_of_body function.body) ≤ 2 ^ 22 → length (declared_types function.locals.items) ≤ 2 ^ 22 + 2 ^ 20
     → (text : List ℕ) × SpellsModule (contents_of m) text × (length text ≤ 2 ^ 26)
 
 -- ---- any module

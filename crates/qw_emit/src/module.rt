@@ -1,6 +1,6 @@
 //! The module whose function `run` is a block's code.
 
-ghost use Rattle.std.specs.Prelude.{◌≡◌, ℕ, ◌+◌, ◌^◌, ◌≤◌, List, [], ◌∷◌, length, replicate, sum_by, IfOk};
+ghost use Rattle.std.specs.Prelude.{◌≡◌, ℕ, ◌+◌, ◌++◌, ◌^◌, ◌≤◌, List, [], ◌∷◌, length, replicate, sum_by, IfOk, OnOk};
 ghost use Rattle.std.specs.List.{AllByRecursion};
 ghost use Rattle.qw_binary.specs.Contents.{contents_of};
 ghost use Rattle.qw_binary.specs.Modules.{SpellsModule};
@@ -39,14 +39,34 @@ const TYPE_INDEX: u32 = 0;
 /// The index of the module's own function `run`, behind the imported `raise`.
 const RUN_INDEX: u32 = 1;
 
-/// Locals of these types, each declared by itself.
+/// Adds a local of a type: to the last run where that is of this type, else as a run of its own.
+fn add_local(locals: &mut Vec<Locals>, ty: ValType) -> Result<(), NoMemory>
+    requires { AllByRecursion (λ (run : runs.Locals). 1 ≤ run.count) locals.old.items }
+    ensures types { OnOk result (declared_types locals.new.items ≡ declared_types locals.old.items ++ ty ∷ []) }
+    ensures some { OnOk result (AllByRecursion (λ (run : runs.Locals). 1 ≤ run.count) locals.new.items) }
+{
+    match locals.pop() {
+        Some(run) if run.ty == ty && run.count < u32::MAX => locals.push(Locals {
+            count: run.count + 1,
+            ty,
+        })?,
+        Some(run) => {
+            locals.push(run)?;
+            locals.push(Locals { count: 1, ty })?;
+        }
+        None => locals.push(Locals { count: 1, ty })?,
+    }
+    Ok(())
+}
+
+/// Locals of these types, those of one type side by side as one run.
 fn declared(alloc: Global, types: &[ValType]) -> Result<Vec<Locals>, NoMemory>
     ensures types { IfOk result (λ locals. declared_types locals.items ≡ types.now) }
-    ensures single { IfOk result (λ locals. AllByRecursion (λ (run : runs.Locals). run.count ≡ 1) locals.items) }
+    ensures some { IfOk result (λ locals. AllByRecursion (λ (run : runs.Locals). 1 ≤ run.count) locals.items) }
 {
     let mut locals = Vec::new(alloc);
     for ty in types {
-        locals.push(Locals { count: 1, ty: *ty })?;
+        add_local(&mut locals, *ty)?;
     }
     Ok(locals)
 }

@@ -1,4 +1,4 @@
-use Rattle.std.proofs.Common.{◌≡◌, take}
+use Rattle.std.proofs.Common.{◌≡◌, ◌≤◌, take}
 use Rattle.std.specs.List.{AllByRecursion}
 use Rattle.qw_module.specs.declared.module.Locals.{Locals}
 use Rattle.qw_module.specs.Validity.{declared_types}
@@ -7,5 +7,5 @@ use Rattle.qw_emit.proofs.module.declared.Given as goal
 abbrev pub invariant-loop-ty : goal.invariant-loop-ty
 invariant-loop-ty l = record {
   types : declared_types l.locals.items ≡ take l.ty-index l.types;
-  single : AllByRecursion (λ (run : Locals). run.count ≡ 1) l.locals.items;
+  some : AllByRecursion (λ (run : Locals). 1 ≤ run.count) l.locals.items;
 }

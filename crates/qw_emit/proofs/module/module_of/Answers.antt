@@ -41,6 +41,6 @@ returns-clause-no_size c = λ s code.
 
 pub returns-clause-spelled : goal.returns-clause-spelled
 returns-clause-spelled c = λ s code typed small few.
-    spelled_around c.args.locals.now c.in_ok-declared.declared c.in_ok-body.body s (c.in_ok-body.ensures.code s (c.deref.ensures.value ∙ code)) c.in_ok-module.module c.in_ok-declared.ensures.types c.in_ok-declared.ensures.single
+    spelled_around c.args.locals.now c.in_ok-declared.declared c.in_ok-body.body s (c.in_ok-body.ensures.code s (c.deref.ensures.value ∙ code)) c.in_ok-module.module c.in_ok-declared.ensures.types c.in_ok-declared.ensures.some
     c.in_ok-module.ensures.around c.in_ok-module.ensures.run (c.in_ok-body.ensures.order s (c.deref.ensures.value ∙ code)) c.in_ok-body.ensures.labels (c.in_ok-body.ensures.offsets s (c.deref.ensures.value ∙ code))
     (returns-clause-runnable c s code typed) small few
