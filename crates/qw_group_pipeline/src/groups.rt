@@ -19,8 +19,6 @@ ghost use Rattle.qw_group_pipeline.specs.Groups.{EmitsGroups, EmitsGroupsTo, Gro
 ghost use Rattle.qw_group_pipeline.specs.Inner.Met.{IsMet};
 
 use crate::columns::GroupColumns;
-use crate::key::read_key;
-use crate::locals::declare;
 use crate::value::read_values;
 use qw_expr::emitter::Emitter;
 use qw_expr::known::Binding;
@@ -30,6 +28,8 @@ use qw_group_sink::operators as into;
 use qw_layout::row::{CELL_SIZE, KEY_OFFSET};
 use qw_low::cell::Local;
 use qw_module::instruction::ValType;
+use qw_operator::entry::read_entry;
+use qw_operator::locals::declare;
 use qw_operator::operators::emit_operators;
 use qw_physical::{Operator, Sink};
 use qw_table::key::Field;
@@ -60,7 +60,7 @@ fn open_group(
     let mut inner = Emitter::new(alloc, first);
     let entry = first - 1;
     let areas = KEY_OFFSET + CELL_SIZE * columns.key.len() as u32;
-    let mut known = read_key(alloc, &mut inner, entry, &columns.key)?;
+    let mut known = read_entry(alloc, &mut inner, entry, KEY_OFFSET, &columns.key)?;
     let mut values = read_values(alloc, &mut inner, entry, areas, &columns.values)?;
     known.append(&mut values)?;
     known.append(&mut rest)?;

@@ -5,12 +5,10 @@
 //! - [`groups`]: what is done at the groups of a table.
 //! - [`one`]: what is done where all rows are one group.
 //!
-//! How the cells of keys and the values of set functions are read stands in `key` and `value`, which locals are declared in `locals`.
+//! How the values of set functions are read stands in `value`; keys are read as other entries are (`qw_operator::entry`).
 #![tactic(auto)]
 
 pub mod columns;
 pub mod groups;
-mod key;
-mod locals;
 pub mod one;
 mod value;

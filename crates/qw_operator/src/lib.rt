@@ -9,13 +9,12 @@
 //! - [`nesting`]: what is done where a conjunct is true stands within its choice.
 //! - [`lookup`]: a table is looked up, and at each entry that has the key the columns that it keeps are known.
 //! - [`outer`]: the same of a LEFT JOIN, where a row goes on alone that no entry passes with.
+//! - [`entry`]: the columns that a table's entries keep are read.
 //! - [`fields`], [`locals`]: where the fields of keys and of entries are, and which locals are declared.
-//!
-//! What is read of a table's entries stands in `entry`.
 #![tactic(auto)]
 
 pub mod cells;
-mod entry;
+pub mod entry;
 pub mod fields;
 pub mod lists;
 pub mod locals;
