@@ -17,6 +17,8 @@ pub mod Literals
 mod Lookups
 mod NullTests
 pub mod Nulls
+mod PlainTests
+mod Related
 mod Shared
 mod Tests
 mod TextDecisions

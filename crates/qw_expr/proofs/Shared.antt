@@ -27,17 +27,17 @@ use Rattle.qw_expr.proofs.Emitted.{nil, free_after}
 use Rattle.qw_expr.proofs.Nulls.{below_more, known_kept}
 
 -- ---- what is known needs no block
-below_of : (n : ℕ) (known : List Known) (k : Known) → AreBelow n known → IsAmong k known → IsBelow n k.operand.cell
+pub below_of : (n : ℕ) (known : List Known) (k : Known) → AreBelow n known → IsAmong k known → IsBelow n k.operand.cell
 below_of n [] k all among = absurd among
 below_of n (first ∷ known) k all (inl same) = subst (λ (x : Known). IsBelow n x.operand.cell) (sym same) (all.0)
 below_of n (first ∷ known) k all (inr among) = below_of n known k all.1 among
 
-held_of : (known : List Known) (row : List Val) (s : LowState) (k : Known) → AreHeld known row s → IsAmong k known → (v : Val) × (value_of k.expression (at_row row) ≡ Ok v) × Holds k.operand v s
+pub held_of : (known : List Known) (row : List Val) (s : LowState) (k : Known) → AreHeld known row s → IsAmong k known → (v : Val) × (value_of k.expression (at_row row) ≡ Ok v) × Holds k.operand v s
 held_of [] row s k all among = absurd among
 held_of (first ∷ known) row s k all (inl same) = subst (λ (x : Known). (v : Val) × (value_of x.expression (at_row row) ≡ Ok v) × Holds x.operand v s) (sym same) (all.0)
 held_of (first ∷ known) row s k all (inr among) = held_of known row s k all.1 among
 
-declared_of : (types : List ValType) (known : List Known) (k : Known) → AreDeclared types known → IsAmong k known → DeclaresValue types k.operand
+pub declared_of : (types : List ValType) (known : List Known) (k : Known) → AreDeclared types known → IsAmong k known → DeclaresValue types k.operand
 declared_of types [] k all among = absurd among
 declared_of types (first ∷ known) k all (inl same) = subst (λ (x : Known). DeclaresValue types x.operand) (sym same) (all.0)
 declared_of types (first ∷ known) k all (inr among) = declared_of types known k all.1 among

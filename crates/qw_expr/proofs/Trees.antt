@@ -54,7 +54,7 @@ includes_same known = λ k among. among
 pub served_more : (m n : ℕ) (known : List Known) → m ≤ n → IsServed m known → IsServed n known
 served_more m n known le served = (known_below_more m n known le served.0, served.1)
 
-described : (n : ℕ) (known : List Known) (k : Known) → IsServed n known → IsAmong k known → (k.operand.kind ≡ kind_of k.expression) × (k.operand.scale ≡ scale_of k.expression)
+pub described : (n : ℕ) (known : List Known) (k : Known) → IsServed n known → IsAmong k known → (k.operand.kind ≡ kind_of k.expression) × (k.operand.scale ≡ scale_of k.expression)
 described n [] k served among = absurd among
 described n (first ∷ known) k served (inl same) = subst (λ (x : Known). (x.operand.kind ≡ kind_of x.expression) × (x.operand.scale ≡ scale_of x.expression)) (sym same) (served.1.0)
 described n (first ∷ known) k served (inr among) = described n known k (served.0.1, served.1.1) among

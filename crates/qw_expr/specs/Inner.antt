@@ -8,3 +8,4 @@ pub mod Choices
 pub mod Texts
 pub mod Made
 pub mod Tests
+pub mod Plain

@@ -5,11 +5,12 @@ use Rattle.qw_types.specs.declared.truth.Truth.TheVariants.{True, False, Unknown
 use Rattle.qw_types.specs.declared.value.Val.{Val}
 use Rattle.qw_module.specs.declared.instruction.ValType.{ValType}
 use Rattle.qw_module.specs.declared.instruction.ValType.TheVariants.{I32, I64}
+use Rattle.qw_module.specs.declared.instruction.Binary.TheVariants.{And, Or}
 use Rattle.qw_scalar.specs.Columns.{HaveColumns, HoldsIn}
 use Rattle.qw_scalar.specs.Evaluation.{truth_of, at_row}
 use Rattle.qw_scalar.specs.Expression.{Condition}
 use Rattle.qw_scalar.specs.Units.{units_of}
-use Rattle.qw_low.specs.Syntax.{Expression, local, is_zero, relop, Statement}
+use Rattle.qw_low.specs.Syntax.{Expression, local, binop, is_zero, relop, Statement}
 use Rattle.qw_low.specs.State.{Number, LowState}
 use Rattle.qw_low.specs.Meaning.{value, meaning}
 use Rattle.qw_low.specs.Size.{size}
@@ -24,11 +25,14 @@ use Rattle.qw_expr.specs.Cells.{Declares}
 use Rattle.qw_expr.specs.Computes.{Known, AreHeld, AreDeclared}
 use Rattle.qw_expr.specs.Emits.{free_of}
 
--- the expression that a test is
+-- The expression that a test is. What holds a test together in memory is an address, here `_`, which means nothing.
 abbrev pub tested : Test → Expression
 tested (test.Local x) = local x
 tested (test.Zero x) = is_zero I32 (local x)
 tested (test.Related r x y) = relop I64 r (local x) (local y)
+tested (test.Not' _ t) = is_zero I32 (tested t)
+tested (test.Both' _ t _ u) = binop I32 And (tested t) (tested u)
+tested (test.Either' _ t _ u) = binop I32 Or (tested t) (tested u)
 
 -- 1 where a truth is true, and else 0
 abbrev pub truth_word : Truth → ℕ
@@ -41,6 +45,9 @@ abbrev pub IsTestBelow : ℕ → Test → Type 0
 IsTestBelow n (test.Local x) = x < n
 IsTestBelow n (test.Zero x) = x < n
 IsTestBelow n (test.Related r x y) = (x < n) × (y < n)
+IsTestBelow n (test.Not' _ t) = IsTestBelow n t
+IsTestBelow n (test.Both' _ t _ u) = IsTestBelow n t × IsTestBelow n u
+IsTestBelow n (test.Either' _ t _ u) = IsTestBelow n t × IsTestBelow n u
 
 -- A block that begins where what is known is held below the local `next`, and has locals of its own from there on: where it ends, the test
 -- is 1 if the condition is true, and 0 if it is false or unknown; or it raises the condition's exception, within its size times one more

@@ -19,6 +19,7 @@ mod junction;
 pub mod known;
 pub mod literal;
 pub mod operand;
+mod plain;
 pub mod test;
 pub mod text;
 pub mod tree;

@@ -1,35 +1,40 @@
 //! Conditions as tests, for choices that ask only whether they are true: unknown leads where false does (ISO/IEC 9075:1992, 7.6).
 //! What one relation tells needs no local of its own.
 
-ghost use Rattle.std.specs.Prelude.{◌≡◌, ◌+◌, ◌*◌, ◌≤◌, ◌++◌, List, IsTrue, IfOk, OnOk, length};
-ghost use Rattle.qw_scalar.specs.Expression.{Expression, Condition, comparison, negation_of};
-ghost use Rattle.qw_scalar.specs.Nodes.{nodes_of};
-ghost use Rattle.qw_scalar.specs.Tree.{condition_of};
+ghost use Rattle.std.specs.Prelude.{◌≡◌, ℕ, ◌+◌, ◌*◌, ◌≤◌, ◌++◌, List, IsTrue, IfOk, OnOk, length};
+ghost use Rattle.qw_scalar.specs.Expression.{Expression, Condition, among, between, comparison, negation_of};
+ghost use Rattle.qw_scalar.specs.Nodes.{nodes, nodes_of, nodes_of_all};
+ghost use Rattle.qw_scalar.specs.Tree.{condition_of, expression_of, expressions_of};
 ghost use Rattle.qw_scalar.specs.Typing.{AreTyped, are_comparable};
+ghost use Rattle.qw_module.specs.declared.instruction.ValType.TheVariants.{I32};
+ghost use Rattle.qw_module.specs.declared.instruction.Binary.TheVariants.{And, Or};
+ghost use Rattle.qw_low.specs.Syntax.{binop, is_zero};
 ghost use Rattle.qw_low.specs.Steps.{expression_steps};
 ghost use Rattle.qw_expr.specs.declared.emitter.Emitter.{Emitter};
 ghost use Rattle.qw_expr.specs.Bindings.{IsServed, TakeKnown, known_of};
 ghost use Rattle.qw_expr.specs.Cells.{IsBelow};
 ghost use Rattle.qw_expr.specs.Computes.{Known, AreBelow};
 ghost use Rattle.qw_expr.specs.Emits.{Emits, EmitsTruth, extent, free_of};
-ghost use Rattle.qw_expr.specs.Tests.{EmitsTest, tested};
+ghost use Rattle.qw_expr.specs.Tests.{EmitsTest, IsTestBelow, tested};
 ghost use Rattle.qw_expr.specs.Inner.Tests.{is_one_relation};
 
 use crate::emitter::Emitter;
 use crate::known::Binding;
 use crate::operand::Operand;
-use crate::tree::{emit_expr, emit_truth};
+use crate::plain::{one_of, plain, within};
+use crate::tree::{among, between, emit_expr, emit_truth};
 use qw_low::block::Block;
 use qw_low::cell::{Cell, Local};
 use qw_low::step::LowStep;
-use qw_module::instruction::{Op, Relation, ValType};
+use qw_module::instruction::{Binary, Op, Relation, ValType};
 use qw_scalar::comparison::Comparison;
-use qw_scalar::expression::Cond;
+use qw_scalar::expression::{Cond, Expr, Exprs};
 use qw_types::{Kind, NoMemory};
 use qw_wide::order::relation_of;
+use std::alloc::Global;
 
 /// What is 1 where a condition is true, and 0 where it is false or unknown.
-#[derive(Clone, Copy, Debug, PartialEq, Eq)]
+#[derive(Drop)]
 pub enum Test {
     /// A local of type i32.
     Local(Local),
@@ -37,34 +42,74 @@ pub enum Test {
     Zero(Local),
     /// A relation of two locals of type i64.
     Related(Relation, Local, Local),
+    /// Whether a test is 0.
+    Not(Box<Test>),
+    /// Whether two tests are 1, neither of which the other skips.
+    Both(Box<Test>, Box<Test>),
+    /// Whether either of two tests is 1.
+    Either(Box<Test>, Box<Test>),
 }
 
 impl Test {
+    /// The test of whether this one is 0.
+    pub(crate) fn not(self, alloc: Global) -> Result<Test, NoMemory>
+        ensures word { IfOk result (λ out. tested out ≡ is_zero I32 (tested self)) }
+        ensures below { IfOk result (λ out. (n : ℕ) → IsTestBelow n self → IsTestBelow n out) }
+    {
+        Ok(Test::Not(Box::new(alloc, self)?))
+    }
+
+    /// The test of whether this one and another are 1.
+    pub(crate) fn both(self, alloc: Global, other: Test) -> Result<Test, NoMemory>
+        ensures word { IfOk result (λ out. tested out ≡ binop I32 And (tested self) (tested other)) }
+        ensures below { IfOk result (λ out. (n : ℕ) → IsTestBelow n self → IsTestBelow n other → IsTestBelow n out) }
+    {
+        Ok(Test::Both(Box::new(alloc, self)?, Box::new(alloc, other)?))
+    }
+
+    /// The test of whether this one or another is 1.
+    pub(crate) fn either(self, alloc: Global, other: Test) -> Result<Test, NoMemory>
+        ensures word { IfOk result (λ out. tested out ≡ binop I32 Or (tested self) (tested other)) }
+        ensures below { IfOk result (λ out. (n : ℕ) → IsTestBelow n self → IsTestBelow n other → IsTestBelow n out) }
+    {
+        Ok(Test::Either(Box::new(alloc, self)?, Box::new(alloc, other)?))
+    }
+
     /// Adds the steps of the test's expression.
-    pub fn push(self, block: &mut Block) -> Result<(), NoMemory>
-        ensures code { OnOk result (block.new.code.items ≡ block.old.code.items ++ expression_steps (tested self)) }
-        ensures short { OnOk result (length block.new.code.items ≤ length block.old.code.items + 3) }
+    pub fn push(&self, block: &mut Block) -> Result<(), NoMemory>
+        ensures code { OnOk result (block.new.code.items ≡ block.old.code.items ++ expression_steps (tested self.now)) }
     {
         match self {
-            Test::Local(x) => block
-                .code
-                .extend_from_slice(&[LowStep::Op(Op::LocalGet(x))])?,
-            Test::Zero(x) => block.code.extend_from_slice(&[
-                LowStep::Op(Op::LocalGet(x)),
-                LowStep::Op(Op::Eqz(ValType::I32)),
-            ])?,
-            Test::Related(relation, x, y) => block.code.extend_from_slice(&[
-                LowStep::Op(Op::LocalGet(x)),
-                LowStep::Op(Op::LocalGet(y)),
-                LowStep::Op(Op::Relation(ValType::I64, relation)),
-            ])?,
+            Test::Local(x) => block.push(LowStep::Op(Op::LocalGet(*x))),
+            Test::Zero(x) => {
+                block.push(LowStep::Op(Op::LocalGet(*x)))?;
+                block.push(LowStep::Op(Op::Eqz(ValType::I32)))
+            }
+            Test::Related(relation, x, y) => {
+                block.push(LowStep::Op(Op::LocalGet(*x)))?;
+                block.push(LowStep::Op(Op::LocalGet(*y)))?;
+                block.push(LowStep::Op(Op::Relation(ValType::I64, *relation)))
+            }
+            Test::Not(test) => {
+                test.push(block)?;
+                block.push(LowStep::Op(Op::Eqz(ValType::I32)))
+            }
+            Test::Both(left, right) => {
+                left.push(block)?;
+                right.push(block)?;
+                block.push(LowStep::Op(Op::Binary(ValType::I32, Binary::And)))
+            }
+            Test::Either(left, right) => {
+                left.push(block)?;
+                right.push(block)?;
+                block.push(LowStep::Op(Op::Binary(ValType::I32, Binary::Or)))
+            }
         }
-        Ok(())
     }
 }
 
 /// Whether a comparison of two values is one relation of their locals: both are numbers of one scale or dates, and neither may be null.
-fn is_one_relation(left: Operand, right: Operand) -> bool
+pub(crate) fn is_one_relation(left: Operand, right: Operand) -> bool
     ensures { result ≡ is_one_relation left right }
 {
     left.cell.null.is_none()
@@ -90,6 +135,7 @@ impl Emitter {
         ensures emits { IfOk result (λ out. (known : List Known) (a b : Expression) (start mid : Emitter) → AreTyped (comparison operator a b) →
             AreBelow (free_of start) known → Emits known a start mid left → Emits known b mid self.old right → EmitsTest known (comparison operator a b) start self.new out) }
         ensures short { OnOk result (extent self.new ≤ extent self.old + 200) }
+        ensures few { IfOk result (λ out. length (expression_steps (tested out)) ≤ 3) }
     {
         if is_one_relation(left, right) {
             return Ok(Test::Related(relation_of(operator), left.cell.value, right.cell.value));
@@ -98,10 +144,24 @@ impl Emitter {
         Ok(Test::Local(t.value))
     }
 
+    /// Adds the block of a condition, whose truth is left in a local.
+    fn test_truth(&mut self, cond: &Cond, known: &[Binding]) -> Result<Test, NoMemory>
+        requires typed { AreTyped (condition_of cond.now) }
+        requires known { TakeKnown (known_of known.now) (condition_of cond.now) }
+        requires served { IsServed (free_of self.old) (known_of known.now) }
+        ensures emits { IfOk result (λ out. EmitsTest (known_of known.now) (condition_of cond.now) self.old self.new out) }
+        ensures short { OnOk result (extent self.new ≤ extent self.old + 400 * nodes_of cond.now) }
+        ensures few { IfOk result (λ out. length (expression_steps (tested out)) ≡ 1) }
+    {
+        let t = emit_truth(self, cond, known)?;
+        Ok(Test::Local(t.value))
+    }
+
     /// Adds the test of NOT of a condition that was emitted before.
     fn test_negation(&mut self, operand: Cell) -> Result<Test, NoMemory>
         ensures emits { IfOk result (λ out. (known : List Known) (c : Condition) (start : Emitter) → EmitsTruth known c start self.old operand → EmitsTest known (negation_of c) start self.new out) }
         ensures short { OnOk result (extent self.new ≤ extent self.old + 6) }
+        ensures few { IfOk result (λ out. length (expression_steps (tested out)) ≤ 2) }
     {
         match operand.null {
             None => Ok(Test::Zero(operand.value)),
@@ -113,17 +173,76 @@ impl Emitter {
     }
 }
 
+/// Adds the test of whether an operand lies between two expressions (8.3): the operand's block, and no other where both are known and it
+/// compares with each by one relation.
+fn test_between(
+    alloc: Global,
+    emitter: &mut Emitter,
+    operand: &Expr,
+    least: &Expr,
+    greatest: &Expr,
+    known: &[Binding],
+) -> Result<Test, NoMemory>
+    requires typed { AreTyped (between (expression_of operand.now) (expression_of least.now) (expression_of greatest.now)) }
+    requires known { TakeKnown (known_of known.now) (between (expression_of operand.now) (expression_of least.now) (expression_of greatest.now)) }
+    requires served { IsServed (free_of emitter.old) (known_of known.now) }
+    ensures emits { IfOk result (λ out. EmitsTest (known_of known.now) (between (expression_of operand.now) (expression_of least.now) (expression_of greatest.now)) emitter.old emitter.new out) }
+    ensures short { OnOk result (extent emitter.new ≤ extent emitter.old + 400 * (1 + nodes operand.now + nodes least.now + nodes greatest.now)) }
+    ensures few { IfOk result (λ out. length (expression_steps (tested out)) + 1 ≤ 4 * (1 + nodes operand.now + nodes least.now + nodes greatest.now)) }
+{
+    let x = emit_expr(emitter, operand, known)?;
+    match within(alloc, operand, x, least, greatest, known)? {
+        Some(test) => Ok(test),
+        None => {
+            let t = between(emitter, operand, x, least, greatest, known)?;
+            Ok(Test::Local(t.value))
+        }
+    }
+}
+
+/// Adds the test of whether an operand equals one of some values (8.4): the operand's block, and no other where all are known and it compares
+/// with each by one relation.
+fn test_among(
+    alloc: Global,
+    emitter: &mut Emitter,
+    operand: &Expr,
+    values: &Exprs,
+    known: &[Binding],
+) -> Result<Test, NoMemory>
+    requires typed { AreTyped (among (expression_of operand.now) (expressions_of values.now)) }
+    requires known { TakeKnown (known_of known.now) (among (expression_of operand.now) (expressions_of values.now)) }
+    requires served { IsServed (free_of emitter.old) (known_of known.now) }
+    ensures emits { IfOk result (λ out. EmitsTest (known_of known.now) (among (expression_of operand.now) (expressions_of values.now)) emitter.old emitter.new out) }
+    ensures short { OnOk result (extent emitter.new ≤ extent emitter.old + 400 * (1 + nodes operand.now + nodes_of_all values.now)) }
+    ensures few { IfOk result (λ out. length (expression_steps (tested out)) + 1 ≤ 4 * (1 + nodes operand.now + nodes_of_all values.now)) }
+{
+    let x = emit_expr(emitter, operand, known)?;
+    match one_of(alloc, operand, x, values, known)? {
+        Some(test) => Ok(test),
+        None => {
+            let t = among(emitter, values, operand, x, known)?;
+            Ok(Test::Local(t.value))
+        }
+    }
+}
+
 /// Adds the block of a condition, and tells the test of whether it is true: every column and every literal of it but NULL is known.
 ///
 /// # Errors
 ///
 /// [`NoMemory`] where memory does not suffice, or there are too many locals.
-pub fn emit_test(emitter: &mut Emitter, cond: &Cond, known: &[Binding]) -> Result<Test, NoMemory>
+pub fn emit_test(
+    alloc: Global,
+    emitter: &mut Emitter,
+    cond: &Cond,
+    known: &[Binding],
+) -> Result<Test, NoMemory>
     requires typed { AreTyped (condition_of cond.now) }
     requires known { TakeKnown (known_of known.now) (condition_of cond.now) }
     requires served { IsServed (free_of emitter.old) (known_of known.now) }
     ensures emits { IfOk result (λ out. EmitsTest (known_of known.now) (condition_of cond.now) emitter.old emitter.new out) }
     ensures short { OnOk result (extent emitter.new ≤ extent emitter.old + 400 * nodes_of cond.now) }
+    ensures few { IfOk result (λ out. length (expression_steps (tested out)) + 1 ≤ 4 * nodes_of cond.now) }
 {
     match cond {
         Cond::Compare(operator, left, right) => {
@@ -131,18 +250,25 @@ pub fn emit_test(emitter: &mut Emitter, cond: &Cond, known: &[Binding]) -> Resul
             let y = emit_expr(emitter, right, known)?;
             emitter.test_comparison(*operator, x, y)
         }
-        Cond::Not(operand) => {
-            let t = emit_truth(emitter, operand, known)?;
-            emitter.test_negation(t)
+        Cond::Between(operand, least, greatest) => {
+            test_between(alloc, emitter, operand, least, greatest, known)
         }
-        Cond::Between(_, _, _)
-        | Cond::In(_, _)
-        | Cond::IsNull(_)
-        | Cond::And(_, _)
-        | Cond::Or(_, _)
-        | Cond::Is(_, _) => {
-            let t = emit_truth(emitter, cond, known)?;
-            Ok(Test::Local(t.value))
-        }
+        Cond::In(operand, values) => test_among(alloc, emitter, operand, values, known),
+        Cond::Not(operand) => match plain(alloc, operand, known)? {
+            Some(test) => test.not(alloc),
+            None => {
+                let t = emit_truth(emitter, operand, known)?;
+                emitter.test_negation(t)
+            }
+        },
+        Cond::And(left, right) => match plain(alloc, right, known)? {
+            Some(second) => emit_test(alloc, emitter, left, known)?.both(alloc, second),
+            None => emitter.test_truth(cond, known),
+        },
+        Cond::Or(left, right) => match plain(alloc, right, known)? {
+            Some(second) => emit_test(alloc, emitter, left, known)?.either(alloc, second),
+            None => emitter.test_truth(cond, known),
+        },
+        Cond::IsNull(_) | Cond::Is(_, _) => emitter.test_truth(cond, known),
     }
 }

@@ -3,7 +3,7 @@
 //! What an abbreviation names twice, as the operand of BETWEEN, IN, CASE and NULLIF, is evaluated once: its operand is handed on.
 
 ghost use Rattle.std.specs.Prelude.{◌≡◌, ◌≤◌, IfOk, IsTrue, ◌+◌, ◌*◌, length, OnOk};
-ghost use Rattle.qw_scalar.specs.Expression.{among, brought, cases, coalesced, comparison, scale_of};
+ghost use Rattle.qw_scalar.specs.Expression.{among, between, brought, cases, coalesced, comparison, scale_of};
 ghost use Rattle.qw_scalar.specs.Nodes.{nodes, nodes_of, nodes_of_all, nodes_of_branches, nodes_of_matches};
 ghost use Rattle.qw_scalar.specs.Tree.{choices_of, condition_of, expression_of, expressions_of, matches_of};
 ghost use Rattle.qw_scalar.specs.Typing.{AreTyped, IsTyped, kind_of};
@@ -259,7 +259,7 @@ fn against(
 
 /// Adds whether a known operand equals one of some values, up to the first that it equals (8.4).
 #[cycle(tree)]
-fn among(
+pub(crate) fn among(
     emitter: &mut Emitter,
     values: &Exprs,
     operand: &Expr,
@@ -316,6 +316,27 @@ impl Form {
             text: matches!(of_expression(expr), Some(Kind::Text)),
         }
     }
+}
+
+/// Adds whether a known operand lies between two expressions (8.3), the second of which is skipped where it is less than the first.
+pub(crate) fn between(
+    emitter: &mut Emitter,
+    operand: &Expr,
+    x: Operand,
+    least: &Expr,
+    greatest: &Expr,
+    known: &[Binding],
+) -> Result<Cell, NoMemory>
+    requires typed { AreTyped (between (expression_of operand.now) (expression_of least.now) (expression_of greatest.now)) }
+    requires known { TakeKnown (known_of known.now) (between (expression_of operand.now) (expression_of least.now) (expression_of greatest.now)) }
+    requires served { IsServed (free_of emitter.old) (with_operand (expression_of operand.now) x (known_of known.now)) }
+    ensures emits { IfOk result (λ out. MadeTruth (with_operand (expression_of operand.now) x (known_of known.now)) (between (expression_of operand.now) (expression_of least.now) (expression_of greatest.now)) emitter.old emitter.new out) }
+    ensures short { OnOk result (extent emitter.new ≤ extent emitter.old + (400 * (nodes least.now + nodes greatest.now) + 300)) }
+{
+    let t = against(emitter, Comparison::GreaterOrEqual, least, operand, x, known)?;
+    emitter.begin_and(t)?;
+    let u = against(emitter, Comparison::LessOrEqual, greatest, operand, x, known)?;
+    emitter.end_and(t, u)
 }
 
 /// Adds the block of an expression: every column and every literal of it but NULL is known.

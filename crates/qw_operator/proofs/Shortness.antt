@@ -115,8 +115,8 @@ part_short rs part done upto a old new is ahead within short added =
     taken (suc n) [] le = absurd (omega (arith, le))
     taken (suc n) (x ∷ xs) le = ap suc (taken n xs (omega (arith, le)))
 
-pub conjunct_short : (old mid now new before after done upto n : ℕ) → mid + 117 * done ≤ old + 117 * upto → now + after ≤ mid + before + 400 * n → new ≤ now + 4 → 1 ≤ n → new + after + 117 * done ≤ old + before + 117 * upto + 404 * n
-conjunct_short old mid now new before after done upto n one two three some = omega (arith, one, two, three, some)
+pub conjunct_short : (old mid now new before after done upto steps n : ℕ) → mid + 117 * done ≤ old + 117 * upto → now + after ≤ mid + before + 400 * n → new ≤ now + (steps + 1) → steps + 1 ≤ 4 * n → new + after + 117 * done ≤ old + before + 117 * upto + 404 * n
+conjunct_short old mid now new before after done upto steps n one two three few = omega (arith, one, two, three, few)
 
 pub next_item_short : (xs : List Expr) (i : ℕ) (x : Expr) (old now new : ℕ) → i < length xs → x ≡ get_or xs i x → now ≤ old + 400 * sum_by nodes (take i xs) → new ≤ now + 400 * nodes x → new ≤ old + 400 * sum_by nodes (take (i + 1) xs)
 next_item_short xs i x old now new less same before added = let sums = sum_next nodes xs i x less same in omega (arith, before, added, sums)

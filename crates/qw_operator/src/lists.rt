@@ -49,8 +49,8 @@ fn emit_conjunct(
     let leaves = leaves_within(alloc, conjunct)?;
     let upto = needed_for(readers, &leaves, done);
     emit_reads(&mut emitter.block, &readers[done..upto])?;
-    let test = emit_test(emitter, conjunct, &known[..literals + upto])?;
-    open_test(&mut emitter.block, test)?;
+    let test = emit_test(alloc, emitter, conjunct, &known[..literals + upto])?;
+    open_test(&mut emitter.block, &test)?;
     Ok(upto)
 }
 

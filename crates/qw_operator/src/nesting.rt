@@ -1,6 +1,7 @@
 //! Conjuncts one within another: what follows a conjunct is done where it is true.
 
 ghost use Rattle.std.specs.Prelude.{◌≡◌, ◌≤◌, ◌+◌, ◌++◌, length, OnOk};
+ghost use Rattle.qw_low.specs.Steps.{expression_steps};
 ghost use Rattle.qw_expr.specs.Tests.{tested};
 ghost use Rattle.qw_operator.specs.Nesting.{closings, opening};
 
@@ -10,9 +11,9 @@ use qw_low::step::LowStep;
 use qw_types::NoMemory;
 
 /// Begins what is done where the conjunct before is true, as its test says.
-pub fn open_test(block: &mut Block, test: Test) -> Result<(), NoMemory>
-    ensures code { OnOk result (block.new.code.items ≡ block.old.code.items ++ opening (tested test)) }
-    ensures short { OnOk result (length block.new.code.items ≤ length block.old.code.items + 4) }
+pub fn open_test(block: &mut Block, test: &Test) -> Result<(), NoMemory>
+    ensures code { OnOk result (block.new.code.items ≡ block.old.code.items ++ opening (tested test.now)) }
+    ensures short { OnOk result (length block.new.code.items ≤ length block.old.code.items + (length (expression_steps (tested test.now)) + 1)) }
 {
     test.push(block)?;
     block.push(LowStep::If)

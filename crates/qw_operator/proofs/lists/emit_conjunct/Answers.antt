@@ -5,11 +5,12 @@ use Rattle.qw_scalar.specs.Tree.{condition_of}
 use Rattle.qw_expr.specs.Bindings.{known_of, IsServed, TakeKnown}
 use Rattle.qw_expr.specs.Computes.{Known}
 use Rattle.qw_expr.specs.Emits.{free_of}
+use Rattle.qw_expr.specs.Tests.{tested}
+use Rattle.qw_low.specs.Steps.{expression_steps}
 use Rattle.qw_operator.specs.Needed.{IsWithin}
 use Rattle.qw_operator.proofs.Conjuncts.{conjunct_known, known_front, served_after}
 use Rattle.qw_operator.proofs.Listed.{conjunct_emits}
 use Rattle.qw_operator.proofs.Fronts.{between}
-use Rattle.qw_leaves.proofs.TreeLeaves.{some_nodes_of}
 use Rattle.qw_operator.proofs.Shortness.{conjunct_short, part_short}
 use Rattle.qw_operator.proofs.lists.emit_conjunct.Goals as goal
 
@@ -39,7 +40,7 @@ pub returns-clause-short : goal.returns-clause-short
 returns-clause-short c =
     let upto = c.needed_for-upto.result in
     conjunct_short (length c.args.emitter.now.block.code.items) (length c.emit_reads.new.block.code.items) (length c.emit_test.new.emitter.block.code.items) (length c.open_test.new.block.code.items)
-    (length c.args.emitter.now.own.items) (length c.emit_test.new.emitter.own.items) c.args.done upto (nodes_of c.args.conjunct.now)
+    (length c.args.emitter.now.own.items) (length c.emit_test.new.emitter.own.items) c.args.done upto (length (expression_steps (tested c.in_ok-test.test))) (nodes_of c.args.conjunct.now)
     (part_short c.args.readers.now _ c.args.done upto c.in_ok-emit_reads.ensures.0 c.args.emitter.now.block.code.items c.emit_reads.new.block.code.items (between c.args.readers.now c.args.done upto c.needed_for-upto.ensures.ahead) c.needed_for-upto.ensures.ahead
     c.needed_for-upto.ensures.within c.in_ok-emit_reads.ensures.2.short c.in_ok-emit_reads.ensures.1)
-    c.in_ok-test.ensures.short c.in_ok-open_test.ensures.short (some_nodes_of c.args.conjunct.now)
+    c.in_ok-test.ensures.short c.in_ok-open_test.ensures.short c.in_ok-test.ensures.few
