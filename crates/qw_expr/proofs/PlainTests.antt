@@ -1,5 +1,5 @@
 -- Conditions that need no block.
-use Rattle.std.proofs.Common.{◌≡◌, ℕ, ◌+◌, ◌*◌, ◌≤◌, Bool, true, false, not, ◌&&◌, ◌||◌, List, [], ◌∷◌, ◌++◌, length, Option, Some, None, IfSome, IfOk, Result, Ok, Err, refl, sym, ap, ◌∙◌, subst, inl, inr, arith}
+use Rattle.std.proofs.Common.{◌≡◌, ℕ, ◌+◌, ◌*◌, ◌≤◌, Bool, true, false, not, ◌&&◌, ◌||◌, List, [], length, Option, Some, None, IfSome, IfOk, Result, Ok, Err, refl, sym, ap, ◌∙◌, subst, arith}
 use Rattle.qw_types.specs.Arithmetic.{◌>>=◌}
 use Rattle.qw_types.specs.Truth.{conjunction, disjunction, negation}
 use Rattle.qw_types.specs.declared.code.Code.{Code}
@@ -7,11 +7,11 @@ use Rattle.qw_types.specs.declared.truth.Truth.{Truth}
 use Rattle.qw_types.specs.declared.truth.Truth.TheVariants.{True, False, Unknown}
 use Rattle.qw_types.specs.declared.value.Val.{Val}
 use Rattle.qw_scalar.specs.declared.comparison.Comparison.{Comparison}
-use Rattle.qw_scalar.specs.Columns.{HasColumns, HaveColumns, HoldsIn}
-use Rattle.qw_scalar.specs.Evaluation.{Environment, and_then, compared, or_else, truth_if, truth_of, value_of, at_row}
-use Rattle.qw_scalar.specs.Expression.{Expression, Condition, both, comparison, either, negation_of, scale_of}
+use Rattle.qw_scalar.specs.Columns.{HaveColumns, HoldsIn}
+use Rattle.qw_scalar.specs.Evaluation.{Environment, and_then, or_else, truth_if, truth_of, value_of, at_row}
+use Rattle.qw_scalar.specs.Expression.{Expression, Condition, both, comparison, either, negation_of}
 use Rattle.qw_scalar.specs.Typing.{AreTyped}
-use Rattle.qw_scalar.specs.Units.{units, units_of}
+use Rattle.qw_scalar.specs.Units.{units_of}
 use Rattle.qw_module.specs.declared.instruction.ValType.{ValType}
 use Rattle.qw_module.specs.declared.instruction.ValType.TheVariants.{I32}
 use Rattle.qw_module.specs.declared.instruction.Binary.TheVariants.{And, Or}
@@ -33,7 +33,7 @@ use Rattle.qw_expr.specs.Bindings.{IsAmong, IsServed}
 use Rattle.qw_expr.specs.Cells.{Holds}
 use Rattle.qw_expr.specs.Computes.{Known}
 use Rattle.qw_expr.specs.Emits.{Emits, free_of}
-use Rattle.qw_expr.specs.Tests.{DecidesTest, EmitsTest, IsTestBelow, tested, truth_word}
+use Rattle.qw_expr.specs.Tests.{EmitsTest, IsTestBelow, tested, truth_word}
 use Rattle.qw_expr.specs.Inner.Made.{MadeTruth, with_operand}
 use Rattle.qw_expr.specs.Inner.Plain.{IsPlain, MadePlain}
 use Rattle.qw_expr.specs.Inner.Tests.{is_one_relation}

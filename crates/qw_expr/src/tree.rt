@@ -333,9 +333,23 @@ pub(crate) fn between(
     ensures emits { IfOk result (λ out. MadeTruth (with_operand (expression_of operand.now) x (known_of known.now)) (between (expression_of operand.now) (expression_of least.now) (expression_of greatest.now)) emitter.old emitter.new out) }
     ensures short { OnOk result (extent emitter.new ≤ extent emitter.old + (400 * (nodes least.now + nodes greatest.now) + 300)) }
 {
-    let t = against(emitter, Comparison::GreaterOrEqual, least, operand, x, known)?;
+    let t = against(
+        emitter,
+        Comparison::GreaterOrEqual,
+        least,
+        operand,
+        x,
+        known,
+    )?;
     emitter.begin_and(t)?;
-    let u = against(emitter, Comparison::LessOrEqual, greatest, operand, x, known)?;
+    let u = against(
+        emitter,
+        Comparison::LessOrEqual,
+        greatest,
+        operand,
+        x,
+        known,
+    )?;
     emitter.end_and(t, u)
 }
 

@@ -7,9 +7,10 @@ ghost use Rattle.qw_scalar.specs.Evaluation.{at_row};
 ghost use Rattle.qw_scalar.specs.declared.comparison.Comparison.TheVariants.{Equal};
 ghost use Rattle.qw_scalar.specs.Expression.{number, text, comparison, negation_of};
 ghost use Rattle.qw_module.specs.declared.instruction.Sign.TheVariants.{Signed};
-ghost use Rattle.qw_module.specs.declared.instruction.Relation.TheVariants.{Lt};
+ghost use Rattle.qw_module.specs.declared.instruction.Relation.TheVariants.{Eq, Ge, Le, Lt};
 ghost use Rattle.qw_low.specs.State.{Number};
 ghost use Rattle.qw_low.specs.Meaning.{value};
+ghost use Rattle.qw_low.specs.Steps.{expression_steps};
 ghost use Rattle.qw_low.specs.Worked.{state};
 ghost use Rattle.qw_expr.specs.Cells.{HoldsTruth, HoldsValue};
 ghost use Rattle.qw_expr.specs.Emits.{extent};
@@ -47,6 +48,22 @@ pub fn tests_of_locals()
     ensures related { value (record state { locals = Number 18446744073709551611 ∷ Number 3 ∷ [] }) (tested (test.Related (Lt Signed) 0 1)) ≡ Some (Number 1) }
     ensures zero { value (record state { locals = Number 0 ∷ [] }) (tested (test.Zero 0)) ≡ Some (Number 1) }
     ensures word { (truth_word True ≡ 1) × (truth_word False ≡ 0) × (truth_word Unknown ≡ 0) }
+{}
+
+/// 5 lies between 3 and 7, and 8 doesn't; 5 is one of 3 and 5, and 4 isn't, of which NOT is true. A test of both sides counts unknown as false, which
+/// leaves 0 in a local.
+pub fn tests_joined()
+    ensures between { (p q : _) → value (record state { locals = Number 5 ∷ Number 3 ∷ Number 7 ∷ [] }) (tested (test.Both' p (test.Related (Ge Signed) 0 1) q (test.Related (Le Signed) 0 2))) ≡ Some (Number 1) }
+    ensures outside { (p q : _) → value (record state { locals = Number 8 ∷ Number 3 ∷ Number 7 ∷ [] }) (tested (test.Both' p (test.Related (Ge Signed) 0 1) q (test.Related (Le Signed) 0 2))) ≡ Some (Number 0) }
+    ensures one_of { (p q : _) → value (record state { locals = Number 5 ∷ Number 3 ∷ Number 5 ∷ [] }) (tested (test.Either' p (test.Related Eq 0 2) q (test.Related Eq 0 1))) ≡ Some (Number 1) }
+    ensures not_in { (p q r : _) → value (record state { locals = Number 4 ∷ Number 3 ∷ Number 5 ∷ [] }) (tested (test.Not' r (test.Either' p (test.Related Eq 0 2) q (test.Related Eq 0 1)))) ≡ Some (Number 1) }
+    ensures unknown { (p q : _) → value (record state { locals = Number 0 ∷ Number 1 ∷ [] }) (tested (test.Both' p (test.Local 0) q (test.Local 1))) ≡ Some (Number 0) }
+{}
+
+/// BETWEEN of two words is 7 steps, IN of six 23.
+pub fn steps_of_tests()
+    ensures between { (p : _) → length (expression_steps (tested (test.Both' p (test.Related (Ge Signed) 0 1) p (test.Related (Le Signed) 0 2)))) ≡ 7 }
+    ensures one_of { (p : _) → length (expression_steps (tested (test.Either' p (test.Either' p (test.Either' p (test.Either' p (test.Either' p (test.Related Eq 0 6) p (test.Related Eq 0 5)) p (test.Related Eq 0 4)) p (test.Related Eq 0 3)) p (test.Related Eq 0 2)) p (test.Related Eq 0 1)))) ≡ 23 }
 {}
 
 /// Three steps and two locals of its own are an extent of 5, wherever the locals begin.
