@@ -1,5 +1,5 @@
 //! Conditions as tests, for choices that ask only whether they are true: unknown leads where false does (ISO/IEC 9075:1992, 7.6).
-//! What one relation tells needs no local of its own.
+//! A test is an expression of what is held where the block ends: it sets no local and skips nothing.
 
 ghost use Rattle.std.specs.Prelude.{◌≡◌, ℕ, ◌+◌, ◌*◌, ◌≤◌, ◌++◌, List, IsTrue, IfOk, OnOk, length};
 ghost use Rattle.qw_scalar.specs.Expression.{Expression, Condition, among, between, comparison, negation_of};
@@ -44,7 +44,7 @@ pub enum Test {
     Related(Relation, Local, Local),
     /// Whether a test is 0.
     Not(Box<Test>),
-    /// Whether two tests are 1, neither of which the other skips.
+    /// Whether two tests are both 1.
     Both(Box<Test>, Box<Test>),
     /// Whether either of two tests is 1.
     Either(Box<Test>, Box<Test>),
