@@ -29,11 +29,11 @@ module _ (m : Module) (rooms : Rooms) (p : Point) (first_in : p.first_local ≤ 
   outer : take p.first_local (take p.first_local p.locals ++ locals) ≡ take p.first_local p.locals
   outer = take-front p.first_local p.locals locals first_in
 
-  held-ready : CanOperate operator globals operands locals
+  pub held-ready : CanOperate operator globals operands locals
   held-ready = subst (λ (xs : List ℕ). CanOperate operator globals operands xs) own (operator-ready spare is found)
 
   -- an operator done is a step
-  held-done : (memory : List ℕ) (answer : Operated) (after : Held) →
+  pub held-done : (memory : List ℕ) (answer : Operated) (after : Held) →
       IsDone (op_wants operator globals operands locals) (record { operands = operands; globals = globals; locals = locals; memory = memory }) spare answer after →
       IsDoneAt m rooms spare (with_held p index operands globals locals) memory (answer_of answer) (with_held p (index + 1) after.operands after.globals after.locals) after.memory
   held-done memory answer after done =
@@ -70,26 +70,8 @@ module _ (m : Module) (rooms : Rooms) (p : Point) (sequence : List Instr) (first
         (rw start.instructions inside) counted fits
 
 -- a point with what it holds is itself
-held-own : (p : Point) → with_held p p.index p.operands p.globals (drop p.first_local p.locals) ≡ p
+pub held-own : (p : Point) → with_held p p.index p.operands p.globals (drop p.first_local p.locals) ≡ p
 held-own p = ap (λ (xs : List ℕ). record p { locals = xs }) (take-append-drop p.first_local p.locals)
-
--- where a point runs, what it holds may be held apart
-pub followed-here : (m : Module) (rooms : Rooms) (p : Point) (sequence : List Instr) (globals locals : List ℕ) → IsRunning m rooms p → instructions_at m p.function p.sequence ≡ sequence →
-    globals ≡ p.globals → locals ≡ drop p.first_local p.locals → IsFollowed m rooms sequence p p.index rooms.operands p.operands globals locals
-followed-here m rooms p sequence globals locals running same globals_are locals_are =
-    rw (globals_are, locals_are) (record {
-      instructions = same;
-      first_in = running.point.first_in;
-      room_is = refl;
-      running = rw (held-own p) running;
-    })
-
-pub run-held : (m : Module) (rooms : Rooms) (p : Point) (globals locals : List ℕ) (spare few most : ℕ) (memory : List ℕ) (run : Run) (q : Point) (after : List ℕ) →
-    globals ≡ p.globals → locals ≡ drop p.first_local p.locals → few ≤ most →
-    IsRun m rooms spare few (with_held p p.index p.operands globals locals) memory run q after → IsRun m rooms spare most p memory run q after
-run-held m rooms p globals locals spare few most memory run q after globals_are locals_are fits is =
-    let same : with_held p p.index p.operands globals locals ≡ p = rw (globals_are, locals_are) (held-own p) in
-    run-within m rooms spare few most p q memory after run fits (subst (λ (x : Point). IsRun m rooms spare few x memory run q after) same is)
 
 -- where it runs later, what it holds then is held apart in the same way
 pub followed-on : (m : Module) (rooms : Rooms) (p : Point) (sequence : List Instr) (first index room now_room : ℕ) (operands globals locals : List ℕ) (now : Held) →

@@ -1,5 +1,5 @@
 -- A finished label or frame is left, as the configuration's is that this stands for.
-use Rattle.std.proofs.Common.{◌≡◌, ℕ, ◌+◌, List, [], ◌∷◌, ◌++◌, length, take, drop, refl, sym, ap, subst, ◌∙◌, arith, length-append, append_assoc}
+use Rattle.std.proofs.Common.{◌≡◌, ℕ, ◌+◌, List, [], ◌∷◌, ◌++◌, length, take, drop, Some, refl, sym, ap, subst, ◌∙◌, arith, length-append, append_assoc}
 use Rattle.qw_module.specs.declared.instruction.ValType.{ValType}
 use Rattle.qw_module.specs.declared.module.Module.{Module}
 use Rattle.qw_machine.specs.declared.activity.Entry.{Entry}
@@ -7,14 +7,17 @@ use Rattle.qw_machine.specs.declared.activity.Frame.{Frame}
 use Rattle.qw_machine.specs.declared.activity.Awaiting.{Awaiting}
 use Rattle.qw_machine.specs.declared.activity.Awaiting.TheVariants.{Label, Call}
 use Rattle.qw_machine.specs.declared.room.Rooms.{Rooms}
+use Rattle.qw_machine.specs.declared.stepped.Stepped.TheVariants.{Ran}
 use Rattle.qw_module.specs.Syntax.{Code, done}
-use Rattle.qw_module.specs.Execution.{Returned, settled}
+use Rattle.qw_module.specs.Execution.{Returned, State, settled}
 use Rattle.qw_module.specs.Start.{body_of}
+use Rattle.qw_module.specs.Step.{Next}
 use Rattle.qw_module.specs.Typing.{scope_of, Typed}
 use Rattle.qw_module.specs.Soundness.{AreOf}
 use Rattle.qw_module.specs.Validity.{outside_of}
 use Rattle.qw_machine.specs.Inner.Points.{Point, code_at, instructions_at, base_of, contexts_of, store_with, state_at, after_label, after_call}
 use Rattle.qw_machine.specs.Inner.Placed.{StaysAt, IsPoint}
+use Rattle.qw_machine.specs.Inner.Activities.{IsDoneAt}
 use Rattle.qw_module.proofs.Sound.{AreOf-append, AreOf-length, done_types}
 use Rattle.qw_machine.proofs.ListFacts.{above-append, under-append}
 use Rattle.qw_machine.proofs.Points.{code_in-end, state_at-split}
@@ -163,3 +166,15 @@ none_await (a ∷ awaiting) none = absurd (omega arith)
 
 pub left-last : (m : Module) (p : Point) → p.index ≡ length (instructions_at m p.function p.sequence) → length p.awaiting ≡ 0 → state_at m p ≡ Returned
 left-last m p ended none = rw (none_await p.awaiting none, code_in-end (body_of m p.function) p.sequence p.index ended) refl
+
+-- what an instruction led to may be left further
+pub done-left : (m : Module) (rooms : Rooms) (spare : ℕ) (p q r : Point) (memory after : List ℕ) → IsDoneAt m rooms spare p memory Ran q after →
+    IsPoint m rooms r → state_at m q ≡ state_at m r → IsDoneAt m rooms spare p memory Ran r after
+done-left m rooms spare p q r memory after executed is same = (
+  is,
+  record {
+    event = executed.1.event;
+    made = executed.1.made ∙ ap (λ (x : State). let n : Next = record { event = executed.1.event; state = x; memory = after } in Some n) same;
+    answered = executed.1.answered;
+  },
+)

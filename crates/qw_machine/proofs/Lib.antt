@@ -4,6 +4,7 @@ mod Begins
 mod Bodies
 mod Calls
 mod Controlled
+mod Crossing
 mod Descents
 mod Entering
 mod Followed

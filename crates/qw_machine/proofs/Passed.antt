@@ -1,5 +1,5 @@
 -- An instruction that only takes its operand, which is 0, against the configuration's step.
-use Rattle.std.proofs.Common.{◌≡◌, ℕ, ◌+◌, ◌<◌, ◌≤◌, List, ◌∷◌, length, true, Option, None, Some, slice_get, get_or, is_some, refl, sym, ap, subst, ◌∙◌}
+use Rattle.std.proofs.Common.{◌≡◌, ℕ, ◌+◌, ◌<◌, ◌≤◌, List, ◌∷◌, length, true, Option, None, Some, slice_get, get_or, is_some, refl, sym, subst}
 use Rattle.std.proofs.lemmas.Bool.{false≢true, eqb-true}
 use Rattle.qw_module.specs.declared.instruction.ValType.{ValType}
 use Rattle.qw_module.specs.declared.instruction.Instr.{Instr}
@@ -10,9 +10,7 @@ use Rattle.qw_machine.specs.declared.room.Rooms.{Rooms}
 use Rattle.qw_machine.specs.declared.stepped.Stepped.TheVariants as stepped
 use Rattle.qw_machine.specs.declared.stepped.Stepped.TheVariants.{Ran}
 use Rattle.qw_module.specs.Syntax.{Sequences}
-use Rattle.qw_module.specs.Execution.{State}
 use Rattle.qw_module.specs.Start.{body_of}
-use Rattle.qw_module.specs.Step.{Next}
 use Rattle.qw_machine.specs.Inner.Points.{Point, instructions_at, at_index, entered, with_held}
 use Rattle.qw_machine.specs.Inner.Placed.{IsExecuted, IsPoint}
 use Rattle.qw_machine.specs.Inner.Operated.{Held}
@@ -20,7 +18,7 @@ use Rattle.qw_machine.specs.Inner.Activities.{IsDoneAt, IsFollowed, IsRun, passe
 use Rattle.qw_machine.proofs.Around.{with_operands}
 use Rattle.qw_machine.proofs.Controlled.{br_if-operand, if-operand, executed-br_if-not, executed-without, executed-else}
 use Rattle.qw_machine.proofs.Followed.{followed-found}
-use Rattle.qw_machine.proofs.Leaving.{left-label}
+use Rattle.qw_machine.proofs.Leaving.{done-left, left-label}
 use Rattle.qw_machine.proofs.Runs.{run-operator}
 
 module _ {m : Module} {rooms : Rooms} (spare : ℕ) (executed : IsExecuted m) {p : Point} (is : IsPoint m rooms p)
@@ -47,14 +45,8 @@ module _ {m : Module} {rooms : Rooms} (spare : ℕ) (executed : IsExecuted m) {p
       let entry : Entry = record { base = length operands; takes = is_some result; sequence = p.sequence; target = p.index + 1; after = p.index + 1 } in
       let q : Point = entered (with_operands p operands) other (is_some result) (p.index + 1) in
       let done = executed-else spare executed is inside result inner other found operands q memory popped refl in
-      let left = left-label m rooms q entry p.awaiting (sym empty) refl done.0 in (
-        left.0,
-        record {
-          event = done.1.event;
-          made = done.1.made ∙ ap (λ (x : State). let n : Next = record { event = done.1.event; state = x; memory = memory } in Some n) left.1;
-          answered = done.1.answered;
-        },
-      )
+      let left = left-label m rooms q entry p.awaiting (sym empty) refl done.0 in
+      done-left m rooms spare p q (at_index (with_operands p operands) (p.index + 1)) memory memory done left.0 left.1
 
   -- it goes on after it
   pub executed-passed : (instruction : Instr) → slice_get (instructions_at m p.function p.sequence) p.index ≡ Some instruction →

@@ -4,10 +4,11 @@ use Rattle.std.proofs.lemmas.List.{length-map}
 use Rattle.std.proofs.lemmas.Option.{slice_get-map, slice_get_read}
 use Rattle.qw_module.specs.declared.instruction.Instr.{Instr}
 use Rattle.qw_module.specs.declared.module.Module.{Module}
+use Rattle.qw_module.specs.declared.module.Body.{Body}
 use Rattle.qw_module.specs.declared.module.Function.{Function}
 use Rattle.qw_module.specs.Start.{body_of}
-use Rattle.qw_module.specs.Syntax.{Sequences}
-use Rattle.qw_module.specs.Validity.{items_of, sequences_of}
+use Rattle.qw_module.specs.Syntax.{Sequences, sequence_at}
+use Rattle.qw_module.specs.Validity.{sequences_of}
 use Rattle.qw_machine.specs.Inner.Points.{instructions_at}
 
 -- a function that is read is there, so its body is the function's of that number
@@ -19,17 +20,26 @@ pub body-read : (m : Module) (number : ℕ) (function : Function) → number < l
     body_of m number ≡ sequences_of function.body
 body-read m number function inside read = rw (function-there m number function inside read) refl
 
--- and so is a sequence of it
+-- a sequence of a body is read in the array that holds it
+pub array-there : (body : Body) (sequence : ℕ) → sequence < length (sequences_of body).each → sequence < length body.sequences.items
+array-there body sequence inner =
+    subst (λ (n : ℕ). sequence < n) (length-map body.sequences.items (λ (a : Vec Instr Global). a.items)) inner
+
+pub array-read : (body : Body) (sequence : ℕ) (array : Vec Instr Global) → sequence < length (sequences_of body).each →
+    array ≡ get_or body.sequences.items sequence array → sequence_at (sequences_of body) sequence ≡ array.items
+array-read body sequence array inner read =
+    let arrays : List (Vec Instr Global) = body.sequences.items in
+    let there : slice_get arrays sequence ≡ Some array = slice_get_read arrays (length arrays) sequence array refl (array-there body sequence inner) read in
+    rw (slice_get-map, there) refl
+
+-- and so is one of a function that is read
 pub sequence-read : (m : Module) (number sequence : ℕ) (function : Function) (array : Vec Instr Global) → number < length m.functions.items →
     sequence < length (body_of m number).each → function ≡ get_or m.functions.items number function →
     array ≡ get_or function.body.sequences.items sequence array → instructions_at m number sequence ≡ array.items
 sequence-read m number sequence function array inside inner read array_read =
-    let arrays : List (Vec Instr Global) = function.body.sequences.items in
     let body : body_of m number ≡ sequences_of function.body = body-read m number function inside read in
-    let lower : sequence < length (items_of arrays) = subst (λ (s : Sequences). sequence < length s.each) body inner in
-    let within : sequence < length arrays = subst (λ (n : ℕ). sequence < n) (length-map arrays (λ (a : Vec Instr Global). a.items)) lower in
-    let there : slice_get arrays sequence ≡ Some array = slice_get_read arrays (length arrays) sequence array refl within array_read in
-    rw (body, slice_get-map, there) refl
+    let lower : sequence < length (sequences_of function.body).each = subst (λ (s : Sequences). sequence < length s.each) body inner in
+    rw body (array-read function.body sequence array lower array_read)
 
 -- an index at the end of its array is at the end of its sequence
 pub index-end : (m : Module) (number sequence index : ℕ) (array : Vec Instr Global) → instructions_at m number sequence ≡ array.items →

@@ -1,26 +1,26 @@
 //! Where the execution of a call is, and its steps (WebAssembly Core Specification 1.0, 4.2.12 and 4.4).
 
-ghost use Rattle.std.specs.Prelude.{◌≡◌, ℕ, ◌++◌, ◌+◌, ◌*◌, ◌<◌, ◌≤◌, ◌^◌, map, length, replicate, take, ◌-◌, drop, IfOk, Some, slice_get, vec_capacity, All};
+ghost use Rattle.std.specs.Prelude.{◌≡◌, ℕ, List, ◌++◌, ◌+◌, ◌*◌, ◌<◌, ◌≤◌, ◌^◌, map, length, replicate, take, ◌-◌, drop, IfOk, Some, slice_get, vec_capacity, All};
 ghost use Rattle.qw_linear.specs.Memory.{page};
 ghost use Rattle.qw_module.specs.Numbers.{truth};
 ghost use Rattle.qw_module.specs.Syntax.{labels_in, IsNumbered};
 ghost use Rattle.qw_module.specs.Execution.{chosen};
 ghost use Rattle.qw_module.specs.Start.{body_of, closure_of, initial_value};
 ghost use Rattle.qw_module.specs.Validity.{sequences_of, code_of_body, declared_types, imported_functions, IsValidGlobal};
-ghost use Rattle.qw_machine.specs.Inner.Points.{at_index, called_at, entered, first_point, has_result, in_body, instructions_at, point_of, resumed, under};
+ghost use Rattle.qw_machine.specs.Inner.Points.{Point, at_index, called_at, entered, first_point, has_result, in_body, instructions_at, point_of, resumed, under};
 ghost use Rattle.qw_machine.specs.Inner.Ended.{answer_of};
 ghost use Rattle.qw_machine.specs.Inner.Rooms.{rooms_of};
 ghost use Rattle.qw_machine.specs.declared.stepped.Stepped.TheVariants.{Ran};
 ghost use Rattle.qw_machine.specs.Inner.Operated.{CanOperate};
 ghost use Rattle.qw_machine.specs.Inner.Placed.{IsExecuted, IsPoint, IsRunning};
-ghost use Rattle.qw_machine.specs.Inner.Activities.{CanJump, CanLeave, IsDoneAt, IsJump, IsLeft, IsReturn, IsRun, IsStepped};
+ghost use Rattle.qw_machine.specs.Inner.Activities.{CanJump, CanLeave, IsDoneAt, IsHalted, IsJump, IsLeft, IsReturn, IsRun, IsStepped};
 
+use crate::blocks::{Halted, blocks};
 use crate::numbers::value_of;
 use crate::operators::{Operated, operate};
 use crate::room::Rooms;
 use crate::stack::Stack;
 use crate::stepped::{Run, Stepped, operated};
-use crate::turns::turns;
 use qw_base::NoMemory;
 use qw_linear::linear::Linear;
 use qw_module::instruction::{Instr, Op};
@@ -376,6 +376,23 @@ impl Activity {
         true
     }
 
+    /// What is left of a step after its instruction: leaves what that finishes. `done` is what the instruction came to.
+    fn finish(&mut self, program: &Module, done: Stepped) -> Stepped
+        requires executed { IsExecuted program.now }
+        requires done { (spare : ℕ) × (p : Point) × (memory : List ℕ) × (after : List ℕ) × IsDoneAt program.now (rooms_of self.old) spare p memory done (point_of self.old) after }
+        ensures stepped { (spare : ℕ) (p : Point) (memory after : List ℕ) → IsDoneAt program.now (rooms_of self.old) spare p memory done (point_of self.old) after
+            → IsStepped program.now (rooms_of self.old) spare p memory result (point_of self.new) after }
+        ensures rooms { rooms_of self.new ≡ rooms_of self.old }
+    {
+        if done.end().is_some() {
+            return done;
+        }
+        if !self.leave_finished(program) {
+            return Stepped::Returned;
+        }
+        done
+    }
+
     /// One step: an instruction, and what it finishes.
     pub(crate) fn step(
         &mut self,
@@ -394,70 +411,37 @@ impl Activity {
         ensures reserved { memory.new.reserved ≡ memory.old.reserved }
     {
         let sequence = self.instructions(program);
-        self.step_in(sequence, program, imported, memory, spare)
+        let done = self.execute(sequence, program, imported, memory, spare);
+        self.finish(program, done)
     }
 
-    /// The same in the sequence that runs.
-    fn step_in(
-        &mut self,
-        sequence: &[Instr],
-        program: &Module,
-        imported: usize,
-        memory: &mut Linear,
-        spare: u32,
-    ) -> Stepped
+    /// Steps one after another, at most so many, as long as they are operators, enter and leave blocks, only take their operands, or
+    /// begin a loop's body anew. The last instruction may be executed and what it finishes not left yet: [`Halted::done`].
+    fn operators(&mut self, program: &Module, memory: &mut Linear, spare: u32, most: u64) -> Halted
         requires executed { IsExecuted program.now }
-        requires imported { imported ≡ length (imported_functions program.now) }
-        requires sequence { sequence.now ≡ instructions_at program.now self.old.function self.old.sequence }
-        requires point { IsPoint program.now (rooms_of self.old) (point_of self.old) }
-        requires unfinished { self.old.index < length (instructions_at program.now self.old.function self.old.sequence) }
-        requires pages { length memory.old.octets + spare * page ≤ memory.old.reserved * page }
-        ensures stepped { IsStepped program.now (rooms_of self.old) spare (point_of self.old) memory.old.octets result (point_of self.new) memory.new.octets }
-        ensures rooms { rooms_of self.new ≡ rooms_of self.old }
-        ensures reserved { memory.new.reserved ≡ memory.old.reserved }
-    {
-        let stepped = self.execute(sequence, program, imported, memory, spare);
-        if stepped.end().is_some() {
-            return stepped;
-        }
-        if !self.leave_finished(program) {
-            return Stepped::Returned;
-        }
-        stepped
-    }
-
-    /// Steps one after another, at most so many, as long as they stay in the sequence: operators, instructions that only take
-    /// their operands, each with a further one after it, and branches that begin the sequence anew.
-    fn operators(
-        &mut self,
-        sequence: &[Instr],
-        program: &Module,
-        memory: &mut Linear,
-        spare: u32,
-        most: u64,
-    ) -> Run
-        requires executed { IsExecuted program.now }
-        requires sequence { sequence.now ≡ instructions_at program.now self.old.function self.old.sequence }
         requires point { IsRunning program.now (rooms_of self.old) (point_of self.old) }
         requires pages { length memory.old.octets + spare * page ≤ memory.old.reserved * page }
-        ensures run { IsRun program.now (rooms_of self.old) spare most (point_of self.old) memory.old.octets result (point_of self.new) memory.new.octets }
-        ensures place { (self.new.function ≡ self.old.function) × (self.new.sequence ≡ self.old.sequence) }
+        ensures run { IsHalted program.now (rooms_of self.old) spare most (point_of self.old) memory.old.octets result.run result.done (point_of self.new) memory.new.octets }
         ensures rooms { rooms_of self.new ≡ rooms_of self.old }
         ensures reserved { memory.new.reserved ≡ memory.old.reserved }
     {
         let first = self.index;
-        if !matches!(sequence[first], Instr::Op(_)) {
-            return Run::going(0);
+        if !may_begin(&self.instructions(program)[first]) {
+            return Halted {
+                run: Run::going(0),
+                sequence: self.sequence,
+                index: first,
+                done: None,
+            };
         }
         // A local variable of its own: as a field, its length would be read and written at each operator.
         let mut operands = self.operands.take();
-        let reached = turns(
+        let halted = blocks(
             &program.functions[self.function].body,
             self.sequence,
-            &self.awaiting,
-            sequence,
             first,
             most,
+            &mut self.awaiting,
             &mut operands,
             self.globals.as_mut_slice(),
             &mut self.locals[self.first_local..],
@@ -465,14 +449,14 @@ impl Activity {
             spare,
         );
         self.operands = operands;
-        self.index = reached.index;
-        reached.run
+        self.sequence = halted.sequence;
+        self.index = halted.index;
+        halted
     }
 
-    /// Steps one after another, at least one and at most so many: operators, and an instruction that may be any.
+    /// Steps one after another, at least one and at most so many: operators and blocks, and an instruction that may be any.
     fn stretch(
         &mut self,
-        sequence: &[Instr],
         program: &Module,
         imported: usize,
         memory: &mut Linear,
@@ -481,7 +465,6 @@ impl Activity {
     ) -> Run
         requires executed { IsExecuted program.now }
         requires imported { imported ≡ length (imported_functions program.now) }
-        requires sequence { sequence.now ≡ instructions_at program.now self.old.function self.old.sequence }
         requires point { IsRunning program.now (rooms_of self.old) (point_of self.old) }
         requires pages { length memory.old.octets + spare * page ≤ memory.old.reserved * page }
         requires some { 1 ≤ most }
@@ -490,15 +473,17 @@ impl Activity {
         ensures rooms { rooms_of self.new ≡ rooms_of self.old }
         ensures reserved { memory.new.reserved ≡ memory.old.reserved }
     {
-        let run = self.operators(sequence, program, memory, spare, most - 1);
-        if !matches!(run.last, Stepped::Ran) {
-            return run;
+        let halted = self.operators(program, memory, spare, most - 1);
+        if !matches!(halted.run.last, Stepped::Ran) {
+            return halted.run;
         }
-        let last = self.step_in(sequence, program, imported, memory, spare);
-        Run {
-            steps: run.steps + 1,
-            last,
-        }
+        let steps = halted.run.steps + 1;
+        let Some(done) = halted.done else {
+            let last = self.step(program, imported, memory, spare);
+            return Run { steps, last };
+        };
+        let last = self.finish(program, done);
+        Run { steps, last }
     }
 
     /// Steps one after another, at most so many, up to the first that comes to another answer than `Ran`.
@@ -519,10 +504,9 @@ impl Activity {
         ensures rooms { rooms_of self.new ≡ rooms_of self.old }
         ensures reserved { memory.new.reserved ≡ memory.old.reserved }
     {
-        let mut sequence = self.instructions(program);
         let mut steps = 0;
         while steps < most {
-            let run = self.stretch(sequence, program, imported, memory, spare, most - steps);
+            let run = self.stretch(program, imported, memory, spare, most - steps);
             steps += run.steps;
             if !matches!(run.last, Stepped::Ran) {
                 return Run {
@@ -530,10 +514,17 @@ impl Activity {
                     last: run.last,
                 };
             }
-            sequence = self.instructions(program);
         }
         Run::going(steps)
     }
+}
+
+/// Whether an instruction is one that [`blocks`] executes. Of others what an activity holds needn't be taken out first.
+fn may_begin(instruction: &Instr) -> bool {
+    matches!(
+        *instruction,
+        Instr::Op(_) | Instr::Block { .. } | Instr::Loop { .. } | Instr::If { .. }
+    )
 }
 
 /// The value that the code of a global's expression gives (4.4.1).

@@ -7,6 +7,7 @@
 
 mod accesses;
 mod activity;
+mod blocks;
 mod descending;
 mod following;
 pub mod laws;

@@ -1,4 +1,4 @@
--- Mirrors `Activity::execute`, `leave_finished`, `step` and `run`, `following`, `passing` and `turns`: what the machine does at an
+-- Mirrors `Activity::execute`, `leave_finished`, `step` and `run`, `following`, `passing`, `turns` and `blocks`: what the machine does at an
 -- instruction, and what its steps answer.
 use Rattle.std.specs.Prelude.{◌≡◌, ◌≢◌, ◌==◌, ℕ, ◌+◌, ◌≤◌, nat_le, Bool, true, false, List, ◌∷◌, ◌++◌, length, take, drop, Option, None, Some, slice_get, ◌-◌}
 use Rattle.std.specs.Bool.{MatchBool}
@@ -12,12 +12,14 @@ use Rattle.qw_machine.specs.declared.activity.Awaiting.{Awaiting}
 use Rattle.qw_machine.specs.declared.activity.Awaiting.TheVariants.{Label, Call}
 use Rattle.qw_machine.specs.declared.stepped.Stepped.{Stepped}
 use Rattle.qw_machine.specs.declared.stepped.Run.{Run}
+use Rattle.qw_machine.specs.declared.stepped.Stepped.TheVariants.{Ran}
 use Rattle.qw_module.specs.Numbers.{truth}
 use Rattle.qw_module.specs.Syntax.{Sequences, sequence_at}
 use Rattle.qw_module.specs.Execution.{Config, State, Running, Returned, Event}
 use Rattle.qw_module.specs.Start.{body_of}
 use Rattle.qw_module.specs.Step.{next}
-use Rattle.qw_machine.specs.Inner.Points.{Point, under, config_at, state_at, resumed, instructions_at, with_held}
+use Rattle.qw_machine.specs.Inner.Points.{Point, under, config_at, state_at, resumed, instructions_at, with_held, placed}
+use Rattle.qw_machine.specs.Inner.Stacked.{Stacked}
 use Rattle.qw_machine.specs.declared.room.Rooms.{Rooms}
 use Rattle.qw_machine.specs.Inner.Placed.{IsExecuted, IsPoint, IsRunning}
 use Rattle.qw_machine.specs.Inner.Ended.{run_end_of, is_over, state_after, WhileRunning}
@@ -127,3 +129,19 @@ pub record IsAtHand (m : Module) (rooms : Rooms) (sequences : Sequences) (number
   pub number_is : p.sequence ≡ number
   pub awaiting_is : p.awaiting ≡ awaiting
   pub followed : IsFollowed m rooms sequence p index room operands globals locals
+
+-- A point runs at an index of a sequence of this number, with these labels and frames around, for which there is this room; its
+-- operands, globals and locals are held apart.
+pub record IsPlaced (m : Module) (rooms : Rooms) (p : Point) (awaiting : Stacked Awaiting) (number index : ℕ) (operands : Stacked ℕ) (globals locals : List ℕ) : Type 0 where
+  pub executed : IsExecuted m
+  pub first_in : p.first_local ≤ length p.locals
+  pub operands_room : rooms.operands ≡ operands.room
+  pub awaiting_room : rooms.awaiting ≡ awaiting.room
+  pub running : IsRunning m rooms (placed p awaiting number index operands globals locals)
+
+-- Steps from a point, at most so many, went to the point q as a run; or they went to a point whose instruction was executed further,
+-- to q, and what that finishes wasn't left yet.
+abbrev pub IsHalted : Module → Rooms → (spare most : ℕ) → (p : Point) → (memory : List ℕ) → Run → (done : Option Stepped) → (q : Point) → (after : List ℕ) → Type 0
+IsHalted m rooms spare most p memory run None q after = IsRun m rooms spare most p memory run q after
+IsHalted m rooms spare most p memory run (Some answer) q after =
+    (run.last ≡ Ran) × (r : Point) × (between : List ℕ) × IsRun m rooms spare most p memory run r between × IsDoneAt m rooms spare r between answer q after

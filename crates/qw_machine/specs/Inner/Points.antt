@@ -8,6 +8,7 @@ use Rattle.qw_machine.specs.declared.activity.Frame.{Frame}
 use Rattle.qw_machine.specs.declared.activity.Awaiting.{Awaiting}
 use Rattle.qw_machine.specs.declared.activity.Awaiting.TheVariants.{Label, Call}
 use Rattle.qw_machine.specs.declared.activity.Activity.{Activity}
+use Rattle.qw_machine.specs.Inner.Stacked.{Stacked}
 use Rattle.qw_module.specs.Numbers.{truth}
 use Rattle.qw_module.specs.Syntax.{Code, Sequences, nested, sequence_at, named}
 use Rattle.qw_module.specs.Execution.{Store, Context, label, frame, Config, State, settled}
@@ -123,6 +124,14 @@ at_index p index = record p { index = index }
 abbrev pub with_held : Point → (index : ℕ) → (operands globals locals : List ℕ) → Point
 with_held p index operands globals locals =
     record p { index = index; operands = operands; locals = take p.first_local p.locals ++ locals; globals = globals }
+
+-- at an index of a sequence of this number of the same function, with these labels and frames around
+abbrev pub in_sequence : Point → (awaiting : List Awaiting) → (number index : ℕ) → Point
+in_sequence p awaiting number index = record p { awaiting = awaiting; sequence = number; index = index }
+
+-- the same, with these operands, globals and locals of the function that runs
+abbrev pub placed : Point → (awaiting : Stacked Awaiting) → (number index : ℕ) → (operands : Stacked ℕ) → (globals locals : List ℕ) → Point
+placed p awaiting number index operands globals locals = with_held (in_sequence p awaiting.values number index) index operands.values globals locals
 
 -- at the beginning of the body of a function of the module's own, in the label of the whole body (4.4.7, "Invocation")
 abbrev pub in_body : Module → Point → (function : ℕ) → (leaves : Bool) → Point

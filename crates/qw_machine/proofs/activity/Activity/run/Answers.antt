@@ -8,7 +8,7 @@ use Rattle.qw_machine.proofs.activity.Activity.run.Goals.{in-Ran, in_default}
 
 pub loop-steps-init : goal.loop-steps-init
 loop-steps-init c =
-    (refl, run-none c.args.program.now (rooms_of c.args.self.now) c.args.spare c.args.most (point_of c.args.self.now) c.args.memory.now.octets 0 refl c.requires.point, refl, c.instructions-sequence.ensures)
+    (refl, run-none c.args.program.now (rooms_of c.args.self.now) c.args.spare c.args.most (point_of c.args.self.now) c.args.memory.now.octets 0 refl c.requires.point, refl)
 
 pub stretch-run-requires-clause-pages : goal.stretch-run-requires-clause-pages
 stretch-run-requires-clause-pages c =
@@ -27,32 +27,6 @@ returns-then-not-matches-clause-run c =
     (point_of c.loop-steps.self) (point_of c.stretch-run.new.self) c.loop-steps.memory.octets c.stretch-run.new.memory.octets c.stretch-run.result
     (rooms_of c.loop-steps.self) is.0 is.1 c.stretch-run.ensures.run refl (omega (arith, c.loop-steps-test.true))
 
-pub instructions-sequence-requires-in-loop-steps-clause-function : goal.instructions-sequence-requires-in-loop-steps-clause-function
-instructions-sequence-requires-in-loop-steps-clause-function c =
-    let is = c.loop-steps.invariant in
-    elim c.match-matches.branch [
-      | in-Ran w ↦
-          let run = run-on c.args.program.now (rooms_of c.args.self.now) c.args.spare c.args.most (point_of c.args.self.now) c.args.memory.now.octets
-          c.loop-steps.steps (c.args.most - c.loop-steps.steps) (c.loop-steps.steps + c.stretch-run.result.steps)
-          (point_of c.loop-steps.self) (point_of c.stretch-run.new.self) c.loop-steps.memory.octets c.stretch-run.new.memory.octets c.stretch-run.result
-          (rooms_of c.loop-steps.self) is.0 is.1 c.stretch-run.ensures.run refl (omega (arith, c.loop-steps-test.true)) w.in-Ran.is in
-          run.running.point.room.own
-      | in_default w ↦ absurd (false≢true (sym w.matches-is ∙ c.if-not-matches.false))
-    ]
-
-pub instructions-sequence-requires-in-loop-steps-clause-sequence : goal.instructions-sequence-requires-in-loop-steps-clause-sequence
-instructions-sequence-requires-in-loop-steps-clause-sequence c =
-    let is = c.loop-steps.invariant in
-    elim c.match-matches.branch [
-      | in-Ran w ↦
-          let run = run-on c.args.program.now (rooms_of c.args.self.now) c.args.spare c.args.most (point_of c.args.self.now) c.args.memory.now.octets
-          c.loop-steps.steps (c.args.most - c.loop-steps.steps) (c.loop-steps.steps + c.stretch-run.result.steps)
-          (point_of c.loop-steps.self) (point_of c.stretch-run.new.self) c.loop-steps.memory.octets c.stretch-run.new.memory.octets c.stretch-run.result
-          (rooms_of c.loop-steps.self) is.0 is.1 c.stretch-run.ensures.run refl (omega (arith, c.loop-steps-test.true)) w.in-Ran.is in
-          run.running.point.room.numbered
-      | in_default w ↦ absurd (false≢true (sym w.matches-is ∙ c.if-not-matches.false))
-    ]
-
 pub loop-steps-preserved : goal.loop-steps-preserved
 loop-steps-preserved c =
     let is = c.loop-steps.invariant in
@@ -64,7 +38,6 @@ loop-steps-preserved c =
             (point_of c.loop-steps.self) (point_of c.stretch-run.new.self) c.loop-steps.memory.octets c.stretch-run.new.memory.octets c.stretch-run.result
             (rooms_of c.loop-steps.self) is.0 is.1 c.stretch-run.ensures.run refl (omega (arith, c.loop-steps-test.true)) w.in-Ran.is,
         c.stretch-run.ensures.reserved ∙ is.2,
-        c.instructions-sequence-in-loop-steps.ensures,
       )
       | in_default w ↦ absurd (false≢true (sym w.matches-is ∙ c.if-not-matches.false))
     ]

@@ -1,0 +1,220 @@
+-- Blocks that are entered and left where what a point holds is held apart from it.
+use Rattle.std.proofs.Common.{◌≡◌, ◌≢◌, ℕ, ◌+◌, ◌-◌, ◌<◌, ◌≤◌, Bool, false, List, ◌∷◌, length, drop, Option, None, Some, is_some, slice_get, get_or, Vec, vec_len, Global, refl, sym, ap, subst, ◌∙◌, arith}
+use Rattle.qw_module.specs.declared.instruction.ValType.{ValType}
+use Rattle.qw_module.specs.declared.instruction.Instr.{Instr}
+use Rattle.qw_module.specs.declared.instruction.Instr.TheVariants as i
+use Rattle.qw_module.specs.declared.instruction.Op.{Op}
+use Rattle.qw_module.specs.declared.module.Module.{Module}
+use Rattle.qw_module.specs.declared.module.Body.{Body}
+use Rattle.qw_machine.specs.declared.activity.Entry.{Entry}
+use Rattle.qw_machine.specs.declared.activity.Awaiting.{Awaiting}
+use Rattle.qw_machine.specs.declared.activity.Awaiting.TheVariants.{Label}
+use Rattle.qw_machine.specs.declared.blocks.Moved.{Moved}
+use Rattle.qw_machine.specs.declared.operators.Operated.{Operated}
+use Rattle.qw_machine.specs.declared.room.Rooms.{Rooms}
+use Rattle.qw_machine.specs.declared.stepped.Run.{Run}
+use Rattle.qw_machine.specs.declared.stepped.Stepped.{Stepped}
+use Rattle.qw_machine.specs.declared.stepped.Stepped.TheVariants.{Ran}
+use Rattle.qw_module.specs.Start.{body_of}
+use Rattle.qw_module.specs.Step.{op_wants}
+use Rattle.qw_module.specs.Syntax.{Sequences, sequence_at}
+use Rattle.qw_module.specs.Validity.{sequences_of}
+use Rattle.qw_machine.specs.Inner.Activities.{IsAtHand, IsDoneAt, IsHalted, IsPlaced, IsRun}
+use Rattle.qw_machine.specs.Inner.Ended.{answer_of}
+use Rattle.qw_machine.specs.Inner.Operated.{CanOperate, Held, IsDone}
+use Rattle.qw_machine.specs.Inner.Placed.{IsExecuted, IsPoint, IsRunning}
+use Rattle.qw_machine.specs.Inner.Points.{Point, in_sequence, instructions_at, placed, state_at, with_held}
+use Rattle.qw_machine.specs.Inner.Stacked.{Stacked}
+use Rattle.qw_machine.proofs.Around.{operand-room}
+use Rattle.qw_machine.proofs.Arrays.{instruction-there}
+use Rattle.qw_machine.proofs.Controlled.{executed-block, executed-loop, if-operand, executed-if, executed-else, executed-without}
+use Rattle.qw_machine.proofs.Followed.{held-ready, held-done, held-own}
+use Rattle.qw_machine.proofs.Leaving.{left-label}
+use Rattle.qw_machine.proofs.Reading.{array-there, array-read, index-end, index-unfinished}
+use Rattle.qw_machine.proofs.Runs.{run-after, run-operator}
+
+-- with a further label around
+abbrev pub labelled : Stacked Awaiting → (base : ℕ) (takes : Bool) (sequence target after : ℕ) → Stacked Awaiting
+labelled awaiting base takes sequence target after =
+    record { values = Label (record { base = base; takes = takes; sequence = sequence; target = target; after = after }) ∷ awaiting.values; room = awaiting.room }
+
+-- a label was pushed, and the beginning of a sequence is next
+pub record IsInside (awaiting : Stacked Awaiting) (base : ℕ) (takes : Bool) (sequence target after inner : ℕ) (pushed : Stacked Awaiting) (begun : Moved) : Type 0 where
+  pub labelled_is : pushed ≡ labelled awaiting base takes sequence target after
+  pub begins : begun ≡ record { sequence = inner; index = 0; done = Ran }
+
+pub placed-room : {m : Module} {rooms : Rooms} {p : Point} {awaiting : Stacked Awaiting} {number index : ℕ} {operands : Stacked ℕ} {globals locals : List ℕ} →
+    IsPlaced m rooms p awaiting number index operands globals locals → length operands.values < operands.room
+placed-room start = omega (arith, operand-room start.running.point start.running.unfinished, start.operands_room)
+
+module _ {m : Module} {rooms : Rooms} {p : Point} {awaiting : Stacked Awaiting} {number index : ℕ} {operands : Stacked ℕ} {globals locals : List ℕ}
+    (start : IsPlaced m rooms p awaiting number index operands globals locals) (sequence : List Instr) (same : sequence ≡ instructions_at m p.function number)
+    (spare : ℕ) (default : Instr) where
+  abbrev here : Point
+  here = placed p awaiting number index operands globals locals
+
+  found : (instruction : Instr) → get_or sequence index default ≡ instruction → slice_get (instructions_at m p.function number) index ≡ Some instruction
+  found instruction read = instruction-there same start.running.unfinished default read
+
+  -- ---- an operator
+  module _ (operator : Op) (read : get_or sequence index default ≡ i.Op operator) where
+    pub placed-ready : CanOperate operator globals operands.values locals
+    placed-ready =
+        held-ready m rooms (in_sequence p awaiting.values number index) start.first_in index operands.values globals locals start.running.point operator (found (i.Op operator) read) spare
+
+    pub placed-operator : (memory : List ℕ) (answer : Operated) (after : Held) →
+        IsDone (op_wants operator globals operands.values locals) (record { operands = operands.values; globals = globals; locals = locals; memory = memory }) spare answer after →
+        (room : ℕ) →
+        IsDoneAt m rooms spare here memory (answer_of answer)
+        (placed p awaiting number (index + 1) (record { values = after.operands; room = room }) after.globals after.locals) after.memory
+    placed-operator memory answer after done room =
+        held-done m rooms (in_sequence p awaiting.values number index) start.first_in index operands.values globals locals start.running.point operator (found (i.Op operator) read) spare
+        memory answer after done
+
+  -- ---- blocks
+  module _ (base : ℕ) (takes : Bool) (pushed : Stacked Awaiting) (begun : Moved) (memory : List ℕ) where
+    pub placed-block : (result : Option ValType) (inner : ℕ) → get_or sequence index default ≡ i.Block result inner → base ≡ length operands.values → takes ≡ is_some result →
+        IsInside awaiting base takes number (index + 1) (index + 1) inner pushed begun →
+        IsDoneAt m rooms spare here memory begun.done (placed p pushed begun.sequence begun.index operands globals locals) memory
+    placed-block result inner read base_is takes_are inside =
+        rw (inside.labelled_is, inside.begins, base_is, takes_are)
+        (executed-block spare start.executed start.running.point start.running.unfinished result inner (found (i.Block result inner) read)
+        (placed p (labelled awaiting (length operands.values) (is_some result) number (index + 1) (index + 1)) inner 0 operands globals locals) memory refl)
+
+    pub placed-loop : (result : Option ValType) (inner : ℕ) → get_or sequence index default ≡ i.Loop result inner → base ≡ length operands.values →
+        IsInside awaiting base false number index (index + 1) inner pushed begun →
+        IsDoneAt m rooms spare here memory begun.done (placed p pushed begun.sequence begun.index operands globals locals) memory
+    placed-loop result inner read base_is inside =
+        rw (inside.labelled_is, inside.begins, base_is)
+        (executed-loop spare start.executed start.running.point start.running.unfinished result inner (found (i.Loop result inner) read)
+        (placed p (labelled awaiting (length operands.values) false number index (index + 1)) inner 0 operands globals locals) memory refl)
+
+  -- ---- if
+  module _ (result : Option ValType) (inner : ℕ) (other : Option ℕ) (read : get_or sequence index default ≡ i.If result inner other) where
+    pub placed-operand : 0 < length operands.values
+    placed-operand = if-operand spare start.executed start.running.point start.running.unfinished result inner other (found (i.If result inner other) read)
+
+    pub placed-without : (left : Stacked ℕ) (memory : List ℕ) → operands.values ≡ 0 ∷ left.values → other ≡ None →
+        IsDoneAt m rooms spare here memory Ran (placed p awaiting number (index + 1) left globals locals) memory
+    placed-without left memory popped there =
+        executed-without spare start.executed start.running.point start.running.unfinished result inner
+        (found (i.If result inner other) read ∙ ap (λ (x : Option ℕ). Some (i.If result inner x)) there) left.values _ memory popped refl
+
+    module _ (body base : ℕ) (takes : Bool) (pushed : Stacked Awaiting) (begun : Moved) (left : Stacked ℕ) (memory : List ℕ) (base_is : base ≡ length left.values)
+        (takes_are : takes ≡ is_some result) (inside : IsInside awaiting base takes number (index + 1) (index + 1) body pushed begun) where
+      pub placed-if : (n : ℕ) → operands.values ≡ n ∷ left.values → n ≢ 0 → body ≡ inner →
+          IsDoneAt m rooms spare here memory begun.done (placed p pushed begun.sequence begun.index left globals locals) memory
+      placed-if n popped other_than chosen =
+          rw (inside.labelled_is, inside.begins, base_is, takes_are, chosen)
+          (executed-if spare start.executed start.running.point start.running.unfinished result inner other (found (i.If result inner other) read) n left.values
+          (placed p (labelled awaiting (length left.values) (is_some result) number (index + 1) (index + 1)) inner 0 left globals locals) memory popped other_than refl)
+
+      pub placed-else : operands.values ≡ 0 ∷ left.values → other ≡ Some body →
+          IsDoneAt m rooms spare here memory begun.done (placed p pushed begun.sequence begun.index left globals locals) memory
+      placed-else popped there =
+          rw (inside.labelled_is, inside.begins, base_is, takes_are)
+          (executed-else spare start.executed start.running.point start.running.unfinished result inner body
+          (found (i.If result inner other) read ∙ ap (λ (x : Option ℕ). Some (i.If result inner x)) there) left.values
+          (placed p (labelled awaiting (length left.values) (is_some result) number (index + 1) (index + 1)) body 0 left globals locals) memory popped refl)
+
+-- ---- labels whose sequences are finished are left
+module _ (m : Module) (rooms : Rooms) (p : Point) (body : Body) (same : sequences_of body ≡ body_of m p.function) (awaiting : List Awaiting) (number index : ℕ)
+    (is : IsPoint m rooms (in_sequence p awaiting number index)) where
+  pub array-inner : number < length (sequences_of body).each
+  array-inner = subst (λ (s : Sequences). number < length s.each) (sym same) is.room.numbered
+
+  pub in-array : number < vec_len body.sequences
+  in-array = omega (arith, array-there body number array-inner, body.sequences.ok.0)
+
+  module _ (array : Vec Instr Global) (read : array ≡ get_or body.sequences.items number array) where
+    pub instructions : instructions_at m p.function number ≡ array.items
+    instructions = ap (λ (s : Sequences). sequence_at s number) (sym same) ∙ array-read body number array array-inner read
+
+    pub more-left : index ≢ vec_len array → index < length (sequence_at (sequences_of body) number)
+    more-left apart =
+        subst (λ (s : Sequences). index < length (sequence_at s number)) (sym same) (index-unfinished m p.function number index array instructions apart is.index_in)
+
+    pub label-left : index ≡ vec_len array → (entry : Entry) (rest : List Awaiting) → awaiting ≡ Label entry ∷ rest →
+        IsPoint m rooms (in_sequence p rest entry.sequence entry.after)
+        × (state_at m (in_sequence p awaiting number index) ≡ state_at m (in_sequence p rest entry.sequence entry.after))
+    label-left ended entry rest popped =
+        left-label m rooms (in_sequence p awaiting number index) entry rest (index-end m p.function number index array instructions ended) popped is
+
+-- ---- an instruction executed, and the labels left that it finished
+abbrev pub held : Point → (operands : Stacked ℕ) → (globals locals : List ℕ) → Point
+held p operands globals locals = with_held p 0 operands.values globals locals
+
+-- ---- where steps led: what is around, the sequence and the index, and what is held
+pub record Kept : Type 0 where
+  pub awaiting : Stacked Awaiting
+  pub number : ℕ
+  pub index : ℕ
+  pub operands : Stacked ℕ
+  pub globals : List ℕ
+  pub locals : List ℕ
+  pub octets : List ℕ
+
+abbrev pub kept : Point → Kept → Point
+kept p k = placed p k.awaiting k.number k.index k.operands k.globals k.locals
+
+abbrev pub IsKept : Module → Rooms → Point → Kept → Type 0
+IsKept m rooms p k = IsPlaced m rooms p k.awaiting k.number k.index k.operands k.globals k.locals
+
+-- after so many steps
+module _ (m : Module) (rooms : Rooms) (p : Point) (start : Kept) (begins : IsKept m rooms p start) (spare most steps : ℕ) (now : Kept)
+    (run : IsRun m rooms spare most (kept p start) start.octets (record { steps = steps; last = Ran }) (kept p now) now.octets) where
+  pub kept-now : now.awaiting.room ≡ start.awaiting.room → now.operands.room ≡ start.operands.room → IsKept m rooms p now
+  kept-now awaiting_room operands_room = record {
+    executed = begins.executed;
+    first_in = begins.first_in;
+    operands_room = begins.operands_room ∙ sym operands_room;
+    awaiting_room = begins.awaiting_room ∙ sym awaiting_room;
+    running = run.running;
+  }
+
+  -- those in its sequence
+  pub kept-more : (more : Run) (after : Kept) → IsRun m rooms spare (most - steps) (kept p now) now.octets more (kept p after) after.octets →
+      IsRun m rooms spare most (kept p start) start.octets (record { steps = steps + more.steps; last = more.last }) (kept p after) after.octets
+  kept-more more after next =
+      run-after m rooms spare most (kept p start) start.octets steps (most - steps) (steps + more.steps) (kept p now) (kept p after) now.octets after.octets more rooms refl
+      run next refl (omega (arith, run.few))
+
+  -- and an instruction that enters or leaves blocks
+  pub kept-crossed : (sequences : Sequences) → sequences ≡ body_of m p.function → (answer : Stepped) (after : Kept) →
+      IsDoneAt m rooms spare (kept p now) now.octets answer (kept p after) after.octets → (answer ≡ Ran) × (after.index < length (sequence_at sequences after.number)) → steps + 1 ≤ most →
+      IsRun m rooms spare most (kept p start) start.octets (record { steps = steps + 1; last = Ran }) (kept p after) after.octets
+  kept-crossed sequences same answer after crossed goes fits =
+      run-operator m rooms spare most (kept p start) start.octets steps (steps + 1) (kept p now) (kept p after) now.octets after.octets Ran run
+      (subst (λ (a : Stepped). IsDoneAt m rooms spare (kept p now) now.octets a (kept p after) after.octets) goes.0 crossed)
+      (subst (λ (s : Sequences). after.index < length (sequence_at s after.number)) same goes.1) refl fits
+
+-- what is placed is at hand in its sequence
+pub placed-at-hand : (m : Module) (rooms : Rooms) (p : Point) (k : Kept) → IsKept m rooms p k → (sequences : Sequences) (sequence : List Instr) → sequences ≡ body_of m p.function →
+    sequence ≡ instructions_at m p.function k.number →
+    IsAtHand m rooms sequences k.number k.awaiting.values sequence (in_sequence p k.awaiting.values k.number k.index) k.index k.operands.room k.operands.values k.globals k.locals
+placed-at-hand m rooms p k is sequences sequence body same = record {
+  executed = is.executed;
+  body_is = body;
+  number_is = refl;
+  awaiting_is = refl;
+  followed = record { instructions = sym same; first_in = is.first_in; room_is = is.operands_room; running = is.running };
+}
+
+-- ---- where a point runs, what it holds may be held apart
+pub placed-here : (m : Module) (rooms : Rooms) (p : Point) (awaiting : Stacked Awaiting) (operands : Stacked ℕ) (globals locals : List ℕ) → IsExecuted m → IsRunning m rooms p →
+    awaiting.values ≡ p.awaiting → rooms.awaiting ≡ awaiting.room → operands.values ≡ p.operands → rooms.operands ≡ operands.room →
+    globals ≡ p.globals → locals ≡ drop p.first_local p.locals → IsPlaced m rooms p awaiting p.sequence p.index operands globals locals
+placed-here m rooms p awaiting operands globals locals executed running awaiting_are awaiting_room operands_are operands_room globals_are locals_are = record {
+  executed = executed;
+  first_in = running.point.first_in;
+  operands_room = operands_room;
+  awaiting_room = awaiting_room;
+  running = rw (awaiting_are, operands_are, globals_are, locals_are, held-own p) running;
+}
+
+pub halted-held : (m : Module) (rooms : Rooms) (p : Point) (globals locals : List ℕ) (spare most : ℕ) (memory : List ℕ) (run : Run) (ended : Option Stepped) (q : Point) (after : List ℕ) →
+    globals ≡ p.globals → locals ≡ drop p.first_local p.locals →
+    IsHalted m rooms spare most (with_held p p.index p.operands globals locals) memory run ended q after → IsHalted m rooms spare most p memory run ended q after
+halted-held m rooms p globals locals spare most memory run ended q after globals_are locals_are is =
+    let same : with_held p p.index p.operands globals locals ≡ p = rw (globals_are, locals_are) (held-own p) in
+    subst (λ (x : Point). IsHalted m rooms spare most x memory run ended q after) same is

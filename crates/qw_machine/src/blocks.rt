@@ -1,0 +1,320 @@
+//! Blocks that are entered and left where operators are executed (WebAssembly Core Specification 1.0, 4.4.5 and 4.4.6): their labels
+//! are pushed and popped without what an activity holds being put back.
+
+ghost use Rattle.std.specs.Prelude.{◌≡◌, ◌+◌, ◌*◌, ◌<◌, ◌≤◌, ◌∷◌, true, length, IfSome, None};
+ghost use Rattle.qw_linear.specs.Memory.{page};
+ghost use Rattle.qw_module.specs.Syntax.{sequence_at};
+ghost use Rattle.qw_module.specs.Validity.{sequences_of};
+ghost use Rattle.qw_machine.specs.declared.stepped.Stepped.TheVariants.{Ran};
+ghost use Rattle.qw_machine.specs.Inner.Points.{Point, in_sequence, instructions_at, placed, state_at};
+ghost use Rattle.qw_machine.specs.Inner.Placed.{IsPoint};
+ghost use Rattle.qw_machine.specs.Inner.Activities.{IsDoneAt, IsHalted, IsPlaced};
+ghost use Rattle.qw_module.specs.Start.{body_of};
+
+use crate::activity::{Awaiting, Entry};
+use crate::operators::operate;
+use crate::room::Rooms;
+use crate::stack::Stack;
+use crate::stepped::{Run, Stepped, operated};
+use crate::turns::turns;
+use qw_linear::linear::Linear;
+use qw_module::instruction::Instr;
+use qw_module::module::{Body, Module};
+
+/// An instruction that was executed, and the sequence and the index in it that it led to.
+#[derive(Clone, Copy)]
+struct Moved {
+    sequence: usize,
+    index: usize,
+    done: Stepped,
+}
+
+/// The sequence and the index in it after labels were left, and whether that is before the sequence's end.
+#[derive(Clone, Copy)]
+struct Left {
+    sequence: usize,
+    index: usize,
+    goes: bool,
+}
+
+/// An instruction that was executed, and the sequence and the index in it that it led to. `goes` says that the run goes on there.
+#[derive(Clone, Copy)]
+struct Crossed {
+    sequence: usize,
+    index: usize,
+    done: Stepped,
+    goes: bool,
+}
+
+/// Steps made one after another, and the sequence and the index in it that they led to. `done` is what a further instruction came
+/// to, where one was executed that may have finished what still has to be left.
+#[derive(Clone, Copy)]
+pub(crate) struct Halted {
+    pub(crate) run: Run,
+    pub(crate) sequence: usize,
+    pub(crate) index: usize,
+    pub(crate) done: Option<Stepped>,
+}
+
+/// Pushes a label, and goes to the beginning of the sequence of a number (4.4.6).
+#[inline(always)]
+fn enter_label(inner: usize, entry: Entry, awaiting: &mut Stack<Awaiting>) -> Moved
+    requires room { length awaiting.old.values < awaiting.old.room }
+    ensures pushed { awaiting.new ≡ record { values = Awaiting.Label entry ∷ awaiting.old.values; room = awaiting.old.room } }
+    ensures begins { result ≡ record { sequence = inner; index = 0; done = Ran } }
+{
+    awaiting.push(Awaiting::Label(entry));
+    Moved {
+        sequence: inner,
+        index: 0,
+        done: Stepped::Ran,
+    }
+}
+
+/// Executes the instruction at an index of a sequence where it is an operator or enters a block, and leaves nothing that is finished
+/// yet. Of another instruction nothing is done.
+#[inline(always)]
+fn move_on(
+    sequence: &[Instr],
+    number: usize,
+    index: usize,
+    awaiting: &mut Stack<Awaiting>,
+    operands: &mut Stack<u64>,
+    globals: &mut [u64],
+    locals: &mut [u64],
+    memory: &mut Linear,
+    spare: u32,
+) -> Option<Moved>
+    requires inside { index < length sequence.now }
+    requires point { (m : Module) × (rooms : Rooms) × (p : Point) × (sequence.now ≡ instructions_at m p.function number) × IsPlaced m rooms p awaiting.old number index operands.old globals.old locals.old }
+    requires pages { length memory.old.octets + spare * page ≤ memory.old.reserved * page }
+    ensures done { (m : Module) (rooms : Rooms) (p : Point) → sequence.now ≡ instructions_at m p.function number → IsPlaced m rooms p awaiting.old number index operands.old globals.old locals.old
+        → IfSome result (λ moved. IsDoneAt m rooms spare (placed p awaiting.old number index operands.old globals.old locals.old) memory.old.octets moved.done
+        (placed p awaiting.new moved.sequence moved.index operands.new globals.new locals.new) memory.new.octets) }
+    ensures stays { result ≡ None → (awaiting.new ≡ awaiting.old) × (operands.new ≡ operands.old) × (globals.new ≡ globals.old) × (locals.new ≡ locals.old) × (memory.new ≡ memory.old) }
+    ensures rooms { (awaiting.new.room ≡ awaiting.old.room) × (operands.new.room ≡ operands.old.room) }
+    ensures reserved { memory.new.reserved ≡ memory.old.reserved }
+{
+    let after = index + 1;
+    match sequence[index] {
+        Instr::Op(ref op) => {
+            let done = operate(op, operands, globals, locals, memory, spare);
+            Some(Moved {
+                sequence: number,
+                index: after,
+                done: operated(done),
+            })
+        }
+        Instr::Block { result, body } => {
+            let entry = Entry {
+                base: operands.len(),
+                takes: result.is_some(),
+                sequence: number,
+                target: after,
+                after,
+            };
+            Some(enter_label(body, entry, awaiting))
+        }
+        Instr::Loop { body, .. } => {
+            let entry = Entry {
+                base: operands.len(),
+                takes: false,
+                sequence: number,
+                target: index,
+                after,
+            };
+            Some(enter_label(body, entry, awaiting))
+        }
+        Instr::If {
+            result,
+            then_body,
+            else_body,
+        } => {
+            let body = if operands.pop() != 0 {
+                Some(then_body)
+            } else {
+                else_body
+            };
+            let Some(body) = body else {
+                return Some(Moved {
+                    sequence: number,
+                    index: after,
+                    done: Stepped::Ran,
+                });
+            };
+            let entry = Entry {
+                base: operands.len(),
+                takes: result.is_some(),
+                sequence: number,
+                target: after,
+                after,
+            };
+            Some(enter_label(body, entry, awaiting))
+        }
+        _ => None,
+    }
+}
+
+/// Leaves the labels whose sequences are finished, up to a frame (4.4.6).
+#[inline(always)]
+fn leave_labels(body: &Body, number: usize, index: usize, awaiting: &mut Stack<Awaiting>) -> Left
+    requires point { (m : Module) × (rooms : Rooms) × (p : Point) × (sequences_of body.now ≡ body_of m p.function) × IsPoint m rooms (in_sequence p awaiting.old.values number index) }
+    ensures left { (m : Module) (rooms : Rooms) (p : Point) → sequences_of body.now ≡ body_of m p.function → IsPoint m rooms (in_sequence p awaiting.old.values number index)
+        → IsPoint m rooms (in_sequence p awaiting.new.values result.sequence result.index)
+        × (state_at m (in_sequence p awaiting.old.values number index) ≡ state_at m (in_sequence p awaiting.new.values result.sequence result.index)) }
+    ensures inside { result.goes ≡ true → result.index < length (sequence_at (sequences_of body.now) result.sequence) }
+    ensures room { awaiting.new.room ≡ awaiting.old.room }
+{
+    let mut sequence = number;
+    let mut index = index;
+    while index == body.sequences[sequence].len() {
+        if awaiting.len() == 0 {
+            return Left {
+                sequence,
+                index,
+                goes: false,
+            };
+        }
+        let Awaiting::Label(entry) = awaiting.top() else {
+            return Left {
+                sequence,
+                index,
+                goes: false,
+            };
+        };
+        let _ = awaiting.pop();
+        sequence = entry.sequence;
+        index = entry.after;
+    }
+    Left {
+        sequence,
+        index,
+        goes: true,
+    }
+}
+
+/// Executes an instruction as [`move_on`] does, and leaves the labels whose sequences it finishes.
+#[inline(always)]
+fn cross(
+    body: &Body,
+    sequence: &[Instr],
+    number: usize,
+    index: usize,
+    awaiting: &mut Stack<Awaiting>,
+    operands: &mut Stack<u64>,
+    globals: &mut [u64],
+    locals: &mut [u64],
+    memory: &mut Linear,
+    spare: u32,
+) -> Option<Crossed>
+    requires inside { index < length sequence.now }
+    requires point { (m : Module) × (rooms : Rooms) × (p : Point) × (sequences_of body.now ≡ body_of m p.function) × (sequence.now ≡ instructions_at m p.function number) × IsPlaced m rooms p awaiting.old number index operands.old globals.old locals.old }
+    requires pages { length memory.old.octets + spare * page ≤ memory.old.reserved * page }
+    ensures done { (m : Module) (rooms : Rooms) (p : Point) → sequences_of body.now ≡ body_of m p.function → sequence.now ≡ instructions_at m p.function number
+        → IsPlaced m rooms p awaiting.old number index operands.old globals.old locals.old
+        → IfSome result (λ crossed. IsDoneAt m rooms spare (placed p awaiting.old number index operands.old globals.old locals.old) memory.old.octets crossed.done
+        (placed p awaiting.new crossed.sequence crossed.index operands.new globals.new locals.new) memory.new.octets) }
+    ensures goes { IfSome result (λ crossed. crossed.goes ≡ true → (crossed.done ≡ Ran) × (crossed.index < length (sequence_at (sequences_of body.now) crossed.sequence))) }
+    ensures stays { result ≡ None → (awaiting.new ≡ awaiting.old) × (operands.new ≡ operands.old) × (globals.new ≡ globals.old) × (locals.new ≡ locals.old) × (memory.new ≡ memory.old) }
+    ensures rooms { (awaiting.new.room ≡ awaiting.old.room) × (operands.new.room ≡ operands.old.room) }
+    ensures reserved { memory.new.reserved ≡ memory.old.reserved }
+{
+    let Some(moved) = move_on(
+        sequence, number, index, awaiting, operands, globals, locals, memory, spare,
+    ) else {
+        return None;
+    };
+    let Stepped::Ran = moved.done else {
+        return Some(Crossed {
+            sequence: moved.sequence,
+            index: moved.index,
+            done: moved.done,
+            goes: false,
+        });
+    };
+    let left = leave_labels(body, moved.sequence, moved.index, awaiting);
+    Some(Crossed {
+        sequence: left.sequence,
+        index: left.index,
+        done: Stepped::Ran,
+        goes: left.goes,
+    })
+}
+
+/// Steps one after another, at most so many, from an index of a sequence of a body on, as [`turns`] makes them, and those that enter
+/// and leave blocks. `number` is that of the sequence.
+#[inline(always)]
+pub(crate) fn blocks(
+    body: &Body,
+    number: usize,
+    first: usize,
+    most: u64,
+    awaiting: &mut Stack<Awaiting>,
+    operands: &mut Stack<u64>,
+    globals: &mut [u64],
+    locals: &mut [u64],
+    memory: &mut Linear,
+    spare: u32,
+) -> Halted
+    requires point { (m : Module) × (rooms : Rooms) × (p : Point) × (sequences_of body.now ≡ body_of m p.function) × IsPlaced m rooms p awaiting.old number first operands.old globals.old locals.old }
+    requires pages { length memory.old.octets + spare * page ≤ memory.old.reserved * page }
+    ensures run { (m : Module) (rooms : Rooms) (p : Point) → sequences_of body.now ≡ body_of m p.function → IsPlaced m rooms p awaiting.old number first operands.old globals.old locals.old
+        → IsHalted m rooms spare most (placed p awaiting.old number first operands.old globals.old locals.old) memory.old.octets result.run result.done
+        (placed p awaiting.new result.sequence result.index operands.new globals.new locals.new) memory.new.octets }
+    ensures rooms { (awaiting.new.room ≡ awaiting.old.room) × (operands.new.room ≡ operands.old.room) }
+    ensures reserved { memory.new.reserved ≡ memory.old.reserved }
+{
+    let mut number = number;
+    let mut index = first;
+    let mut steps = 0;
+    loop {
+        let sequence = body.sequences[number].as_slice();
+        let reached = turns(
+            body,
+            number,
+            awaiting,
+            sequence,
+            index,
+            most - steps,
+            operands,
+            globals,
+            locals,
+            memory,
+            spare,
+        );
+        steps += reached.run.steps;
+        index = reached.index;
+        if !matches!(reached.run.last, Stepped::Ran) || steps == most {
+            return Halted {
+                run: Run {
+                    steps,
+                    last: reached.run.last,
+                },
+                sequence: number,
+                index,
+                done: None,
+            };
+        }
+        let Some(crossed) = cross(
+            body, sequence, number, index, awaiting, operands, globals, locals, memory, spare,
+        ) else {
+            return Halted {
+                run: Run::going(steps),
+                sequence: number,
+                index,
+                done: None,
+            };
+        };
+        number = crossed.sequence;
+        index = crossed.index;
+        if !crossed.goes {
+            return Halted {
+                run: Run::going(steps),
+                sequence: number,
+                index,
+                done: Some(crossed.done),
+            };
+        }
+        steps += 1;
+    }
+}
