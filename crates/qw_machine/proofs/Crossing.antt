@@ -30,7 +30,7 @@ use Rattle.qw_machine.proofs.Arrays.{instruction-there}
 use Rattle.qw_machine.proofs.Controlled.{executed-block, executed-loop, if-operand, executed-if, executed-else, executed-without}
 use Rattle.qw_machine.proofs.Followed.{held-ready, held-done, held-own}
 use Rattle.qw_machine.proofs.Leaving.{left-label}
-use Rattle.qw_machine.proofs.Reading.{array-there, array-read, index-end, index-unfinished}
+use Rattle.qw_machine.proofs.Reading.{array-there, array-read}
 use Rattle.qw_machine.proofs.Runs.{run-after, run-operator}
 
 -- with a further label around
@@ -126,19 +126,24 @@ module _ (m : Module) (rooms : Rooms) (p : Point) (body : Body) (same : sequence
   pub in-array : number < vec_len body.sequences
   in-array = omega (arith, array-there body number array-inner, body.sequences.ok.0)
 
-  module _ (array : Vec Instr Global) (read : array ≡ get_or body.sequences.items number array) where
-    pub instructions : instructions_at m p.function number ≡ array.items
-    instructions = ap (λ (s : Sequences). sequence_at s number) (sym same) ∙ array-read body number array array-inner read
+  pub slice-read : (array : Vec Instr Global) (sequence : List Instr) → array ≡ get_or body.sequences.items number array → sequence ≡ array.items →
+      sequence ≡ sequence_at (sequences_of body) number
+  slice-read array sequence read sliced = sliced ∙ sym (array-read body number array array-inner read)
 
-    pub more-left : index ≢ vec_len array → index < length (sequence_at (sequences_of body) number)
+  module _ (sequence : List Instr) (sequence_is : sequence ≡ sequence_at (sequences_of body) number) where
+    pub slice-instructions : sequence ≡ instructions_at m p.function number
+    slice-instructions = sequence_is ∙ ap (λ (s : Sequences). sequence_at s number) same
+
+    pub more-left : index ≢ length sequence → index < length sequence
     more-left apart =
-        subst (λ (s : Sequences). index < length (sequence_at s number)) (sym same) (index-unfinished m p.function number index array instructions apart is.index_in)
+        let within : index ≤ length sequence = subst (λ (xs : List Instr). index ≤ length xs) (sym slice-instructions) is.index_in in
+        omega arith
 
-    pub label-left : index ≡ vec_len array → (entry : Entry) (rest : List Awaiting) → awaiting ≡ Label entry ∷ rest →
+    pub label-left : index ≡ length sequence → (entry : Entry) (rest : List Awaiting) → awaiting ≡ Label entry ∷ rest →
         IsPoint m rooms (in_sequence p rest entry.sequence entry.after)
         × (state_at m (in_sequence p awaiting number index) ≡ state_at m (in_sequence p rest entry.sequence entry.after))
     label-left ended entry rest popped =
-        left-label m rooms (in_sequence p awaiting number index) entry rest (index-end m p.function number index array instructions ended) popped is
+        left-label m rooms (in_sequence p awaiting number index) entry rest (ended ∙ ap length slice-instructions) popped is
 
 -- ---- an instruction executed, and the labels left that it finished
 abbrev pub held : Point → (operands : Stacked ℕ) → (globals locals : List ℕ) → Point
@@ -180,13 +185,13 @@ module _ (m : Module) (rooms : Rooms) (p : Point) (start : Kept) (begins : IsKep
       run next refl (omega (arith, run.few))
 
   -- and an instruction that enters or leaves blocks
-  pub kept-crossed : (sequences : Sequences) → sequences ≡ body_of m p.function → (answer : Stepped) (after : Kept) →
-      IsDoneAt m rooms spare (kept p now) now.octets answer (kept p after) after.octets → (answer ≡ Ran) × (after.index < length (sequence_at sequences after.number)) → steps + 1 ≤ most →
+  pub kept-crossed : (sequences : Sequences) → sequences ≡ body_of m p.function → (sequence : List Instr) (answer : Stepped) (after : Kept) →
+      IsDoneAt m rooms spare (kept p now) now.octets answer (kept p after) after.octets → (answer ≡ Ran) × (after.index < length sequence) × (sequence ≡ sequence_at sequences after.number) → steps + 1 ≤ most →
       IsRun m rooms spare most (kept p start) start.octets (record { steps = steps + 1; last = Ran }) (kept p after) after.octets
-  kept-crossed sequences same answer after crossed goes fits =
+  kept-crossed sequences same sequence answer after crossed goes fits =
       run-operator m rooms spare most (kept p start) start.octets steps (steps + 1) (kept p now) (kept p after) now.octets after.octets Ran run
       (subst (λ (a : Stepped). IsDoneAt m rooms spare (kept p now) now.octets a (kept p after) after.octets) goes.0 crossed)
-      (subst (λ (s : Sequences). after.index < length (sequence_at s after.number)) same goes.1) refl fits
+      (subst (λ (xs : List Instr). after.index < length xs) (goes.2 ∙ ap (λ (s : Sequences). sequence_at s after.number) same) goes.1) refl fits
 
 -- what is placed is at hand in its sequence
 pub placed-at-hand : (m : Module) (rooms : Rooms) (p : Point) (k : Kept) → IsKept m rooms p k → (sequences : Sequences) (sequence : List Instr) → sequences ≡ body_of m p.function →

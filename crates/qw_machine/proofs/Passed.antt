@@ -14,7 +14,7 @@ use Rattle.qw_module.specs.Start.{body_of}
 use Rattle.qw_machine.specs.Inner.Points.{Point, instructions_at, at_index, entered, with_held}
 use Rattle.qw_machine.specs.Inner.Placed.{IsExecuted, IsPoint}
 use Rattle.qw_machine.specs.Inner.Operated.{Held}
-use Rattle.qw_machine.specs.Inner.Activities.{IsDoneAt, IsFollowed, IsRun, passes_on_zero}
+use Rattle.qw_machine.specs.Inner.Activities.{IsDoneAt, IsFollowed, IsRun, passes_on_zero, takes_condition}
 use Rattle.qw_machine.proofs.Around.{with_operands}
 use Rattle.qw_machine.proofs.Controlled.{br_if-operand, if-operand, executed-br_if-not, executed-without, executed-else}
 use Rattle.qw_machine.proofs.Followed.{followed-found}
@@ -25,17 +25,17 @@ module _ {m : Module} {rooms : Rooms} (spare : ℕ) (executed : IsExecuted m) {p
     (inside : p.index < length (instructions_at m p.function p.sequence)) where
   -- there is an operand
   pub passed-operand : (instruction : Instr) → slice_get (instructions_at m p.function p.sequence) p.index ≡ Some instruction →
-      passes_on_zero (body_of m p.function) instruction ≡ true → 0 < length p.operands
-  passed-operand (i.BrIf index) found passes = br_if-operand spare executed is inside index found
-  passed-operand (i.If result inner other) found passes = if-operand spare executed is inside result inner other found
-  passed-operand (i.Op operator) found passes = absurd (false≢true passes)
-  passed-operand i.Unreachable found passes = absurd (false≢true passes)
-  passed-operand (i.Block result inner) found passes = absurd (false≢true passes)
-  passed-operand (i.Loop result inner) found passes = absurd (false≢true passes)
-  passed-operand (i.Br index) found passes = absurd (false≢true passes)
-  passed-operand (i.BrTable first count default) found passes = absurd (false≢true passes)
-  passed-operand i.Return found passes = absurd (false≢true passes)
-  passed-operand (i.Call index) found passes = absurd (false≢true passes)
+      takes_condition instruction ≡ true → 0 < length p.operands
+  passed-operand (i.BrIf index) found takes = br_if-operand spare executed is inside index found
+  passed-operand (i.If result inner other) found takes = if-operand spare executed is inside result inner other found
+  passed-operand (i.Op operator) found takes = absurd (false≢true takes)
+  passed-operand i.Unreachable found takes = absurd (false≢true takes)
+  passed-operand (i.Block result inner) found takes = absurd (false≢true takes)
+  passed-operand (i.Loop result inner) found takes = absurd (false≢true takes)
+  passed-operand (i.Br index) found takes = absurd (false≢true takes)
+  passed-operand (i.BrTable first count default) found takes = absurd (false≢true takes)
+  passed-operand i.Return found takes = absurd (false≢true takes)
+  passed-operand (i.Call index) found takes = absurd (false≢true takes)
 
   -- an empty `else` is left as soon as it is entered
   executed-empty : (result : Option ValType) (inner other : ℕ) → slice_get (instructions_at m p.function p.sequence) p.index ≡ Some (i.If result inner (Some other)) →
@@ -71,21 +71,22 @@ module _ {m : Module} {rooms : Rooms} (spare : ℕ) (executed : IsExecuted m) {p
 module _ (m : Module) (rooms : Rooms) (executed : IsExecuted m) (p : Point) (sequence : List Instr) (first room : ℕ) (operands globals locals : List ℕ)
     (start : IsFollowed m rooms sequence p first room operands globals locals) (spare most steps : ℕ) (memory : List ℕ) (index : ℕ) (now : Held)
     (run : IsRun m rooms spare most (with_held p first operands globals locals) memory (record { steps = steps; last = Ran }) (with_held p index now.operands now.globals now.locals) now.memory)
-    (default : Instr) (body : Sequences) (same : body ≡ body_of m p.function) (passed : passes_on_zero body (get_or sequence index default) ≡ true) where
+    (default : Instr) where
   found : slice_get (instructions_at m p.function p.sequence) index ≡ Some (get_or sequence index default)
   found = followed-found m rooms p sequence first room operands globals locals start spare most steps memory index now run default
 
-  passes : passes_on_zero (body_of m p.function) (get_or sequence index default) ≡ true
-  passes = subst (λ (s : Sequences). passes_on_zero s (get_or sequence index default) ≡ true) same passed
+  pub passed-ready : takes_condition (get_or sequence index default) ≡ true → 0 < length now.operands
+  passed-ready takes = passed-operand spare executed run.running.point run.running.unfinished (get_or sequence index default) found takes
 
-  pub passed-ready : 0 < length now.operands
-  passed-ready = passed-operand spare executed run.running.point run.running.unfinished (get_or sequence index default) found passes
+  module _ (body : Sequences) (same : body ≡ body_of m p.function) (passed : passes_on_zero body (get_or sequence index default) ≡ true) where
+    passes : passes_on_zero (body_of m p.function) (get_or sequence index default) ≡ true
+    passes = subst (λ (s : Sequences). passes_on_zero s (get_or sequence index default) ≡ true) same passed
 
-  pub passed-next : (left : List ℕ) → now.operands ≡ 0 ∷ left → index + 1 < length sequence → (next : ℕ) → next ≡ steps + 1 → steps + 1 ≤ most →
-      IsRun m rooms spare most (with_held p first operands globals locals) memory (record { steps = next; last = Ran })
-      (with_held p (index + 1) left now.globals now.locals) now.memory
-  passed-next left popped inside next counted fits =
-      run-operator m rooms spare most (with_held p first operands globals locals) memory steps next
-      (with_held p index now.operands now.globals now.locals) (with_held p (index + 1) left now.globals now.locals) now.memory now.memory stepped.Ran run
-      (executed-passed spare executed run.running.point run.running.unfinished (get_or sequence index default) found passes left now.memory popped)
-      (rw start.instructions inside) counted fits
+    pub passed-next : (left : List ℕ) → now.operands ≡ 0 ∷ left → index + 1 < length sequence → (next : ℕ) → next ≡ steps + 1 → steps + 1 ≤ most →
+        IsRun m rooms spare most (with_held p first operands globals locals) memory (record { steps = next; last = Ran })
+        (with_held p (index + 1) left now.globals now.locals) now.memory
+    passed-next left popped inside next counted fits =
+        run-operator m rooms spare most (with_held p first operands globals locals) memory steps next
+        (with_held p index now.operands now.globals now.locals) (with_held p (index + 1) left now.globals now.locals) now.memory now.memory stepped.Ran run
+        (executed-passed spare executed run.running.point run.running.unfinished (get_or sequence index default) found passes left now.memory popped)
+        (rw start.instructions inside) counted fits

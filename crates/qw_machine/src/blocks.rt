@@ -29,18 +29,21 @@ struct Moved {
     done: Stepped,
 }
 
-/// The sequence and the index in it after labels were left, and whether that is before the sequence's end.
+/// The sequence, its number and the index in it after labels were left, and whether that is before the sequence's end.
 #[derive(Clone, Copy)]
-struct Left {
-    sequence: usize,
+struct Left<'a> {
+    sequence: &'a [Instr],
+    number: usize,
     index: usize,
     goes: bool,
 }
 
-/// An instruction that was executed, and the sequence and the index in it that it led to. `goes` says that the run goes on there.
+/// An instruction that was executed, and the sequence, its number and the index in it that it led to. `goes` says that the run goes on
+/// there.
 #[derive(Clone, Copy)]
-struct Crossed {
-    sequence: usize,
+struct Crossed<'a> {
+    sequence: &'a [Instr],
+    number: usize,
     index: usize,
     done: Stepped,
     goes: bool,
@@ -157,20 +160,28 @@ fn move_on(
 
 /// Leaves the labels whose sequences are finished, up to a frame (4.4.6).
 #[inline(always)]
-fn leave_labels(body: &Body, number: usize, index: usize, awaiting: &mut Stack<Awaiting>) -> Left
+fn leave_labels<'a>(
+    body: &'a Body,
+    number: usize,
+    index: usize,
+    awaiting: &mut Stack<Awaiting>,
+) -> Left<'a>
     requires point { (m : Module) × (rooms : Rooms) × (p : Point) × (sequences_of body.now ≡ body_of m p.function) × IsPoint m rooms (in_sequence p awaiting.old.values number index) }
     ensures left { (m : Module) (rooms : Rooms) (p : Point) → sequences_of body.now ≡ body_of m p.function → IsPoint m rooms (in_sequence p awaiting.old.values number index)
-        → IsPoint m rooms (in_sequence p awaiting.new.values result.sequence result.index)
-        × (state_at m (in_sequence p awaiting.old.values number index) ≡ state_at m (in_sequence p awaiting.new.values result.sequence result.index)) }
-    ensures inside { result.goes ≡ true → result.index < length (sequence_at (sequences_of body.now) result.sequence) }
+        → IsPoint m rooms (in_sequence p awaiting.new.values result.number result.index)
+        × (state_at m (in_sequence p awaiting.old.values number index) ≡ state_at m (in_sequence p awaiting.new.values result.number result.index)) }
+    ensures sequence { result.sequence.now ≡ sequence_at (sequences_of body.now) result.number }
+    ensures inside { result.goes ≡ true → result.index < length result.sequence.now }
     ensures room { awaiting.new.room ≡ awaiting.old.room }
 {
-    let mut sequence = number;
+    let mut sequence = body.sequences[number].as_slice();
+    let mut number = number;
     let mut index = index;
-    while index == body.sequences[sequence].len() {
+    while index == sequence.len() {
         if awaiting.len() == 0 {
             return Left {
                 sequence,
+                number,
                 index,
                 goes: false,
             };
@@ -178,16 +189,19 @@ fn leave_labels(body: &Body, number: usize, index: usize, awaiting: &mut Stack<A
         let Awaiting::Label(entry) = awaiting.top() else {
             return Left {
                 sequence,
+                number,
                 index,
                 goes: false,
             };
         };
         let _ = awaiting.pop();
-        sequence = entry.sequence;
+        sequence = body.sequences[entry.sequence].as_slice();
+        number = entry.sequence;
         index = entry.after;
     }
     Left {
         sequence,
+        number,
         index,
         goes: true,
     }
@@ -195,9 +209,9 @@ fn leave_labels(body: &Body, number: usize, index: usize, awaiting: &mut Stack<A
 
 /// Executes an instruction as [`move_on`] does, and leaves the labels whose sequences it finishes.
 #[inline(always)]
-fn cross(
-    body: &Body,
-    sequence: &[Instr],
+fn cross<'a>(
+    body: &'a Body,
+    sequence: &'a [Instr],
     number: usize,
     index: usize,
     awaiting: &mut Stack<Awaiting>,
@@ -206,15 +220,15 @@ fn cross(
     locals: &mut [u64],
     memory: &mut Linear,
     spare: u32,
-) -> Option<Crossed>
+) -> Option<Crossed<'a>>
     requires inside { index < length sequence.now }
     requires point { (m : Module) × (rooms : Rooms) × (p : Point) × (sequences_of body.now ≡ body_of m p.function) × (sequence.now ≡ instructions_at m p.function number) × IsPlaced m rooms p awaiting.old number index operands.old globals.old locals.old }
     requires pages { length memory.old.octets + spare * page ≤ memory.old.reserved * page }
     ensures done { (m : Module) (rooms : Rooms) (p : Point) → sequences_of body.now ≡ body_of m p.function → sequence.now ≡ instructions_at m p.function number
         → IsPlaced m rooms p awaiting.old number index operands.old globals.old locals.old
         → IfSome result (λ crossed. IsDoneAt m rooms spare (placed p awaiting.old number index operands.old globals.old locals.old) memory.old.octets crossed.done
-        (placed p awaiting.new crossed.sequence crossed.index operands.new globals.new locals.new) memory.new.octets) }
-    ensures goes { IfSome result (λ crossed. crossed.goes ≡ true → (crossed.done ≡ Ran) × (crossed.index < length (sequence_at (sequences_of body.now) crossed.sequence))) }
+        (placed p awaiting.new crossed.number crossed.index operands.new globals.new locals.new) memory.new.octets) }
+    ensures goes { IfSome result (λ crossed. crossed.goes ≡ true → (crossed.done ≡ Ran) × (crossed.index < length crossed.sequence.now) × (crossed.sequence.now ≡ sequence_at (sequences_of body.now) crossed.number)) }
     ensures stays { result ≡ None → (awaiting.new ≡ awaiting.old) × (operands.new ≡ operands.old) × (globals.new ≡ globals.old) × (locals.new ≡ locals.old) × (memory.new ≡ memory.old) }
     ensures rooms { (awaiting.new.room ≡ awaiting.old.room) × (operands.new.room ≡ operands.old.room) }
     ensures reserved { memory.new.reserved ≡ memory.old.reserved }
@@ -226,7 +240,8 @@ fn cross(
     };
     let Stepped::Ran = moved.done else {
         return Some(Crossed {
-            sequence: moved.sequence,
+            sequence,
+            number: moved.sequence,
             index: moved.index,
             done: moved.done,
             goes: false,
@@ -235,6 +250,7 @@ fn cross(
     let left = leave_labels(body, moved.sequence, moved.index, awaiting);
     Some(Crossed {
         sequence: left.sequence,
+        number: left.number,
         index: left.index,
         done: Stepped::Ran,
         goes: left.goes,
@@ -264,11 +280,11 @@ pub(crate) fn blocks(
     ensures rooms { (awaiting.new.room ≡ awaiting.old.room) × (operands.new.room ≡ operands.old.room) }
     ensures reserved { memory.new.reserved ≡ memory.old.reserved }
 {
+    let mut sequence = body.sequences[number].as_slice();
     let mut number = number;
     let mut index = first;
     let mut steps = 0;
     loop {
-        let sequence = body.sequences[number].as_slice();
         let reached = turns(
             body,
             number,
@@ -305,7 +321,8 @@ pub(crate) fn blocks(
                 done: None,
             };
         };
-        number = crossed.sequence;
+        sequence = crossed.sequence;
+        number = crossed.number;
         index = crossed.index;
         if !crossed.goes {
             return Halted {

@@ -7,7 +7,7 @@ ghost use Rattle.qw_module.specs.Start.{body_of};
 ghost use Rattle.qw_machine.specs.Inner.Placed.{IsExecuted};
 ghost use Rattle.qw_machine.specs.Inner.Points.{Point, with_held};
 ghost use Rattle.qw_module.specs.Validity.{sequences_of};
-ghost use Rattle.qw_machine.specs.Inner.Activities.{IsFollowed, IsRun, passes_on_zero};
+ghost use Rattle.qw_machine.specs.Inner.Activities.{IsFollowed, IsRun, passes_on_zero, takes_condition};
 
 use crate::operators::{Operated, operate};
 use crate::room::Rooms;
@@ -79,15 +79,27 @@ fn passes_on_zero(body: &Body, instruction: &Instr) -> bool
     }
 }
 
+/// Whether an instruction takes a condition: a `br_if` or an `if`.
+#[inline(always)]
+fn takes_condition(instruction: &Instr) -> bool
+    ensures { result ≡ takes_condition instruction.now }
+{
+    matches!(*instruction, Instr::BrIf(_) | Instr::If { .. })
+}
+
 /// Takes the operand of an instruction that does nothing else where that is 0, and answers whether it did.
+// The condition is tested first: where it isn't 0, nothing else of the instruction is read here.
 #[inline(always)]
 fn passed(body: &Body, instruction: &Instr, operands: &mut Stack<u64>) -> bool
-    requires { passes_on_zero (sequences_of body.now) instruction.now ≡ true → 0 < length operands.old.values }
+    requires { takes_condition instruction.now ≡ true → 0 < length operands.old.values }
     ensures passed { result ≡ true → (passes_on_zero (sequences_of body.now) instruction.now ≡ true) × (operands.old.values ≡ 0 ∷ operands.new.values) }
     ensures stays { result ≡ false → operands.new ≡ operands.old }
     ensures room { operands.new.room ≡ operands.old.room }
 {
-    if !passes_on_zero(body, instruction) || operands.top() != 0 {
+    if !takes_condition(instruction)
+        || operands.top() != 0
+        || !passes_on_zero(body, instruction)
+    {
         return false;
     }
     let _ = operands.pop();

@@ -58,19 +58,21 @@ fn repeats(body: &Body, number: usize, awaiting: &Stack<Awaiting>) -> Option<usi
     Some(entry.base)
 }
 
-/// Begins a loop's body anew where an instruction is a `br_if` to the loop that is taken, and answers whether it did. `again` keeps
-/// what [`repeats`] says of the loop once it was asked.
+/// Begins a loop's body anew where an instruction is a `br_if` to the loop that is taken and the two steps of it may be made, and
+/// answers whether it did. `again` keeps what [`repeats`] says of the loop once it was asked.
 #[inline(always)]
 fn turned(
     body: &Body,
     number: usize,
     awaiting: &Stack<Awaiting>,
     instruction: &Instr,
+    most: u64,
     operands: &mut Stack<u64>,
     again: &mut Option<usize>,
 ) -> bool
     requires operand { instruction.now ≡ Instr.BrIf 0 → 0 < length operands.old.values }
     requires known { IfSome again.old (λ base. Repeats (sequences_of body.now) number awaiting.now.values base) }
+    ensures few { result ≡ true → 2 ≤ most }
     ensures turned { result ≡ true → IsTurn (sequences_of body.now) number awaiting.now.values instruction.now operands.old.values operands.new.values }
     ensures stays { result ≡ false → operands.new ≡ operands.old }
     ensures known { IfSome again.new (λ base. Repeats (sequences_of body.now) number awaiting.now.values base) }
@@ -79,7 +81,7 @@ fn turned(
     let Instr::BrIf(0) = *instruction else {
         return false;
     };
-    if operands.top() == 0 {
+    if most < 2 || operands.top() == 0 {
         return false;
     }
     if again.is_none() {
@@ -128,12 +130,12 @@ pub(crate) fn turns(
         index += run.steps as usize;
         steps += run.steps;
         if !matches!(run.last, Stepped::Ran)
-            || most - steps < 2
             || !turned(
                 body,
                 number,
                 awaiting,
                 &sequence[index],
+                most - steps,
                 operands,
                 &mut again,
             )

@@ -91,6 +91,12 @@ pub record IsFollowed (m : Module) (rooms : Rooms) (sequence : List Instr) (p : 
   pub room_is : rooms.operands ≡ room
   pub running : IsRunning m rooms (with_held p index operands globals locals)
 
+-- whether an instruction takes a condition
+abbrev pub takes_condition : Instr → Bool
+takes_condition (i.BrIf index) = true
+takes_condition (i.If result inner other) = true
+takes_condition _ = false
+
 -- whether an instruction of a body only takes its operand where that is 0: a `br_if`, or an `if` without an `else` or with an empty one
 abbrev pub passes_on_zero : Sequences → Instr → Bool
 passes_on_zero sequences (i.BrIf index) = true

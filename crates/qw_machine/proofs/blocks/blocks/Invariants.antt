@@ -1,6 +1,7 @@
 use Rattle.std.proofs.Common.{◌≡◌, ◌-◌}
 use Rattle.qw_module.specs.declared.module.Module.{Module}
 use Rattle.qw_module.specs.Start.{body_of}
+use Rattle.qw_module.specs.Syntax.{sequence_at}
 use Rattle.qw_module.specs.Validity.{sequences_of}
 use Rattle.qw_machine.specs.declared.room.Rooms.{Rooms}
 use Rattle.qw_machine.specs.declared.stepped.Stepped.TheVariants.{Ran}
@@ -12,6 +13,7 @@ use Rattle.qw_machine.proofs.blocks.blocks.Given as goal
 abbrev pub invariant-loop-awaiting : goal.invariant-loop-awaiting
 invariant-loop-awaiting l =
     (l.awaiting.room ≡ l.initial.awaiting.room) × (l.operands.room ≡ l.initial.operands.room) × (l.memory.reserved ≡ l.initial.memory.reserved)
+    × (l.sequence ≡ sequence_at (sequences_of l.body) l.number)
     × ((m : Module) (rooms : Rooms) (p : Point) → sequences_of l.body ≡ body_of m p.function → IsPlaced m rooms p l.initial.awaiting l.fn.number l.first l.initial.operands l.initial.globals l.initial.locals →
     IsRun m rooms l.spare l.most (placed p l.initial.awaiting l.fn.number l.first l.initial.operands l.initial.globals l.initial.locals) l.initial.memory.octets (record { steps = l.steps; last = Ran })
     (placed p l.awaiting l.number l.index l.operands l.globals l.locals) l.memory.octets)

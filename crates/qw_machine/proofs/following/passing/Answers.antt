@@ -61,7 +61,7 @@ passed-requires c = λ passes.
           (record { steps = l.index + run.result.steps - c.args.first; last = run.result.last }) here after.memory w.in-Ran.is more in
           passed-ready at.0 at.1 at.3 at.2 c.args.sequence.now c.args.first c.args.operands.now.room c.args.operands.now.values c.args.globals.now c.args.locals.now start
           c.args.spare (c.args.end - c.args.first) (l.index + run.result.steps - c.args.first) c.args.memory.now.octets (l.index + run.result.steps) after most
-          _ _ at.4 passes
+          _ passes
       | in_default w ↦ absurd (false≢true (sym w.matches-is ∙ c.if-not-matches.false))
     ]
 

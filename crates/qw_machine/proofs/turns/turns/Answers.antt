@@ -6,7 +6,7 @@ use Rattle.qw_machine.proofs.Followed.{followed-on, followed-inside}
 use Rattle.qw_machine.proofs.Repeated.{turned-more, turned-ready, turned-next}
 use Rattle.qw_machine.proofs.Runs.{run-none, run-keeps-length, run-told}
 use Rattle.qw_machine.proofs.turns.turns.Goals as goal
-use Rattle.qw_machine.proofs.turns.turns.Goals.{in-Ran, in_default, then-not-matches-via-then-not-matches, then-not-matches-via-else-not-matches+then-most-steps-lt2, then-not-matches-via-else-not-matches+else-most-steps-lt2+then-not-turned}
+use Rattle.qw_machine.proofs.turns.turns.Goals.{in-Ran, in_default, then-not-matches-via-then-not-matches, then-not-matches-via-else-not-matches+then-not-turned}
 
 pub loop-operands-init : goal.loop-operands-init
 loop-operands-init c = (
@@ -99,8 +99,7 @@ returns-then-not-matches-clause-run c = λ m rooms p start.
     let same : c.then-not-matches.operands ≡ run.new.operands =
     elim c.then-not-matches.branch [
       | then-not-matches-via-then-not-matches w ↦ w.operands-is
-      | then-not-matches-via-else-not-matches+then-most-steps-lt2 w ↦ w.operands-is
-      | then-not-matches-via-else-not-matches+else-most-steps-lt2+then-not-turned w ↦ w.operands-is ∙ w.turned.ensures.stays w.if-not-turned.true
+      | then-not-matches-via-else-not-matches+then-not-turned w ↦ w.operands-is ∙ w.turned.ensures.stays w.if-not-turned.true
     ] in
     rw same more
 
@@ -125,7 +124,7 @@ loop-operands-preserved c =
             (with_held p (l.index + run.result.steps) after.operands after.globals after.locals) after.memory w.in-Ran.is more in
             turned-next m rooms p _ _ _ c.args.sequence.now c.args.first c.args.operands.now.room c.args.operands.now.values c.args.globals.now c.args.locals.now start
             c.args.spare c.args.most (l.steps + run.result.steps) c.args.memory.now.octets (l.index + run.result.steps) after told _
-            c.turned.new.operands.values (c.turned.ensures.turned c.if-not-turned.false) (omega (arith, told.few, c.if-most-steps-lt2.false)),
+            c.turned.new.operands.values (c.turned.ensures.turned c.if-not-turned.false) (omega (arith, told.few, c.turned.ensures.few c.if-not-turned.false)),
         c.turned.ensures.known,
       )
       | in_default w ↦ absurd (false≢true (sym w.matches-is ∙ c.if-not-matches.false))
