@@ -178,11 +178,12 @@ module _ (m : Module) (rooms : Rooms) (p : Point) (start : Kept) (begins : IsKep
   }
 
   -- those in its sequence
-  pub kept-more : (more : Run) (after : Kept) → IsRun m rooms spare (most - steps) (kept p now) now.octets more (kept p after) after.octets →
-      IsRun m rooms spare most (kept p start) start.octets (record { steps = steps + more.steps; last = more.last }) (kept p after) after.octets
-  kept-more more after next =
-      run-after m rooms spare most (kept p start) start.octets steps (most - steps) (steps + more.steps) (kept p now) (kept p after) now.octets after.octets more rooms refl
-      run next refl (omega (arith, run.few))
+  pub kept-more : (few next : ℕ) (more : Run) (after : Kept) → few ≤ most - steps → next ≡ steps + more.steps →
+      IsRun m rooms spare few (kept p now) now.octets more (kept p after) after.octets →
+      IsRun m rooms spare most (kept p start) start.octets (record { steps = next; last = more.last }) (kept p after) after.octets
+  kept-more few next more after fits counted further =
+      run-after m rooms spare most (kept p start) start.octets steps few next (kept p now) (kept p after) now.octets after.octets more rooms refl
+      run further counted (omega (arith, run.few, fits))
 
   -- and an instruction that enters or leaves blocks
   pub kept-crossed : (sequences : Sequences) → sequences ≡ body_of m p.function → (sequence : List Instr) (answer : Stepped) (after : Kept) →

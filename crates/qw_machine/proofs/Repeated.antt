@@ -77,32 +77,16 @@ module _ {m : Module} {rooms : Rooms} (spare : ℕ) (executed : IsExecuted m) {p
   executed-again memory point =
       executed-loop spare executed point between-inside repeats.result p.sequence repeats.begins (anew p (under base left)) memory (sym entered_is)
 
--- after so many steps, those of `more`
-pub turned-more : (m : Module) (rooms : Rooms) (p : Point) (first index end most steps : ℕ) (operands globals locals : List ℕ) (spare : ℕ) (memory : List ℕ) (now after : Held) (more : Run) →
-    end ≤ index + (most - steps) →
-    IsRun m rooms spare most (with_held p first operands globals locals) memory (record { steps = steps; last = Ran }) (with_held p index now.operands now.globals now.locals) now.memory →
-    IsRun m rooms spare (end - index) (with_held p index now.operands now.globals now.locals) now.memory more
-    (with_held p (index + more.steps) after.operands after.globals after.locals) after.memory →
-    IsRun m rooms spare most (with_held p first operands globals locals) memory (record { steps = steps + more.steps; last = more.last })
-    (with_held p (index + more.steps) after.operands after.globals after.locals) after.memory
-turned-more m rooms p first index end most steps operands globals locals spare memory now after more few run next =
-    let q : Point = with_held p index now.operands now.globals now.locals in
-    let r : Point = with_held p (index + more.steps) after.operands after.globals after.locals in
-    run-after m rooms spare most (with_held p first operands globals locals) memory steps (most - steps) (steps + more.steps) q r now.memory after.memory more rooms refl
-    run (run-within m rooms spare (end - index) (most - steps) q r now.memory after.memory more (omega (arith, few)) next) refl (omega (arith, run.few))
-
--- after so many steps, the branch and the `loop`
 module _ (m : Module) (rooms : Rooms) (p : Point) (sequences : Sequences) (number : ℕ) (awaiting : List Awaiting) (sequence : List Instr) (first room : ℕ) (operands globals locals : List ℕ)
     (start : IsAtHand m rooms sequences number awaiting sequence p first room operands globals locals) (spare most steps : ℕ) (memory : List ℕ) (index : ℕ) (now : Held)
-    (run : IsRun m rooms spare most (with_held p first operands globals locals) memory (record { steps = steps; last = Ran }) (with_held p index now.operands now.globals now.locals) now.memory)
-    (default : Instr) where
-  found : (branches : get_or sequence index default ≡ i.BrIf 0) → slice_get (instructions_at m p.function p.sequence) index ≡ Some (i.BrIf 0)
-  found branches = followed-found m rooms p sequence first room operands globals locals start.followed spare most steps memory index now run default ∙ ap (λ (x : Instr). Some x) branches
+    (run : IsRun m rooms spare most (with_held p first operands globals locals) memory (record { steps = steps; last = Ran }) (with_held p index now.operands now.globals now.locals) now.memory) where
+  found : slice_get sequence index ≡ Some (i.BrIf 0) → slice_get (instructions_at m p.function p.sequence) index ≡ Some (i.BrIf 0)
+  found branches = rw start.followed.instructions branches
 
-  pub turned-ready : get_or sequence index default ≡ i.BrIf 0 → 0 < length now.operands
+  pub turned-ready : slice_get sequence index ≡ Some (i.BrIf 0) → 0 < length now.operands
   turned-ready branches = br_if-operand spare start.executed run.running.point run.running.unfinished 0 (found branches)
 
-  pub turned-next : (left : List ℕ) → IsTurn sequences number awaiting (get_or sequence index default) now.operands left → steps + 2 ≤ most →
+  pub turned-next : (left : List ℕ) → IsTurn sequences number awaiting sequence index now.operands left → steps + 2 ≤ most →
       IsRun m rooms spare most (with_held p first operands globals locals) memory (record { steps = steps + 2; last = Ran })
       (with_held p 0 left now.globals now.locals) now.memory
   turned-next left turn fits =

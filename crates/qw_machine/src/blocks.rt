@@ -12,11 +12,12 @@ ghost use Rattle.qw_machine.specs.Inner.Activities.{IsDoneAt, IsHalted, IsPlaced
 ghost use Rattle.qw_module.specs.Start.{body_of};
 
 use crate::activity::{Awaiting, Entry};
+use crate::following::passing;
 use crate::operators::operate;
 use crate::room::Rooms;
 use crate::stack::Stack;
 use crate::stepped::{Run, Stepped, operated};
-use crate::turns::turns;
+use crate::turns::{last_of, turned};
 use qw_linear::linear::Linear;
 use qw_module::instruction::Instr;
 use qw_module::module::{Body, Module};
@@ -257,8 +258,8 @@ fn cross<'a>(
     })
 }
 
-/// Steps one after another, at most so many, from an index of a sequence of a body on, as [`turns`] makes them, and those that enter
-/// and leave blocks. `number` is that of the sequence.
+/// Steps one after another, at most so many, from an index of a sequence of a body on, as [`passing`] makes them, those that begin
+/// a loop's body anew, and those that enter and leave blocks. `number` is that of the sequence.
 #[inline(always)]
 pub(crate) fn blocks(
     body: &Body,
@@ -284,8 +285,26 @@ pub(crate) fn blocks(
     let mut number = number;
     let mut index = first;
     let mut steps = 0;
+    let mut again = None;
     loop {
-        let reached = turns(
+        let end = last_of(sequence.len() - 1, index, most - steps);
+        let run = passing(
+            body, sequence, index, end, operands, globals, locals, memory, spare,
+        );
+        index += run.steps as usize;
+        steps += run.steps;
+        if !matches!(run.last, Stepped::Ran) || steps == most {
+            return Halted {
+                run: Run {
+                    steps,
+                    last: run.last,
+                },
+                sequence: number,
+                index,
+                done: None,
+            };
+        }
+        if turned(
             body,
             number,
             awaiting,
@@ -293,23 +312,11 @@ pub(crate) fn blocks(
             index,
             most - steps,
             operands,
-            globals,
-            locals,
-            memory,
-            spare,
-        );
-        steps += reached.run.steps;
-        index = reached.index;
-        if !matches!(reached.run.last, Stepped::Ran) || steps == most {
-            return Halted {
-                run: Run {
-                    steps,
-                    last: reached.run.last,
-                },
-                sequence: number,
-                index,
-                done: None,
-            };
+            &mut again,
+        ) {
+            index = 0;
+            steps += 2;
+            continue;
         }
         let Some(crossed) = cross(
             body, sequence, number, index, awaiting, operands, globals, locals, memory, spare,
@@ -324,6 +331,7 @@ pub(crate) fn blocks(
         sequence = crossed.sequence;
         number = crossed.number;
         index = crossed.index;
+        again = None;
         if !crossed.goes {
             return Halted {
                 run: Run::going(steps),

@@ -1,7 +1,7 @@
 //! Operators that follow one another in a sequence, and what is passed by between them (WebAssembly Core Specification 1.0, 4.4).
 //! What they work on is borrowed once for all of them.
 
-ghost use Rattle.std.specs.Prelude.{◌≡◌, ◌+◌, ◌-◌, ◌*◌, ◌<◌, ◌≤◌, ◌∷◌, true, false, length};
+ghost use Rattle.std.specs.Prelude.{◌≡◌, ◌+◌, ◌-◌, ◌*◌, ◌^◌, ◌<◌, ◌≤◌, ◌∷◌, true, false, length};
 ghost use Rattle.qw_linear.specs.Memory.{page};
 ghost use Rattle.qw_module.specs.Start.{body_of};
 ghost use Rattle.qw_machine.specs.Inner.Placed.{IsExecuted};
@@ -127,6 +127,7 @@ pub(crate) fn passing(
         → IsRun m rooms spare (end - first) (with_held p first operands.old.values globals.old locals.old) memory.old.octets result
         (with_held p (first + result.steps) operands.new.values globals.new locals.new) memory.new.octets }
     ensures inside { first + result.steps ≤ length sequence.now }
+    ensures fits { first + result.steps < 2 ^ 64 }
     ensures room { operands.new.room ≡ operands.old.room }
     ensures reserved { memory.new.reserved ≡ memory.old.reserved }
 {

@@ -1,29 +1,16 @@
 //! Turns of a loop that begin its body anew (WebAssembly Core Specification 1.0, 4.4.5 and 4.4.6), made where the body runs.
 
-ghost use Rattle.std.specs.Prelude.{◌≡◌, ◌+◌, ◌*◌, ◌<◌, ◌≤◌, true, false, length, IfSome};
-ghost use Rattle.qw_linear.specs.Memory.{page};
+ghost use Rattle.std.specs.Prelude.{◌≡◌, ◌+◌, ◌<◌, ◌≤◌, true, false, length, IfSome, Some, slice_get};
 ghost use Rattle.qw_module.specs.Validity.{sequences_of};
-ghost use Rattle.qw_machine.specs.Inner.Points.{Point, with_held};
-ghost use Rattle.qw_machine.specs.Inner.Activities.{IsAtHand, IsRun, IsTurn, Repeats};
+ghost use Rattle.qw_machine.specs.Inner.Activities.{IsTurn, Repeats};
 
 use crate::activity::Awaiting;
-use crate::following::passing;
-use crate::room::Rooms;
 use crate::stack::Stack;
-use crate::stepped::{Run, Stepped};
-use qw_linear::linear::Linear;
 use qw_module::instruction::Instr;
-use qw_module::module::{Body, Module};
-
-/// Steps made one after another in a sequence, and the index there that they led to.
-#[derive(Clone, Copy)]
-pub(crate) struct Reached {
-    pub(crate) run: Run,
-    pub(crate) index: usize,
-}
+use qw_module::module::Body;
 
 /// The index after at most so many steps from an index, and at most the last one.
-fn last_of(last: usize, index: usize, most: u64) -> usize
+pub(crate) fn last_of(last: usize, index: usize, most: u64) -> usize
     requires { index ≤ last }
     ensures inside { result ≤ last }
     ensures few { result ≤ index + most }
@@ -58,27 +45,29 @@ fn repeats(body: &Body, number: usize, awaiting: &Stack<Awaiting>) -> Option<usi
     Some(entry.base)
 }
 
-/// Begins a loop's body anew where an instruction is a `br_if` to the loop that is taken and the two steps of it may be made, and
-/// answers whether it did. `again` keeps what [`repeats`] says of the loop once it was asked.
+/// Begins a loop's body anew where the instruction at an index of it is a `br_if` to the loop that is taken, and the two steps of that
+/// may be made; answers whether it did. `again` keeps what [`repeats`] says of the loop once it was asked.
 #[inline(always)]
-fn turned(
+pub(crate) fn turned(
     body: &Body,
     number: usize,
     awaiting: &Stack<Awaiting>,
-    instruction: &Instr,
+    sequence: &[Instr],
+    index: usize,
     most: u64,
     operands: &mut Stack<u64>,
     again: &mut Option<usize>,
 ) -> bool
-    requires operand { instruction.now ≡ Instr.BrIf 0 → 0 < length operands.old.values }
+    requires inside { index < length sequence.now }
+    requires operand { slice_get sequence.now index ≡ Some (Instr.BrIf 0) → 0 < length operands.old.values }
     requires known { IfSome again.old (λ base. Repeats (sequences_of body.now) number awaiting.now.values base) }
     ensures few { result ≡ true → 2 ≤ most }
-    ensures turned { result ≡ true → IsTurn (sequences_of body.now) number awaiting.now.values instruction.now operands.old.values operands.new.values }
+    ensures turned { result ≡ true → IsTurn (sequences_of body.now) number awaiting.now.values sequence.now index operands.old.values operands.new.values }
     ensures stays { result ≡ false → operands.new ≡ operands.old }
     ensures known { IfSome again.new (λ base. Repeats (sequences_of body.now) number awaiting.now.values base) }
     ensures room { operands.new.room ≡ operands.old.room }
 {
-    let Instr::BrIf(0) = *instruction else {
+    let Instr::BrIf(0) = sequence[index] else {
         return false;
     };
     if most < 2 || operands.top() == 0 {
@@ -93,62 +82,4 @@ fn turned(
     let _ = operands.pop();
     operands.truncate(base);
     true
-}
-
-/// Steps one after another, at most so many, from an index of a sequence on, as [`passing`] makes them, and those of `br_if` and
-/// `loop` that begin the sequence anew. `number` is that of the sequence, `awaiting` what is around it.
-#[inline(always)]
-pub(crate) fn turns(
-    body: &Body,
-    number: usize,
-    awaiting: &Stack<Awaiting>,
-    sequence: &[Instr],
-    first: usize,
-    most: u64,
-    operands: &mut Stack<u64>,
-    globals: &mut [u64],
-    locals: &mut [u64],
-    memory: &mut Linear,
-    spare: u32,
-) -> Reached
-    requires point { (m : Module) × (rooms : Rooms) × (p : Point) × IsAtHand m rooms (sequences_of body.now) number awaiting.now.values sequence.now p first operands.old.room operands.old.values globals.old locals.old }
-    requires pages { length memory.old.octets + spare * page ≤ memory.old.reserved * page }
-    ensures run { (m : Module) (rooms : Rooms) (p : Point) → IsAtHand m rooms (sequences_of body.now) number awaiting.now.values sequence.now p first operands.old.room operands.old.values globals.old locals.old
-        → IsRun m rooms spare most (with_held p first operands.old.values globals.old locals.old) memory.old.octets result.run
-        (with_held p result.index operands.new.values globals.new locals.new) memory.new.octets }
-    ensures room { operands.new.room ≡ operands.old.room }
-    ensures reserved { memory.new.reserved ≡ memory.old.reserved }
-{
-    let mut index = first;
-    let mut steps = 0;
-    let mut again = None;
-    loop {
-        let end = last_of(sequence.len() - 1, index, most - steps);
-        let run = passing(
-            body, sequence, index, end, operands, globals, locals, memory, spare,
-        );
-        index += run.steps as usize;
-        steps += run.steps;
-        if !matches!(run.last, Stepped::Ran)
-            || !turned(
-                body,
-                number,
-                awaiting,
-                &sequence[index],
-                most - steps,
-                operands,
-                &mut again,
-            )
-        {
-            return Reached {
-                run: Run {
-                    steps,
-                    last: run.last,
-                },
-                index,
-            };
-        }
-        index = 0;
-        steps += 2;
-    }
 }

@@ -116,9 +116,9 @@ pub record Repeats (sequences : Sequences) (number : ℕ) (awaiting : List Await
   pub after_it : entry.after ≡ entry.target + 1
   pub base_is : entry.base ≡ base
 
--- a `br_if` that is taken, and the `loop` that it goes to, lead from these operands to those after, at the beginning of the sequence
-pub record IsTurn (sequences : Sequences) (number : ℕ) (awaiting : List Awaiting) (instruction : Instr) (before after : List ℕ) : Type 0 where
-  pub branches : instruction ≡ i.BrIf 0
+-- at an index of a sequence a `br_if` that is taken, and the `loop` that it goes to, lead from these operands to those after, at its beginning
+pub record IsTurn (sequences : Sequences) (number : ℕ) (awaiting : List Awaiting) (sequence : List Instr) (index : ℕ) (before after : List ℕ) : Type 0 where
+  pub branches : slice_get sequence index ≡ Some (i.BrIf 0)
   pub condition : ℕ
   pub holds : condition ≢ 0
   pub left : List ℕ
