@@ -27,7 +27,7 @@ use Rattle.qw_machine.specs.Inner.Points.{Point, in_sequence, instructions_at, p
 use Rattle.qw_machine.specs.Inner.Stacked.{Stacked}
 use Rattle.qw_machine.proofs.Around.{operand-room}
 use Rattle.qw_machine.proofs.Arrays.{instruction-there}
-use Rattle.qw_machine.proofs.Controlled.{executed-block, executed-loop, if-operand, executed-if, executed-else, executed-without}
+use Rattle.qw_machine.proofs.Controlled.{executed-block, executed-loop, br_if-operand, executed-br_if-not, if-operand, executed-if, executed-else, executed-without}
 use Rattle.qw_machine.proofs.Followed.{held-ready, held-done, held-own}
 use Rattle.qw_machine.proofs.Leaving.{left-label}
 use Rattle.qw_machine.proofs.Reading.{array-there, array-read}
@@ -41,7 +41,7 @@ labelled awaiting base takes sequence target after =
 -- a label was pushed, and the beginning of a sequence is next
 pub record IsInside (awaiting : Stacked Awaiting) (base : ℕ) (takes : Bool) (sequence target after inner : ℕ) (pushed : Stacked Awaiting) (begun : Moved) : Type 0 where
   pub labelled_is : pushed ≡ labelled awaiting base takes sequence target after
-  pub begins : begun ≡ record { sequence = inner; index = 0; done = Ran }
+  pub begins : begun ≡ record { number = inner; index = 0; done = Ran }
 
 pub placed-room : {m : Module} {rooms : Rooms} {p : Point} {awaiting : Stacked Awaiting} {number index : ℕ} {operands : Stacked ℕ} {globals locals : List ℕ} →
     IsPlaced m rooms p awaiting number index operands globals locals → length operands.values < operands.room
@@ -75,7 +75,7 @@ module _ {m : Module} {rooms : Rooms} {p : Point} {awaiting : Stacked Awaiting} 
   module _ (base : ℕ) (takes : Bool) (pushed : Stacked Awaiting) (begun : Moved) (memory : List ℕ) where
     pub placed-block : (result : Option ValType) (inner : ℕ) → get_or sequence index default ≡ i.Block result inner → base ≡ length operands.values → takes ≡ is_some result →
         IsInside awaiting base takes number (index + 1) (index + 1) inner pushed begun →
-        IsDoneAt m rooms spare here memory begun.done (placed p pushed begun.sequence begun.index operands globals locals) memory
+        IsDoneAt m rooms spare here memory begun.done (placed p pushed begun.number begun.index operands globals locals) memory
     placed-block result inner read base_is takes_are inside =
         rw (inside.labelled_is, inside.begins, base_is, takes_are)
         (executed-block spare start.executed start.running.point start.running.unfinished result inner (found (i.Block result inner) read)
@@ -83,11 +83,22 @@ module _ {m : Module} {rooms : Rooms} {p : Point} {awaiting : Stacked Awaiting} 
 
     pub placed-loop : (result : Option ValType) (inner : ℕ) → get_or sequence index default ≡ i.Loop result inner → base ≡ length operands.values →
         IsInside awaiting base false number index (index + 1) inner pushed begun →
-        IsDoneAt m rooms spare here memory begun.done (placed p pushed begun.sequence begun.index operands globals locals) memory
+        IsDoneAt m rooms spare here memory begun.done (placed p pushed begun.number begun.index operands globals locals) memory
     placed-loop result inner read base_is inside =
         rw (inside.labelled_is, inside.begins, base_is)
         (executed-loop spare start.executed start.running.point start.running.unfinished result inner (found (i.Loop result inner) read)
         (placed p (labelled awaiting (length operands.values) false number index (index + 1)) inner 0 operands globals locals) memory refl)
+
+  -- ---- br_if
+  module _ (label : ℕ) (read : get_or sequence index default ≡ i.BrIf label) where
+    pub placed-condition : 0 < length operands.values
+    placed-condition = br_if-operand spare start.executed start.running.point start.running.unfinished label (found (i.BrIf label) read)
+
+    pub placed-on : (left : Stacked ℕ) (memory : List ℕ) → operands.values ≡ 0 ∷ left.values →
+        IsDoneAt m rooms spare here memory Ran (placed p awaiting number (index + 1) left globals locals) memory
+    placed-on left memory popped =
+        executed-br_if-not spare start.executed start.running.point start.running.unfinished label (found (i.BrIf label) read) left.values
+        (placed p awaiting number (index + 1) left globals locals) memory popped refl
 
   -- ---- if
   module _ (result : Option ValType) (inner : ℕ) (other : Option ℕ) (read : get_or sequence index default ≡ i.If result inner other) where
@@ -103,14 +114,14 @@ module _ {m : Module} {rooms : Rooms} {p : Point} {awaiting : Stacked Awaiting} 
     module _ (body base : ℕ) (takes : Bool) (pushed : Stacked Awaiting) (begun : Moved) (left : Stacked ℕ) (memory : List ℕ) (base_is : base ≡ length left.values)
         (takes_are : takes ≡ is_some result) (inside : IsInside awaiting base takes number (index + 1) (index + 1) body pushed begun) where
       pub placed-if : (n : ℕ) → operands.values ≡ n ∷ left.values → n ≢ 0 → body ≡ inner →
-          IsDoneAt m rooms spare here memory begun.done (placed p pushed begun.sequence begun.index left globals locals) memory
+          IsDoneAt m rooms spare here memory begun.done (placed p pushed begun.number begun.index left globals locals) memory
       placed-if n popped other_than chosen =
           rw (inside.labelled_is, inside.begins, base_is, takes_are, chosen)
           (executed-if spare start.executed start.running.point start.running.unfinished result inner other (found (i.If result inner other) read) n left.values
           (placed p (labelled awaiting (length left.values) (is_some result) number (index + 1) (index + 1)) inner 0 left globals locals) memory popped other_than refl)
 
       pub placed-else : operands.values ≡ 0 ∷ left.values → other ≡ Some body →
-          IsDoneAt m rooms spare here memory begun.done (placed p pushed begun.sequence begun.index left globals locals) memory
+          IsDoneAt m rooms spare here memory begun.done (placed p pushed begun.number begun.index left globals locals) memory
       placed-else popped there =
           rw (inside.labelled_is, inside.begins, base_is, takes_are)
           (executed-else spare start.executed start.running.point start.running.unfinished result inner body

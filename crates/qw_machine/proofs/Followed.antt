@@ -18,7 +18,7 @@ use Rattle.qw_machine.specs.Inner.Placed.{IsPoint, IsRunning}
 use Rattle.qw_machine.specs.Inner.Points.{Point, instructions_at, with_held}
 use Rattle.qw_machine.proofs.ListFacts.{take-front, drop-front}
 use Rattle.qw_machine.proofs.Operated.{operator-ready, executed-operator}
-use Rattle.qw_machine.proofs.Runs.{run-after, run-operator, run-within}
+use Rattle.qw_machine.proofs.Runs.{run-after, run-operator}
 
 module _ (m : Module) (rooms : Rooms) (p : Point) (first_in : p.first_local ≤ length p.locals) (index : ℕ) (operands globals locals : List ℕ)
     (is : IsPoint m rooms (with_held p index operands globals locals)) (operator : Op)

@@ -1,5 +1,5 @@
 -- A `br_if` that is taken, and the `loop` that it goes to, against the configuration's two steps: they begin the loop's body anew.
-use Rattle.std.proofs.Common.{◌≡◌, ◌≢◌, ℕ, Bool, ◌+◌, ◌-◌, ◌<◌, ◌≤◌, List, ◌∷◌, ◌++◌, length, take, false, Some, slice_get, get_or, refl, sym, ap, ◌∙◌, arith, length-drop}
+use Rattle.std.proofs.Common.{◌≡◌, ◌≢◌, ℕ, Bool, ◌+◌, ◌-◌, ◌<◌, ◌≤◌, List, ◌∷◌, ◌++◌, length, take, false, Some, slice_get, refl, sym, ap, ◌∙◌, arith, length-drop}
 use Rattle.std.proofs.lemmas.Option.{slice_get_within}
 use Rattle.qw_module.specs.declared.instruction.Instr.{Instr}
 use Rattle.qw_module.specs.declared.instruction.Instr.TheVariants as i
@@ -8,7 +8,6 @@ use Rattle.qw_machine.specs.declared.activity.Awaiting.{Awaiting}
 use Rattle.qw_machine.specs.declared.activity.Awaiting.TheVariants.{Label}
 use Rattle.qw_machine.specs.declared.activity.Entry.{Entry}
 use Rattle.qw_machine.specs.declared.room.Rooms.{Rooms}
-use Rattle.qw_machine.specs.declared.stepped.Run.{Run}
 use Rattle.qw_machine.specs.declared.stepped.Stepped.TheVariants.{Ran}
 use Rattle.qw_module.specs.Numbers.{truth}
 use Rattle.qw_module.specs.Start.{body_of}
@@ -19,8 +18,7 @@ use Rattle.qw_machine.specs.Inner.Operated.{Held}
 use Rattle.qw_machine.specs.Inner.Activities.{IsAtHand, IsDoneAt, IsJump, IsRun, IsTurn, Repeats}
 use Rattle.qw_machine.proofs.Around.{with_operands}
 use Rattle.qw_machine.proofs.Controlled.{br_if-operand, can-jump-br_if, executed-br_if, executed-loop}
-use Rattle.qw_machine.proofs.Followed.{followed-found}
-use Rattle.qw_machine.proofs.Runs.{run-after, run-operator, run-within}
+use Rattle.qw_machine.proofs.Runs.{run-operator}
 
 -- at the beginning of its sequence, with other operands
 abbrev pub anew : Point → List ℕ → Point

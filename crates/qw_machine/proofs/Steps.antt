@@ -58,20 +58,6 @@ module _ (m : Module) (rooms : Rooms) (spare : ℕ) (p q : Point) (memory after 
             goes.1 left.1 (state_at-running m r running.unfinished));
       }
 
-  pub stepped-returned : (between : Rooms) (r : Point) → is_over answer ≡ false → IsDoneAt m rooms spare p memory answer q after →
-      IsLeft m between q false r → IsStepped m rooms spare p memory stepped.Returned r after
-  stepped-returned between r runs executed left =
-      let goes = rw runs at executed in
-      let leads = goes.1 in
-      record {
-        running = tt;
-        went = record {
-          event = leads.event;
-          made = leads.made ∙ ap (λ (x : State). let n : Next = record { event = leads.event; state = x; memory = after } in Some n) left;
-          answered = tt;
-        };
-      }
-
   -- an instruction executed before the end of its sequence finishes nothing
   pub stepped-within : q.index < length (instructions_at m q.function q.sequence) → IsDoneAt m rooms spare p memory answer q after →
       IsStepped m rooms spare p memory answer q after

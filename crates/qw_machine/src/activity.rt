@@ -429,7 +429,7 @@ impl Activity {
         if !may_begin(&self.instructions(program)[first]) {
             return Halted {
                 run: Run::going(0),
-                sequence: self.sequence,
+                number: self.sequence,
                 index: first,
                 done: None,
             };
@@ -449,7 +449,7 @@ impl Activity {
             spare,
         );
         self.operands = operands;
-        self.sequence = halted.sequence;
+        self.sequence = halted.number;
         self.index = halted.index;
         halted
     }

@@ -22,10 +22,10 @@ use qw_linear::linear::Linear;
 use qw_module::instruction::Instr;
 use qw_module::module::{Body, Module};
 
-/// An instruction that was executed, and the sequence and the index in it that it led to.
+/// An instruction that was executed, and the number of the sequence and the index in it that it led to.
 #[derive(Clone, Copy)]
 struct Moved {
-    sequence: usize,
+    number: usize,
     index: usize,
     done: Stepped,
 }
@@ -50,12 +50,12 @@ struct Crossed<'a> {
     goes: bool,
 }
 
-/// Steps made one after another, and the sequence and the index in it that they led to. `done` is what a further instruction came
-/// to, where one was executed that may have finished what still has to be left.
+/// Steps made one after another, and the number of the sequence and the index in it that they led to. `done` is what a further
+/// instruction came to, where one was executed that may have finished what still has to be left.
 #[derive(Clone, Copy)]
 pub(crate) struct Halted {
     pub(crate) run: Run,
-    pub(crate) sequence: usize,
+    pub(crate) number: usize,
     pub(crate) index: usize,
     pub(crate) done: Option<Stepped>,
 }
@@ -65,18 +65,18 @@ pub(crate) struct Halted {
 fn enter_label(inner: usize, entry: Entry, awaiting: &mut Stack<Awaiting>) -> Moved
     requires room { length awaiting.old.values < awaiting.old.room }
     ensures pushed { awaiting.new ≡ record { values = Awaiting.Label entry ∷ awaiting.old.values; room = awaiting.old.room } }
-    ensures begins { result ≡ record { sequence = inner; index = 0; done = Ran } }
+    ensures begins { result ≡ record { number = inner; index = 0; done = Ran } }
 {
     awaiting.push(Awaiting::Label(entry));
     Moved {
-        sequence: inner,
+        number: inner,
         index: 0,
         done: Stepped::Ran,
     }
 }
 
-/// Executes the instruction at an index of a sequence where it is an operator or enters a block, and leaves nothing that is finished
-/// yet. Of another instruction nothing is done.
+/// Executes the instruction at an index of a sequence where it is an operator, enters a block or is a `br_if` that isn't taken, and
+/// leaves nothing that is finished yet. Of another instruction nothing is done.
 #[inline(always)]
 fn move_on(
     sequence: &[Instr],
@@ -94,7 +94,7 @@ fn move_on(
     requires pages { length memory.old.octets + spare * page ≤ memory.old.reserved * page }
     ensures done { (m : Module) (rooms : Rooms) (p : Point) → sequence.now ≡ instructions_at m p.function number → IsPlaced m rooms p awaiting.old number index operands.old globals.old locals.old
         → IfSome result (λ moved. IsDoneAt m rooms spare (placed p awaiting.old number index operands.old globals.old locals.old) memory.old.octets moved.done
-        (placed p awaiting.new moved.sequence moved.index operands.new globals.new locals.new) memory.new.octets) }
+        (placed p awaiting.new moved.number moved.index operands.new globals.new locals.new) memory.new.octets) }
     ensures stays { result ≡ None → (awaiting.new ≡ awaiting.old) × (operands.new ≡ operands.old) × (globals.new ≡ globals.old) × (locals.new ≡ locals.old) × (memory.new ≡ memory.old) }
     ensures rooms { (awaiting.new.room ≡ awaiting.old.room) × (operands.new.room ≡ operands.old.room) }
     ensures reserved { memory.new.reserved ≡ memory.old.reserved }
@@ -104,7 +104,7 @@ fn move_on(
         Instr::Op(ref op) => {
             let done = operate(op, operands, globals, locals, memory, spare);
             Some(Moved {
-                sequence: number,
+                number,
                 index: after,
                 done: operated(done),
             })
@@ -141,7 +141,7 @@ fn move_on(
             };
             let Some(body) = body else {
                 return Some(Moved {
-                    sequence: number,
+                    number,
                     index: after,
                     done: Stepped::Ran,
                 });
@@ -154,6 +154,17 @@ fn move_on(
                 after,
             };
             Some(enter_label(body, entry, awaiting))
+        }
+        Instr::BrIf(_) => {
+            if operands.top() != 0 {
+                return None;
+            }
+            let _ = operands.pop();
+            Some(Moved {
+                number,
+                index: after,
+                done: Stepped::Ran,
+            })
         }
         _ => None,
     }
@@ -242,13 +253,13 @@ fn cross<'a>(
     let Stepped::Ran = moved.done else {
         return Some(Crossed {
             sequence,
-            number: moved.sequence,
+            number: moved.number,
             index: moved.index,
             done: moved.done,
             goes: false,
         });
     };
-    let left = leave_labels(body, moved.sequence, moved.index, awaiting);
+    let left = leave_labels(body, moved.number, moved.index, awaiting);
     Some(Crossed {
         sequence: left.sequence,
         number: left.number,
@@ -277,7 +288,7 @@ pub(crate) fn blocks(
     requires pages { length memory.old.octets + spare * page ≤ memory.old.reserved * page }
     ensures run { (m : Module) (rooms : Rooms) (p : Point) → sequences_of body.now ≡ body_of m p.function → IsPlaced m rooms p awaiting.old number first operands.old globals.old locals.old
         → IsHalted m rooms spare most (placed p awaiting.old number first operands.old globals.old locals.old) memory.old.octets result.run result.done
-        (placed p awaiting.new result.sequence result.index operands.new globals.new locals.new) memory.new.octets }
+        (placed p awaiting.new result.number result.index operands.new globals.new locals.new) memory.new.octets }
     ensures rooms { (awaiting.new.room ≡ awaiting.old.room) × (operands.new.room ≡ operands.old.room) }
     ensures reserved { memory.new.reserved ≡ memory.old.reserved }
 {
@@ -299,7 +310,7 @@ pub(crate) fn blocks(
                     steps,
                     last: run.last,
                 },
-                sequence: number,
+                number,
                 index,
                 done: None,
             };
@@ -323,7 +334,7 @@ pub(crate) fn blocks(
         ) else {
             return Halted {
                 run: Run::going(steps),
-                sequence: number,
+                number,
                 index,
                 done: None,
             };
@@ -335,7 +346,7 @@ pub(crate) fn blocks(
         if !crossed.goes {
             return Halted {
                 run: Run::going(steps),
-                sequence: number,
+                number,
                 index,
                 done: Some(crossed.done),
             };

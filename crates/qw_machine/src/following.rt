@@ -96,10 +96,7 @@ fn passed(body: &Body, instruction: &Instr, operands: &mut Stack<u64>) -> bool
     ensures stays { result ≡ false → operands.new ≡ operands.old }
     ensures room { operands.new.room ≡ operands.old.room }
 {
-    if !takes_condition(instruction)
-        || operands.top() != 0
-        || !passes_on_zero(body, instruction)
-    {
+    if !takes_condition(instruction) || operands.top() != 0 || !passes_on_zero(body, instruction) {
         return false;
     }
     let _ = operands.pop();

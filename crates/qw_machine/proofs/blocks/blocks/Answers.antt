@@ -318,8 +318,7 @@ returns-then-not-crossed-clause-run c = λ m rooms p body begins.
       | in-Ran w ↦
           let told = run-told m rooms c.args.spare c.args.most (kept p start) start.octets (record { steps = l.steps + passing.result.steps; last = passing.result.last }) (kept p after) after.octets w.in-Ran.is more in
           let here : Kept = record { awaiting = after.awaiting; number = after.number; index = after.index; operands = c.turned.new.operands; globals = after.globals; locals = after.locals; octets = after.octets } in
-          let stayed : IsRun m rooms c.args.spare c.args.most (kept p start) start.octets (record { steps = l.steps + passing.result.steps; last = Ran }) (kept p here) here.octets = rw (c.turned.ensures.stays c.if-turned.false) told in
-          (
+          let stayed : IsRun m rooms c.args.spare c.args.most (kept p start) start.octets (record { steps = l.steps + passing.result.steps; last = Ran }) (kept p here) here.octets = rw (c.turned.ensures.stays c.if-turned.false) told in (
             ap (λ (r : Run). r.last) c.going-then-not-crossed.ensures,
             kept p here,
             here.octets,
@@ -375,33 +374,33 @@ loop-awaiting-preserved-then-turned c = (
   c.loop-awaiting.invariant.3,
   c.turned.ensures.known,
   λ m rooms p body begins.
-    let l = c.loop-awaiting in
-    let start : Kept = record { awaiting = c.args.awaiting.now; number = c.args.number; index = c.args.first; operands = c.args.operands.now; globals = c.args.globals.now; locals = c.args.locals.now; octets = c.args.memory.now.octets } in
-    let now : Kept = record { awaiting = l.awaiting; number = l.number; index = l.index; operands = l.operands; globals = l.globals; locals = l.locals; octets = l.memory.octets } in
-    let so = l.invariant.5 m rooms p body begins in
-    let same : l.sequence.now ≡ instructions_at m p.function l.number =
-    slice-instructions m rooms (held p l.operands l.globals l.locals) c.args.body.now body l.awaiting.values l.number l.index so.running.point l.sequence.now l.invariant.3 in
-    let hand = placed-at-hand m rooms p now (kept-now m rooms p start begins c.args.spare c.args.most l.steps now so l.invariant.0 l.invariant.1) _ _ body same in
-    let passing = c.passing-run in
-    let after : Kept = record { awaiting = l.awaiting; number = l.number; index = l.index + passing.result.steps; operands = passing.new.operands; globals = passing.new.globals; locals = passing.new.locals; octets = passing.new.memory.octets } in
-    let base = in_sequence p l.awaiting.values l.number l.index in
-    let few : c.last_of-end.result - l.index ≤ c.args.most - l.steps = omega (arith, c.last_of-end.ensures.few) in
-    let further = run-within m rooms c.args.spare (c.last_of-end.result - l.index) (c.args.most - l.steps) (kept p now) (kept p after) now.octets after.octets passing.result few
-    (passing.ensures.run m rooms base hand.executed hand.body_is hand.followed) in
-    let more = kept-more m rooms p start begins c.args.spare c.args.most l.steps now so (c.args.most - l.steps) (l.steps + passing.result.steps) passing.result after (omega arith) refl further in
-    let turn : Kept = record { awaiting = l.awaiting; number = l.number; index = 0; operands = c.turned.new.operands; globals = after.globals; locals = after.locals; octets = after.octets } in
-    elim c.match-matches.branch [
-      | in-Ran w ↦
-          let told = run-told m rooms c.args.spare c.args.most (kept p start) start.octets (record { steps = l.steps + passing.result.steps; last = passing.result.last }) (kept p after) after.octets w.in-Ran.is more in
-          let going = run-told m rooms c.args.spare (c.args.most - l.steps) (kept p now) now.octets passing.result (kept p after) after.octets w.in-Ran.is further in
-          let held : Held = record { operands = after.operands.values; globals = after.globals; locals = after.locals; memory = after.octets } in
-          let two = c.turned.ensures.few c.if-turned.true in
-          kept-more m rooms p start begins c.args.spare c.args.most l.steps now so (c.args.most - l.steps) (l.steps + passing.result.steps + 2)
-          (record { steps = passing.result.steps + 2; last = Ran }) turn (omega arith) (omega arith)
-          (turned-next m rooms base _ _ _ l.sequence.now l.index l.operands.room l.operands.values l.globals l.locals hand
-          c.args.spare (c.args.most - l.steps) passing.result.steps now.octets (l.index + passing.result.steps) held going c.turned.new.operands.values (c.turned.ensures.turned c.if-turned.true) (omega (arith, two)))
-      | in_default w ↦ absurd (false≢true (sym w.matches-is ∙ c.if-not-matches.false))
-    ],
+      let l = c.loop-awaiting in
+      let start : Kept = record { awaiting = c.args.awaiting.now; number = c.args.number; index = c.args.first; operands = c.args.operands.now; globals = c.args.globals.now; locals = c.args.locals.now; octets = c.args.memory.now.octets } in
+      let now : Kept = record { awaiting = l.awaiting; number = l.number; index = l.index; operands = l.operands; globals = l.globals; locals = l.locals; octets = l.memory.octets } in
+      let so = l.invariant.5 m rooms p body begins in
+      let same : l.sequence.now ≡ instructions_at m p.function l.number =
+      slice-instructions m rooms (held p l.operands l.globals l.locals) c.args.body.now body l.awaiting.values l.number l.index so.running.point l.sequence.now l.invariant.3 in
+      let hand = placed-at-hand m rooms p now (kept-now m rooms p start begins c.args.spare c.args.most l.steps now so l.invariant.0 l.invariant.1) _ _ body same in
+      let passing = c.passing-run in
+      let after : Kept = record { awaiting = l.awaiting; number = l.number; index = l.index + passing.result.steps; operands = passing.new.operands; globals = passing.new.globals; locals = passing.new.locals; octets = passing.new.memory.octets } in
+      let base = in_sequence p l.awaiting.values l.number l.index in
+      let few : c.last_of-end.result - l.index ≤ c.args.most - l.steps = omega (arith, c.last_of-end.ensures.few) in
+      let further = run-within m rooms c.args.spare (c.last_of-end.result - l.index) (c.args.most - l.steps) (kept p now) (kept p after) now.octets after.octets passing.result few
+      (passing.ensures.run m rooms base hand.executed hand.body_is hand.followed) in
+      let more = kept-more m rooms p start begins c.args.spare c.args.most l.steps now so (c.args.most - l.steps) (l.steps + passing.result.steps) passing.result after (omega arith) refl further in
+      let turn : Kept = record { awaiting = l.awaiting; number = l.number; index = 0; operands = c.turned.new.operands; globals = after.globals; locals = after.locals; octets = after.octets } in
+      elim c.match-matches.branch [
+        | in-Ran w ↦
+            let told = run-told m rooms c.args.spare c.args.most (kept p start) start.octets (record { steps = l.steps + passing.result.steps; last = passing.result.last }) (kept p after) after.octets w.in-Ran.is more in
+            let going = run-told m rooms c.args.spare (c.args.most - l.steps) (kept p now) now.octets passing.result (kept p after) after.octets w.in-Ran.is further in
+            let held : Held = record { operands = after.operands.values; globals = after.globals; locals = after.locals; memory = after.octets } in
+            let two = c.turned.ensures.few c.if-turned.true in
+            kept-more m rooms p start begins c.args.spare c.args.most l.steps now so (c.args.most - l.steps) (l.steps + passing.result.steps + 2)
+            (record { steps = passing.result.steps + 2; last = Ran }) turn (omega arith) (omega arith)
+            (turned-next m rooms base _ _ _ l.sequence.now l.index l.operands.room l.operands.values l.globals l.locals hand
+            c.args.spare (c.args.most - l.steps) passing.result.steps now.octets (l.index + passing.result.steps) held going c.turned.new.operands.values (c.turned.ensures.turned c.if-turned.true) (omega (arith, two)))
+        | in_default w ↦ absurd (false≢true (sym w.matches-is ∙ c.if-not-matches.false))
+      ],
 )
 
 pub loop-awaiting-preserved : goal.loop-awaiting-preserved
@@ -412,28 +411,28 @@ loop-awaiting-preserved c = (
   (c.in-Some.ensures.goes c.if-not-crossed.false).2,
   tt,
   λ m rooms p body begins.
-    let l = c.loop-awaiting in
-    let start : Kept = record { awaiting = c.args.awaiting.now; number = c.args.number; index = c.args.first; operands = c.args.operands.now; globals = c.args.globals.now; locals = c.args.locals.now; octets = c.args.memory.now.octets } in
-    let now : Kept = record { awaiting = l.awaiting; number = l.number; index = l.index; operands = l.operands; globals = l.globals; locals = l.locals; octets = l.memory.octets } in
-    let so = l.invariant.5 m rooms p body begins in
-    let same : l.sequence.now ≡ instructions_at m p.function l.number =
-    slice-instructions m rooms (held p l.operands l.globals l.locals) c.args.body.now body l.awaiting.values l.number l.index so.running.point l.sequence.now l.invariant.3 in
-    let hand = placed-at-hand m rooms p now (kept-now m rooms p start begins c.args.spare c.args.most l.steps now so l.invariant.0 l.invariant.1) _ _ body same in
-    let passing = c.passing-run in
-    let after : Kept = record { awaiting = l.awaiting; number = l.number; index = l.index + passing.result.steps; operands = passing.new.operands; globals = passing.new.globals; locals = passing.new.locals; octets = passing.new.memory.octets } in
-    let base = in_sequence p l.awaiting.values l.number l.index in
-    let few : c.last_of-end.result - l.index ≤ c.args.most - l.steps = omega (arith, c.last_of-end.ensures.few) in
-    let further = run-within m rooms c.args.spare (c.last_of-end.result - l.index) (c.args.most - l.steps) (kept p now) (kept p after) now.octets after.octets passing.result few
-    (passing.ensures.run m rooms base hand.executed hand.body_is hand.followed) in
-    let more = kept-more m rooms p start begins c.args.spare c.args.most l.steps now so (c.args.most - l.steps) (l.steps + passing.result.steps) passing.result after (omega arith) refl further in
-    let crossed : Kept = record { awaiting = c.cross.new.awaiting; number = c.in-Some.crossed.number; index = c.in-Some.crossed.index; operands = c.cross.new.operands; globals = c.cross.new.globals; locals = c.cross.new.locals; octets = c.cross.new.memory.octets } in
-    elim c.match-matches.branch [
-      | in-Ran w ↦
-          let told = run-told m rooms c.args.spare c.args.most (kept p start) start.octets (record { steps = l.steps + passing.result.steps; last = passing.result.last }) (kept p after) after.octets w.in-Ran.is more in
-          let here : Kept = record { awaiting = after.awaiting; number = after.number; index = after.index; operands = c.turned.new.operands; globals = after.globals; locals = after.locals; octets = after.octets } in
-          let stayed : IsRun m rooms c.args.spare c.args.most (kept p start) start.octets (record { steps = l.steps + passing.result.steps; last = Ran }) (kept p here) here.octets = rw (c.turned.ensures.stays c.if-turned.false) told in
-          kept-crossed m rooms p start begins c.args.spare c.args.most (l.steps + passing.result.steps) here stayed _ body _ c.in-Some.crossed.done crossed
-          (c.in-Some.ensures.done m rooms p body same (kept-now m rooms p start begins c.args.spare c.args.most (l.steps + passing.result.steps) here stayed l.invariant.0 (c.turned.ensures.room ∙ passing.ensures.room ∙ l.invariant.1))) (c.in-Some.ensures.goes c.if-not-crossed.false) (omega (arith, more.few, c.if-steps-most.false))
-      | in_default w ↦ absurd (false≢true (sym w.matches-is ∙ c.if-not-matches.false))
-    ],
+      let l = c.loop-awaiting in
+      let start : Kept = record { awaiting = c.args.awaiting.now; number = c.args.number; index = c.args.first; operands = c.args.operands.now; globals = c.args.globals.now; locals = c.args.locals.now; octets = c.args.memory.now.octets } in
+      let now : Kept = record { awaiting = l.awaiting; number = l.number; index = l.index; operands = l.operands; globals = l.globals; locals = l.locals; octets = l.memory.octets } in
+      let so = l.invariant.5 m rooms p body begins in
+      let same : l.sequence.now ≡ instructions_at m p.function l.number =
+      slice-instructions m rooms (held p l.operands l.globals l.locals) c.args.body.now body l.awaiting.values l.number l.index so.running.point l.sequence.now l.invariant.3 in
+      let hand = placed-at-hand m rooms p now (kept-now m rooms p start begins c.args.spare c.args.most l.steps now so l.invariant.0 l.invariant.1) _ _ body same in
+      let passing = c.passing-run in
+      let after : Kept = record { awaiting = l.awaiting; number = l.number; index = l.index + passing.result.steps; operands = passing.new.operands; globals = passing.new.globals; locals = passing.new.locals; octets = passing.new.memory.octets } in
+      let base = in_sequence p l.awaiting.values l.number l.index in
+      let few : c.last_of-end.result - l.index ≤ c.args.most - l.steps = omega (arith, c.last_of-end.ensures.few) in
+      let further = run-within m rooms c.args.spare (c.last_of-end.result - l.index) (c.args.most - l.steps) (kept p now) (kept p after) now.octets after.octets passing.result few
+      (passing.ensures.run m rooms base hand.executed hand.body_is hand.followed) in
+      let more = kept-more m rooms p start begins c.args.spare c.args.most l.steps now so (c.args.most - l.steps) (l.steps + passing.result.steps) passing.result after (omega arith) refl further in
+      let crossed : Kept = record { awaiting = c.cross.new.awaiting; number = c.in-Some.crossed.number; index = c.in-Some.crossed.index; operands = c.cross.new.operands; globals = c.cross.new.globals; locals = c.cross.new.locals; octets = c.cross.new.memory.octets } in
+      elim c.match-matches.branch [
+        | in-Ran w ↦
+            let told = run-told m rooms c.args.spare c.args.most (kept p start) start.octets (record { steps = l.steps + passing.result.steps; last = passing.result.last }) (kept p after) after.octets w.in-Ran.is more in
+            let here : Kept = record { awaiting = after.awaiting; number = after.number; index = after.index; operands = c.turned.new.operands; globals = after.globals; locals = after.locals; octets = after.octets } in
+            let stayed : IsRun m rooms c.args.spare c.args.most (kept p start) start.octets (record { steps = l.steps + passing.result.steps; last = Ran }) (kept p here) here.octets = rw (c.turned.ensures.stays c.if-turned.false) told in
+            kept-crossed m rooms p start begins c.args.spare c.args.most (l.steps + passing.result.steps) here stayed _ body _ c.in-Some.crossed.done crossed
+            (c.in-Some.ensures.done m rooms p body same (kept-now m rooms p start begins c.args.spare c.args.most (l.steps + passing.result.steps) here stayed l.invariant.0 (c.turned.ensures.room ∙ passing.ensures.room ∙ l.invariant.1))) (c.in-Some.ensures.goes c.if-not-crossed.false) (omega (arith, more.few, c.if-steps-most.false))
+        | in_default w ↦ absurd (false≢true (sym w.matches-is ∙ c.if-not-matches.false))
+      ],
 )

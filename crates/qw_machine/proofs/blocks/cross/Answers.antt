@@ -1,6 +1,3 @@
-use Rattle.std.proofs.Common.{ℕ, List, sym, subst}
-use Rattle.qw_machine.specs.declared.stepped.Stepped.{Stepped}
-use Rattle.qw_machine.specs.Inner.Activities.{IsDoneAt}
 use Rattle.qw_machine.specs.Inner.Points.{placed}
 use Rattle.qw_machine.proofs.Crossing.{held}
 use Rattle.qw_machine.proofs.Leaving.{done-left}
@@ -19,7 +16,7 @@ pub returns-clause-done : goal.returns-clause-done
 returns-clause-done c = λ m rooms p body same start.
     let moved = c.in-Some.moved in
     let after = c.move_on.new in
-    let q = placed p after.awaiting moved.sequence moved.index after.operands after.globals after.locals in
+    let q = placed p after.awaiting moved.number moved.index after.operands after.globals after.locals in
     let r = placed p c.leave_labels-left.new.awaiting c.leave_labels-left.result.number c.leave_labels-left.result.index after.operands after.globals after.locals in
     let here = placed p c.args.awaiting.now c.args.number c.args.index c.args.operands.now c.args.globals.now c.args.locals.now in
     let done = rw c.in-Ran.is at c.in-Some.ensures.done m rooms p same start in

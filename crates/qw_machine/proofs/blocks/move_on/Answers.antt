@@ -1,6 +1,6 @@
-use Rattle.std.proofs.Common.{◌∙◌, sym, ap, ℕ, ◌∷◌, false}
+use Rattle.std.proofs.Common.{◌≡◌, ◌∙◌, sym, ap, ℕ, ◌∷◌, false}
 use Rattle.qw_machine.specs.Inner.Operated.{Held}
-use Rattle.qw_machine.proofs.Crossing.{placed-room, placed-ready, placed-operator, placed-block, placed-loop, placed-operand, placed-if, placed-else, placed-without}
+use Rattle.qw_machine.proofs.Crossing.{placed-room, placed-ready, placed-operator, placed-block, placed-loop, placed-condition, placed-on, placed-operand, placed-if, placed-else, placed-without}
 use Rattle.qw_machine.proofs.blocks.move_on.Goals as goal
 use Rattle.qw_machine.proofs.blocks.move_on.Goals.{then-pop-ne0, else-pop-ne0}
 
@@ -60,3 +60,14 @@ returns-in_default-body-clause-done c = λ m rooms p same start.
           c.pop.new.self c.args.memory.now.octets (c.pop.ensures.popped ∙ ap (λ (n : ℕ). n ∷ c.pop.new.self.values) w.if-pop-ne0.false)
           (sym w.body-is ∙ c.in_default-body.is)
     ]
+
+pub top-requires : goal.top-requires
+top-requires c =
+    let at = c.requires.point in
+    placed-condition at.4 c.args.sequence.now at.3 c.args.spare _ c.in-BrIf.field-0 c.in-BrIf.is
+
+pub returns-else-top-ne0-clause-done : goal.returns-else-top-ne0-clause-done
+returns-else-top-ne0-clause-done c = λ m rooms p same start.
+    let zero : c.pop-in-BrIf.result ≡ 0 = cc (c.top.ensures, c.pop-in-BrIf.ensures.popped, c.if-top-ne0.false) in
+    placed-on start c.args.sequence.now same c.args.spare _ c.in-BrIf.field-0 c.in-BrIf.is
+    c.pop-in-BrIf.new.self c.args.memory.now.octets (c.pop-in-BrIf.ensures.popped ∙ ap (λ (n : ℕ). n ∷ c.pop-in-BrIf.new.self.values) zero)

@@ -50,11 +50,11 @@ returns-clause-run c =
       s.locals.ok.0,
     ) in
     let as_many : length halted.new.globals ≡ s.globals.len = halted.auto.globals ∙ c.as_mut_slice.ensures.len in
-    let place : List ℕ → List ℕ → Point = λ xs ys. record p { awaiting = halted.new.awaiting.values; sequence = halted.result.sequence; index = halted.result.index; operands = halted.new.operands.values; locals = xs; globals = ys } in
+    let place : List ℕ → List ℕ → Point = λ xs ys. record p { awaiting = halted.new.awaiting.values; sequence = halted.result.number; index = halted.result.index; operands = halted.new.operands.values; locals = xs; globals = ys } in
     let body = sym (body-read m p.function c.index.result.now c.requires.point.point.room.own c.index.ensures) in
     subst (λ (q : Point). IsHalted m (rooms_of s) c.args.spare c.args.most p c.args.memory.now.octets halted.result.run halted.result.done q halted.new.memory.octets)
     (sym (ap₂ place (with_items_is s.locals written long ∙ after) (with_items_is s.globals halted.new.globals as_many)))
     (halted-held m (rooms_of s) p c.as_mut_slice.result.now (take (length deref - first) (drop first deref)) c.args.spare c.args.most
     c.args.memory.now.octets halted.result.run halted.result.done
-    (placed p halted.new.awaiting halted.result.sequence halted.result.index halted.new.operands halted.new.globals halted.new.locals) halted.new.memory.octets
+    (placed p halted.new.awaiting halted.result.number halted.result.index halted.new.operands halted.new.globals halted.new.locals) halted.new.memory.octets
     c.as_mut_slice.ensures.value values ((rw c.take-operands.ensures.taken at halted.ensures.run) m (rooms_of s) p body start))
