@@ -1,4 +1,4 @@
--- Mirrors `Activity::execute`, `leave_finished`, `step` and `run`, `following`, `passing`, `turns` and `blocks`: what the machine does at an
+-- Mirrors `Activity::execute`, `leave_finished`, `step` and `run`, `following`, `passing`, `turned` and `blocks`: what the machine does at an
 -- instruction, and what its steps answer.
 use Rattle.std.specs.Prelude.{◌≡◌, ◌≢◌, ◌==◌, ℕ, ◌+◌, ◌≤◌, nat_le, Bool, true, false, List, ◌∷◌, ◌++◌, length, take, drop, Option, None, Some, slice_get, ◌-◌}
 use Rattle.std.specs.Bool.{MatchBool}
