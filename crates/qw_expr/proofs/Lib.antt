@@ -19,7 +19,10 @@ mod NullTests
 pub mod Nulls
 mod PlainTests
 mod Related
+mod Searches
+mod SearchTests
 mod Shared
+mod Sought
 mod Tests
 mod TextDecisions
 mod TreeChoices

@@ -17,7 +17,7 @@ use Rattle.qw_module.specs.Numbers.{truth}
 use Rattle.qw_low.specs.Syntax.{local, relop}
 use Rattle.qw_low.specs.State.{Number, LowState}
 use Rattle.qw_low.specs.Meaning.{value}
-use Rattle.qw_low.specs.Held.{SaysNull}
+use Rattle.qw_low.specs.Held.{HoldsNumber, SaysNull}
 use Rattle.qw_wide.specs.Numbers.{HasNumber}
 use Rattle.qw_wide.specs.Relations.{relation_of}
 use Rattle.qw_wide.proofs.OrderRuns.{same_scale}
@@ -33,17 +33,19 @@ use Rattle.qw_expr.proofs.Decisions.{compared_numbers, date_in, number_in}
 use Rattle.qw_expr.proofs.Unary.{date_declared}
 use Rattle.qw_expr.proofs.Unknowns.{null_says}
 
--- the relation of the locals of two values tells what their comparison comes to, which is true or false
+-- the relation of the locals of two values tells what their comparison comes to, which is true or false, as their numbers' order does
 pub record Relates (o : Comparison) (a b : Expression) (left right : Operand) : Type 0 where
   pub tells : (row : List Val) (x y : Val) (u : LowState) → HaveColumns (HoldsIn row) (comparison o a b) → value_of a (at_row row) ≡ Ok x → value_of b (at_row row) ≡ Ok y → Holds left x u → Holds right y u →
       (g : Bool) × (compared o x (scale_of a) y (scale_of b) ≡ truth_if g) × (value u (relop I64 (relation_of o) (local left.cell.value) (local right.cell.value)) ≡ Some (Number (truth_word (truth_if g))))
+  pub numbers : (row : List Val) (x y : Val) (u : LowState) → HaveColumns (HoldsIn row) (comparison o a b) → value_of a (at_row row) ≡ Ok x → value_of b (at_row row) ≡ Ok y → Holds left x u → Holds right y u →
+      (v w : ℤ) × HoldsNumber u left.cell.value v × HoldsNumber u right.cell.value w × (compared o x (scale_of a) y (scale_of b) ≡ truth_if (answers o (int_cmp v w)))
   pub left_typed : (types : List ValType) → DeclaresValue types left → slice_get types left.cell.value ≡ Some I64
   pub right_typed : (types : List ValType) → DeclaresValue types right → slice_get types right.cell.value ≡ Some I64
 
 not_null : (o : Operand) (x : Val) (u : LowState) → o.cell.null ≡ None → Holds o x u → x ≡ val.Null → ⊥
 not_null o x u none holds is = subst (SaysNull u) none (null_says o.cell x u is holds.0)
 
-word_if : (g : Bool) → truth g ≡ truth_word (truth_if g)
+pub word_if : (g : Bool) → truth g ≡ truth_word (truth_if g)
 word_if true = refl
 word_if false = refl
 
@@ -87,6 +89,10 @@ relates o a b left right typed one kind_a kind_b scale_a scale_b =
               let first = number_in [] a row x left u typed.0.0 numeric.0 columns.0 is_x holds_x (not_null left x u none_l holds_x) in
               let second = number_in [] b row y right u typed.0.1 numeric.1 columns.1 is_y holds_y (not_null right y u none_r holds_y) in
               (answers o (int_cmp first.0 second.0), compared_even o x y (scale_of a) (scale_of b) first.0 second.0 even first.1 second.1, told o left right left.most right.most first.0 second.0 u first.2 second.2);
+          numbers = λ row x y u columns is_x is_y holds_x holds_y.
+              let first = number_in [] a row x left u typed.0.0 numeric.0 columns.0 is_x holds_x (not_null left x u none_l holds_x) in
+              let second = number_in [] b row y right u typed.0.1 numeric.1 columns.1 is_y holds_y (not_null right y u none_r holds_y) in
+              (first.0, second.0, first.2.0, second.2.0, compared_even o x y (scale_of a) (scale_of b) first.0 second.0 even first.1 second.1);
           left_typed = λ types declared. operand_declared types left a kind_a numeric.0 declared;
           right_typed = λ types declared. operand_declared types right b kind_b numeric.1 declared;
         }
@@ -97,6 +103,10 @@ relates o a b left right typed one kind_a kind_b scale_a scale_b =
               let first = date_in a row x left u typed.0.0 dated.0 columns.0 is_x holds_x (not_null left x u none_l holds_x) in
               let second = date_in b row y right u typed.0.1 dated.1 columns.1 is_y holds_y (not_null right y u none_r holds_y) in
               (answers o (int_cmp first.0 second.0), compared_days o x y (scale_of a) (scale_of b) first.0 second.0 first.1 second.1, told o left right 99991231 99991231 first.0 second.0 u first.2 second.2);
+          numbers = λ row x y u columns is_x is_y holds_x holds_y.
+              let first = date_in a row x left u typed.0.0 dated.0 columns.0 is_x holds_x (not_null left x u none_l holds_x) in
+              let second = date_in b row y right u typed.0.1 dated.1 columns.1 is_y holds_y (not_null right y u none_r holds_y) in
+              (first.0, second.0, first.2.0, second.2.0, compared_days o x y (scale_of a) (scale_of b) first.0 second.0 first.1 second.1);
           left_typed = λ types declared. date_declared types left.cell (kind_of a) dated.0 (subst (DeclaresKind types left.cell) kind_a declared.0);
           right_typed = λ types declared. date_declared types right.cell (kind_of b) dated.1 (subst (DeclaresKind types right.cell) kind_b declared.0);
         }

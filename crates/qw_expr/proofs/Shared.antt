@@ -80,7 +80,7 @@ module _ (known : List Known) (next : ℕ) (low : AreBelow next known) (x : Expr
       (own : List ValType) (b : Statement) (has_of : List Val → Type 0) (columns : (row : List Val) → has_of row → HasColumns (HoldsIn row) x)
       (does : (pages fuel more : ℕ) (row : List Val) (s : LowState) → 1 + count (at_row row) ≤ more → more ≤ fuel → AreHeld known_more row s → has_of row → next + length ownx + length own ≤ length s.locals →
       Comes pages fuel more (λ v t. Kept (next + length ownx) s t × post v t) (result (at_row row)) b s) where
-    both_run : (pages fuel more : ℕ) (row : List Val) (s : LowState) → 1 + count (at_row row) ≤ more → more ≤ fuel → AreHeld known row s → has_of row → next + length (ownx ++ own) ≤ length s.locals →
+    pub both_run : (pages fuel more : ℕ) (row : List Val) (s : LowState) → 1 + count (at_row row) ≤ more → more ≤ fuel → AreHeld known row s → has_of row → next + length (ownx ++ own) ≤ length s.locals →
         Comes pages fuel more (λ v t. Kept next s t × post v t) (result (at_row row)) (seq sx b) s
     both_run pages fuel more row s enough within held has room =
         let env : Environment = at_row row in

@@ -9,3 +9,4 @@ pub mod Texts
 pub mod Made
 pub mod Tests
 pub mod Plain
+pub mod Search

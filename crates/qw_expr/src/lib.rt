@@ -20,6 +20,7 @@ pub mod known;
 pub mod literal;
 pub mod operand;
 mod plain;
+mod search;
 pub mod test;
 pub mod text;
 pub mod tree;

@@ -22,6 +22,7 @@ use crate::emitter::Emitter;
 use crate::known::Binding;
 use crate::operand::Operand;
 use crate::plain::{one_of, plain, within};
+use crate::search::sorted_literals;
 use crate::tree::{among, between, emit_expr, emit_truth};
 use qw_low::block::Block;
 use qw_low::cell::{Cell, Local};
@@ -200,8 +201,8 @@ fn test_between(
     }
 }
 
-/// Adds the test of whether an operand equals one of some values (8.4): the operand's block, and no other where all are known and it compares
-/// with each by one relation.
+/// Adds the test of whether an operand equals one of some values (8.4): the operand's block, and a search where the values are many literals
+/// with which it compares by one relation each. Where they are fewer, or columns, it is one expression of all comparisons.
 fn test_among(
     alloc: Global,
     emitter: &mut Emitter,
@@ -217,6 +218,10 @@ fn test_among(
     ensures few { IfOk result (λ out. length (expression_steps (tested out)) + 1 ≤ 4 * (1 + nodes operand.now + nodes_of_all values.now)) }
 {
     let x = emit_expr(emitter, operand, known)?;
+    if let Some(sought) = sorted_literals(alloc, operand, x, values, known)? {
+        let out = emitter.search(x.cell.value, &sought)?;
+        return Ok(Test::Local(out));
+    }
     match one_of(alloc, operand, x, values, known)? {
         Some(test) => Ok(test),
         None => {

@@ -6,10 +6,14 @@ ghost use Rattle.qw_types.specs.declared.value.Val.TheVariants.{Null, Num, Date}
 ghost use Rattle.qw_scalar.specs.Evaluation.{at_row};
 ghost use Rattle.qw_scalar.specs.declared.comparison.Comparison.TheVariants.{Equal};
 ghost use Rattle.qw_scalar.specs.Expression.{number, text, comparison, negation_of};
+ghost use Rattle.qw_module.specs.declared.instruction.ValType.TheVariants.{I32, I64};
+ghost use Rattle.qw_module.specs.declared.instruction.Binary.TheVariants.{Or};
 ghost use Rattle.qw_module.specs.declared.instruction.Sign.TheVariants.{Signed};
 ghost use Rattle.qw_module.specs.declared.instruction.Relation.TheVariants.{Eq, Ge, Le, Lt};
 ghost use Rattle.qw_low.specs.State.{Number};
-ghost use Rattle.qw_low.specs.Meaning.{value};
+ghost use Rattle.qw_low.specs.Syntax.{assign, binop, conditional, local, relop};
+ghost use Rattle.qw_low.specs.Meaning.{Completed, meaning, value};
+ghost use Rattle.qw_low.specs.Size.{size};
 ghost use Rattle.qw_low.specs.Steps.{expression_steps};
 ghost use Rattle.qw_low.specs.Worked.{state};
 ghost use Rattle.qw_expr.specs.Cells.{HoldsTruth, HoldsValue};
@@ -64,6 +68,16 @@ pub fn tests_joined()
 pub fn steps_of_tests()
     ensures between { (p : _) → length (expression_steps (tested (test.Both' p (test.Related (Ge Signed) 0 1) p (test.Related (Le Signed) 0 2)))) ≡ 7 }
     ensures one_of { (p : _) → length (expression_steps (tested (test.Either' p (test.Either' p (test.Either' p (test.Either' p (test.Either' p (test.Related Eq 0 6) p (test.Related Eq 0 5)) p (test.Related Eq 0 4)) p (test.Related Eq 0 3)) p (test.Related Eq 0 2)) p (test.Related Eq 0 1)))) ≡ 23 }
+{}
+
+/// -1, 3, 5 and 9 in locals 1 to 4, in halves before 5: 5, 3 and -1 are found among them, and 4 isn't, by 12 instructions each, of 20 that
+/// the search has.
+pub fn search_by_halves()
+    ensures middle { meaning 0 0 (conditional (relop I64 (Lt Signed) (local 0) (local 3)) (assign 5 (binop I32 Or (relop I64 Eq (local 0) (local 1)) (relop I64 Eq (local 0) (local 2)))) (assign 5 (binop I32 Or (relop I64 Eq (local 0) (local 3)) (relop I64 Eq (local 0) (local 4))))) (record state { locals = Number 5 ∷ Number 18446744073709551615 ∷ Number 3 ∷ Number 5 ∷ Number 9 ∷ Number 0 ∷ [] }) ≡ Completed 12 (record state { locals = Number 5 ∷ Number 18446744073709551615 ∷ Number 3 ∷ Number 5 ∷ Number 9 ∷ Number 1 ∷ [] }) }
+    ensures lower { meaning 0 0 (conditional (relop I64 (Lt Signed) (local 0) (local 3)) (assign 5 (binop I32 Or (relop I64 Eq (local 0) (local 1)) (relop I64 Eq (local 0) (local 2)))) (assign 5 (binop I32 Or (relop I64 Eq (local 0) (local 3)) (relop I64 Eq (local 0) (local 4))))) (record state { locals = Number 3 ∷ Number 18446744073709551615 ∷ Number 3 ∷ Number 5 ∷ Number 9 ∷ Number 0 ∷ [] }) ≡ Completed 12 (record state { locals = Number 3 ∷ Number 18446744073709551615 ∷ Number 3 ∷ Number 5 ∷ Number 9 ∷ Number 1 ∷ [] }) }
+    ensures least { meaning 0 0 (conditional (relop I64 (Lt Signed) (local 0) (local 3)) (assign 5 (binop I32 Or (relop I64 Eq (local 0) (local 1)) (relop I64 Eq (local 0) (local 2)))) (assign 5 (binop I32 Or (relop I64 Eq (local 0) (local 3)) (relop I64 Eq (local 0) (local 4))))) (record state { locals = Number 18446744073709551615 ∷ Number 18446744073709551615 ∷ Number 3 ∷ Number 5 ∷ Number 9 ∷ Number 0 ∷ [] }) ≡ Completed 12 (record state { locals = Number 18446744073709551615 ∷ Number 18446744073709551615 ∷ Number 3 ∷ Number 5 ∷ Number 9 ∷ Number 1 ∷ [] }) }
+    ensures none { meaning 0 0 (conditional (relop I64 (Lt Signed) (local 0) (local 3)) (assign 5 (binop I32 Or (relop I64 Eq (local 0) (local 1)) (relop I64 Eq (local 0) (local 2)))) (assign 5 (binop I32 Or (relop I64 Eq (local 0) (local 3)) (relop I64 Eq (local 0) (local 4))))) (record state { locals = Number 4 ∷ Number 18446744073709551615 ∷ Number 3 ∷ Number 5 ∷ Number 9 ∷ Number 0 ∷ [] }) ≡ Completed 12 (record state { locals = Number 4 ∷ Number 18446744073709551615 ∷ Number 3 ∷ Number 5 ∷ Number 9 ∷ Number 0 ∷ [] }) }
+    ensures size { size (conditional (relop I64 (Lt Signed) (local 0) (local 3)) (assign 5 (binop I32 Or (relop I64 Eq (local 0) (local 1)) (relop I64 Eq (local 0) (local 2)))) (assign 5 (binop I32 Or (relop I64 Eq (local 0) (local 3)) (relop I64 Eq (local 0) (local 4))))) ≡ 20 }
 {}
 
 /// Three steps and two locals of its own are an extent of 5, wherever the locals begin.
