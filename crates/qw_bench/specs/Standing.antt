@@ -52,7 +52,7 @@ limit_pages (one ∷ limits) = one.pages + limit_pages limits
 abbrev pub total_pages : List Contents → List Limits → ℕ
 total_pages tables limits = column_pages tables + limit_pages limits
 
--- these are the tasks of programs under limits
+-- the tasks of programs under limits
 abbrev pub AreTasksOf : List Program → List Limits → List Task → Type 0
 AreTasksOf [] [] [] = Unit {0}
 AreTasksOf (program ∷ programs) (one ∷ limits) (t ∷ tasks) =

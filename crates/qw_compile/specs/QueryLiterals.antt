@@ -23,7 +23,7 @@ sink_leaves (sink.Select items) = flat_map leaves_in items.items
 abbrev pub pipeline_leaves : Pipeline → List Leaf
 pipeline_leaves p = flat_map operator_leaves p.operators.items ++ sink_leaves p.sink
 
--- those of all
+-- the texts of all pipelines
 abbrev pub query_texts : List Pipeline → List (List ℕ)
 query_texts pipelines = texts_among (flat_map pipeline_leaves pipelines)
 

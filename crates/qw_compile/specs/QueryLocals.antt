@@ -63,7 +63,7 @@ read_from t b c k (column ∷ columns) = read_by t b c k column ∷ read_from t 
 abbrev pub query_readers : (tables literals : ℕ) → List ReadColumn → List Reader
 query_readers t n columns = read_from t (base_start t n) (cell_start t n (length columns)) 0 columns
 
--- those of an entry of FROM
+-- the readers of an entry of FROM
 abbrev pub readers_over : (entry : ℕ) → List Reader → List Reader
 readers_over entry readers = filter (λ (r : Reader). nat_eq entry (owner r.column)) readers
 

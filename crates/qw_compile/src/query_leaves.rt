@@ -11,7 +11,7 @@ use qw_physical::{Operator, Pipeline, Sink};
 use qw_types::NoMemory;
 use std::alloc::Global;
 
-/// Adds those of an operator.
+/// Adds the leaves of an operator.
 fn from_operator(alloc: Global, leaves: &mut Vec<Leaf>, operator: &Operator) -> Result<(), NoMemory>
     ensures { OnOk result (Gathers leaves.old.items leaves.new.items (gathered.operator_leaves operator.now)) }
 {
@@ -24,7 +24,7 @@ fn from_operator(alloc: Global, leaves: &mut Vec<Leaf>, operator: &Operator) -> 
     }
 }
 
-/// Adds those of operators.
+/// Adds the leaves of operators.
 fn from_operators(
     alloc: Global,
     leaves: &mut Vec<Leaf>,
@@ -38,7 +38,7 @@ fn from_operators(
     Ok(())
 }
 
-/// Adds those of a sink.
+/// Adds the leaves of a sink.
 fn from_sink(alloc: Global, leaves: &mut Vec<Leaf>, sink: &Sink) -> Result<(), NoMemory>
     ensures { OnOk result (Gathers leaves.old.items leaves.new.items (gathered.sink_leaves sink.now)) }
 {

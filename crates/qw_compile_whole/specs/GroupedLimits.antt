@@ -17,7 +17,7 @@ use Rattle.qw_compile.specs.QueryLocals.{readers_over}
 abbrev pub gathering_span : List Reader → (entry : ℕ) → List Operator → Group → ℕ
 gathering_span readers entry operators g = span_to operators (group_span g) + 143 * length (readers_over entry readers) + 100
 
--- and of the walk over groups of so many columns and set functions, with what begins and finishes the result
+-- the most steps and locals of the walk over groups of so many columns and set functions, with what begins and finishes the result
 abbrev pub walk_span : (columns functions : ℕ) → Pipeline → ℕ
 walk_span columns functions behind = 25 * columns + 328 * functions + span behind.operators.items behind.sink + 100
 

@@ -48,7 +48,7 @@ pub record EmitsGathering (guard : Option ℕ) (p : Places) (first entry : ℕ) 
   pub kinds : kinds_of (sources_of fields) ≡ map kind_of g.values
   pub is : IsGatheringBy guard (literals_placed p) p.readers.items (first + length own_old) (gathering_of entry operators g) g fields course own
 
--- so was the walk over the groups
+-- the walk over the groups was added to a block, and the types of its own locals to others
 pub record EmitsWalk (p : Places) (first table : ℕ) (key : List ReadColumn) (values : List ValueColumn) (behind : Pipeline) (old new : List LowStep) (own_old own_new : List ValType) : Type 0 where
   pub walk : Statement
   pub own : List ValType
@@ -70,7 +70,7 @@ pub record EmitsFront (guard : Option ℕ) (p : Places) (first : ℕ) (building 
   pub gathered : IsGatheringBy guard (literals_placed p) p.readers.items (first + length builds_own) (gathering_of entry operators g) g fields gathers gathers_own
   pub field_kinds : kinds_of (sources_of fields) ≡ map kind_of g.values
 
--- all of them, the last of which makes the result, in cells of these kinds
+-- the blocks of a grouped query were added, the last of which makes the result, in cells of these kinds
 pub record EmitsGrouped (guard : Option ℕ) (p : Places) (first : ℕ) (building : List Pipeline) (entry : ℕ) (operators : List Operator) (g : Group) (key : List ReadColumn) (values : List ValueColumn) (behind : Pipeline) (code : List LowStep) (own : List ValType) (kinds : List Kind) : Type 0 where
   pub builds : List Course
   pub gathers : Course

@@ -20,7 +20,7 @@ abbrev pub take_block_by : Option ℕ → (tables table functions : ℕ) → Cou
 take_block_by None t n f c = take_block t n f c
 take_block_by (Some z) t n f c = seq (count_from (Some z)) (seq (take_block t n f c) (stop_at (Some z)))
 
--- and its blocks
+-- the blocks of the scan whose rows the areas take
 abbrev pub IsTakingBy : Option ℕ → (literals : List Known) → (readers : List Reader) → (next : ℕ) → Pipeline → Group → (fields : List Field) → Course → (own : List ValType) → Type 0
 IsTakingBy None literals readers next p g fields c own = IsTaking literals readers next p g fields c own
 IsTakingBy (Some z) literals readers next p g fields c own = IsGatheringTo (λ known at a more. IsOneGroupWithin (Some z) fields known at g a more) literals readers next p c own

@@ -21,7 +21,7 @@ use Rattle.qw_compile_whole.specs.GroupedStatements.{IsGathering, IsGatheringTo}
 abbrev pub guard_for : (tables functions : ℕ) → Option ℕ
 guard_for t f = if nat_le 3 t && nat_le 1 f then Some 4 else None
 
--- so many may come
+-- the local that counts how many rows may still come begins with the greatest count
 abbrev pub count_from : Option ℕ → Statement
 count_from None = skip
 count_from (Some z) = assign z (constant_of (const.I64 (10 ^ 18)))
@@ -36,7 +36,7 @@ abbrev pub gather_block : Option ℕ → (tables table : ℕ) → Course → Sta
 gather_block None t n c = build_block t n c
 gather_block (Some z) t n c = seq (count_from (Some z)) (seq (build_block t n c) (stop_at (Some z)))
 
--- and its blocks
+-- the blocks of the scan of a pipeline whose rows go into groups
 abbrev pub IsGatheringBy : Option ℕ → (literals : List Known) → (readers : List Reader) → (next : ℕ) → Pipeline → Group → (fields : List Field) → Course → (own : List ValType) → Type 0
 IsGatheringBy None literals readers next p g fields c own = IsGathering literals readers next p g fields c own
 IsGatheringBy (Some z) literals readers next p g fields c own = IsGatheringTo (λ known at a more. IsGroupedWithin (Some z) fields known at g a more) literals readers next p c own

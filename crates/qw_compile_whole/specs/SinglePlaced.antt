@@ -38,7 +38,7 @@ pub record EmitsTaking (guard : Option ℕ) (p : Places) (first entry : ℕ) (op
   pub kinds : kinds_of (sources_of fields) ≡ map kind_of g.values
   pub is : IsTakingBy guard (literals_placed p) p.readers.items (first + length own_old) (gathering_of entry operators g) g fields course own
 
--- so was what makes the row of the one group
+-- what makes the row of the one group was added to a block, and the types of its own locals to others
 pub record EmitsOne (p : Places) (first table : ℕ) (values : List ValueColumn) (behind : Pipeline) (old new : List LowStep) (own_old own_new : List ValType) : Type 0 where
   pub one : Statement
   pub own : List ValType
@@ -46,7 +46,7 @@ pub record EmitsOne (p : Places) (first table : ℕ) (values : List ValueColumn)
   pub own_is : own_new ≡ own_old ++ own
   pub is : IsOneRow (InSink behind.operators behind.sink) (literals_placed p) (directory table) (first + length own_old) values one own
 
--- all of them, the last of which makes the result, in cells of these kinds
+-- the blocks of a query without GROUP BY were added, the last of which makes the result, in cells of these kinds
 pub record EmitsSingle (guard : Option ℕ) (p : Places) (first : ℕ) (building : List Pipeline) (entry : ℕ) (operators : List Operator) (g : Group) (values : List ValueColumn) (behind : Pipeline) (code : List LowStep) (own : List ValType) (kinds : List Kind) : Type 0 where
   pub builds : List Course
   pub takes : Course

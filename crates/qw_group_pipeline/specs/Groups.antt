@@ -49,7 +49,7 @@ most_read (f ∷ functions) = max (read_units f) (most_read functions)
 abbrev pub known_group : (free : ℕ) → List ReadColumn → List ValueColumn → List Known
 known_group free key values = known_entry free key ++ known_values (free + 3 * length key) values
 
--- and wherever they are
+-- a column of the grouped table, whatever its local is
 abbrev pub value_anywhere : ValueColumn → Known
 value_anywhere v = record { expression = column v.number v.ty; operand = record { cell = record { value = 0; length = 0; null = None }; kind = None; scale = 0; most = 0 } }
 

@@ -26,7 +26,7 @@ pub record IsGroupedWithin (guard : Option ℕ) (fields : List Field) (known : L
   pub grouped : IsGrouped fields known next g plain own
   pub is : a ≡ seq (items_block grouped.items) (guarded_by guard grouped.enter)
 
--- and the same where all rows are one group
+-- as where nothing is counted and all rows are one group, but for the guard
 pub record IsOneGroupWithin (guard : Option ℕ) (fields : List Field) (known : List Known) (next : ℕ) (g : Group) (a : Statement) (own : List ValType) : Type 0 where
   pub plain : Statement
   pub grouped : IsOneGroup fields known next g plain own

@@ -74,7 +74,7 @@ abbrev pub last_end : (done : ℕ) → (ends : List ℕ) → ℕ
 last_end done [] = done
 last_end done (e ∷ ends) = last_end e ends
 
--- so blocks that compute expressions
+-- blocks that compute expressions, one after another
 abbrev pub AreComputed : List Known → (next : ℕ) → List Expression → List Item → List ValType → Type 0
 AreComputed known next [] [] own = own ≡ []
 AreComputed known next (e ∷ es) (g ∷ gs) own =
@@ -93,7 +93,7 @@ pub record EmitsTests (literals : List Known) (readers : List Reader) (cs : List
   pub decided : AreDecided literals readers (free_of old) 0 ends cs tests own
   pub done_is : done ≡ last_end 0 ends
 
--- the same of a select list, whose values then are in these operands
+-- the blocks of a select list's items were added to an emitter, and the values are then in these operands
 pub record EmitsItems (known : List Known) (es : List Expression) (old new : Emitter) (outs : List Operand) : Type 0 where
   pub first_is : new.first ≡ old.first
   pub items : List Item

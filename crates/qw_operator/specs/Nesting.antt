@@ -15,7 +15,7 @@ abbrev pub openings : List Test → List LowStep
 openings [] = []
 openings (g ∷ gs) = steps_of g.block ++ (opening g.out ++ openings gs)
 
--- and what ends so many of them
+-- the steps that end so many conjuncts' choices
 abbrev pub closings : ℕ → List LowStep
 closings zero = []
 closings (suc n) = step.Else ∷ step.End ∷ closings n

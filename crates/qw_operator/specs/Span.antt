@@ -12,7 +12,7 @@ abbrev pub sink_span : Sink → ℕ
 sink_span (sink.Build b) = 400 * sum_by nodes b.key.items + 205 * length b.key.items + 13 * length b.kept.items + 100
 sink_span (sink.Select items) = 400 * sum_by nodes items.items + 20 * length items.items + 100
 
--- and those of an operator, beside what is within it
+-- the most steps and locals of an operator's block, beside what is within it
 abbrev pub probe_span : Probe → ℕ
 probe_span p = 400 * sum_by nodes p.key.items + 358 * length p.key.items + 27 * length p.kept.items + 420 * sum_by nodes_of p.on.items + 100
 

@@ -30,7 +30,7 @@ use Rattle.qw_top.specs.declared.status.Status.TheVariants.{Done, WordsRefused, 
 abbrev pub IsValidFile : Files → (name : List ℕ) → Type 0
 IsValidFile files name = (octets : List ℕ) × IsFile files name most_module_octets octets × SpellsValid octets
 
--- it settles the cause
+-- the file of a module settles the cause
 abbrev pub CheckSettles : Files → (name : List ℕ) → Cause → Type 0
 CheckSettles files name module_too_long = IsTooLong files name most_module_octets
 CheckSettles files name (module_refused fault) =
@@ -48,7 +48,7 @@ pub record HasScript (files : Files) (names : TextNames) (schema : List Table) (
   pub declared : SchemaIs files names.schema schema
   pub asked : QueriesAre files names.queries schema queries
 
--- and the statement of this number, counted from 1, asks for this one
+-- the statement of this number, counted from 1, of the files of these names asks for this query
 abbrev pub HasStatement : Files → TextNames → (statement : ℕ) → Asked → Type 0
 HasStatement files names statement one =
     (schema : List Table) × (queries : List Asked) × HasScript files names schema queries × (slice_get queries (statement - 1) ≡ Some one)
@@ -197,7 +197,7 @@ IsTextLimit schema queries name limit = ((name ≡ schema) ⊎ (name ≡ queries
 abbrev pub IsTableLimit : (folder : List ℕ) → (name : List ℕ) → (limit : ℕ) → Type 0
 IsTableLimit folder name limit = ((table : List ℕ) × (name ≡ table_file_of folder table)) × (limit ≡ most_table_octets)
 
--- those of the files of a run
+-- the limits of the files of a run
 abbrev pub IsRunLimit : Names → (name : List ℕ) → (limit : ℕ) → Type 0
 IsRunLimit names name limit = IsTextLimit names.schema names.queries name limit ⊎ IsTableLimit names.folder name limit
 

@@ -215,7 +215,7 @@ words_of_cause module_too_long = Some (codes "module: " ++ too_long)
 words_of_cause (module_refused fault) = Some (codes "module: " ++ module_cause fault)
 words_of_cause (total_pages need) = Some (codes "total pages " ++ decimal need)
 
--- and the line on it
+-- the line on a cause
 abbrev pub line_of_cause : Cause → List ℕ
 line_of_cause cause = option_map_or (λ words. words ++ codes "\n") (words_of_cause cause) []
 

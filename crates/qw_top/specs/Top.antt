@@ -59,7 +59,7 @@ pub record TableIs (files : Files) (folder : List ℕ) (table : Table) (contents
   pub loads : Loads table bytes contents.rows
   pub columns : contents.columns ≡ map column_type table.columns
 
--- so do the files of tables, one for one
+-- the files of tables in this folder stand for these rows, one for one
 abbrev pub TablesAre : Files → (folder : List ℕ) → List Table → List Contents → Type 0
 TablesAre files folder [] [] = Unit {0}
 TablesAre files folder (table ∷ tables) (one ∷ contents) = TableIs files folder table one × TablesAre files folder tables contents
@@ -82,7 +82,7 @@ pub record IsAsked (schema : List Table) (query : Select) (one : Asked) : Type 0
   pub means : Means schema query one.whole names one.keys
   pub header : IsHeader one.whole names one.header
 
--- so do queries, one for one
+-- queries of the text mean these over the schema, one for one
 abbrev pub AreAsked : List Table → List Select → List Asked → Type 0
 AreAsked schema [] [] = Unit {0}
 AreAsked schema (query ∷ script) (one ∷ queries) = IsAsked schema query one × AreAsked schema script queries
@@ -109,7 +109,7 @@ pub record HasTables (files : Files) (names : Names) (schema : List Table) (tabl
   pub declared : SchemaIs files names.schema schema
   pub loaded : TablesAre files names.folder schema tables
 
--- and the queries file asks for these queries over them
+-- the schema file declares these tables, their files stand for these rows, and the queries file asks for these queries over them
 pub record HasQueries (files : Files) (names : Names) (schema : List Table) (tables : List Contents) (queries : List Asked) : Type 0 where
   pub before : HasTables files names schema tables
   pub asked : QueriesAre files names.queries schema queries

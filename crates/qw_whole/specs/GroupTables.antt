@@ -62,7 +62,7 @@ chosen_units place (f ∷ functions) rows row =
 abbrev pub read_units : List SetFunctionKind → ℕ
 read_units functions = if list_any is_average functions then 128 else 0
 
--- these are the values of set functions over rows, the first of whose arguments stands at this place
+-- values of set functions over rows, the first of whose arguments stands at this place
 abbrev pub AreValues : (place : ℕ) → List SetFunctionKind → (rows : List (List Val)) → List Val → Type 0
 AreValues place [] rows [] = Unit {0}
 AreValues place [] rows (v ∷ values) = ⊥

@@ -66,13 +66,13 @@ taken_by_joins specification tables = record {
   greatest = joins.greatest_entry (kept_by specification) (placed specification);
 }
 
--- and by that of the groups
+-- what the tables of a body take: by those of its plan's joins, and where it is grouped by that of the groups
 abbrev pub taken_by_body : Body → (tables : List (List (List Val))) → Taken
 taken_by_body (plain specification) tables = taken_by_joins specification tables
 taken_by_body (grouped query) tables =
     one_more (taken_by_joins (front query) tables) (group_octets query (planned_rows (front query) tables)) (group_size query)
 
--- and by that of the distinct rows
+-- what all tables of a query take: by those of its body, and with DISTINCT by that of the distinct rows
 abbrev pub taken : Whole → (tables : List (List (List Val))) → Taken
 taken query tables =
     if query.distinct

@@ -27,7 +27,7 @@ pub record IsContentsOf (table : Table) (one : Contents) : Type 0 where
   pub few : length one.rows ≤ most_rows
   pub typed : AllByRecursion (AllZip IsOfColumnType (map column_type table.columns)) one.rows
 
--- so are those of tables
+-- the contents of tables are of their columns, and within the limits
 abbrev pub AreContentsOf : List Table → List Contents → Type 0
 AreContentsOf [] [] = Unit {0}
 AreContentsOf (table ∷ tables) (one ∷ contents) = IsContentsOf table one × AreContentsOf tables contents

@@ -40,7 +40,7 @@ StopsBy settles named (Refused refusal line) = (cause : Cause) × settles cause 
 StopsBy settles named (Unread file) = named (octets_of file)
 StopsBy settles named NoMemory = Unit {0}
 
--- the same of a stage that reads the file of one name
+-- why a stage stopped that reads the file of one name
 abbrev pub StopsAs : (reason : Cause → Type 0) → (name : List ℕ) → Stop → Type 0
 StopsAs reason name stop = StopsBy reason (λ other. other ≡ name) stop
 
@@ -49,7 +49,7 @@ abbrev pub failed_at : Stop → Option (List ℕ)
 failed_at (Unread file) = Some (octets_of file)
 failed_at _ = None
 
--- the same of a stage that may have stopped
+-- the name of the file at which the reading failed, of a stage that may have stopped
 abbrev pub failed_stop : {T : Type 0} → Result T Stop → Option (List ℕ)
 failed_stop (Ok _) = None
 failed_stop (Err stop) = failed_at stop
