@@ -63,6 +63,18 @@ none_octets ty not_null (val.Num n ∷ values) none are = none_octets ty not_nul
 none_octets ty not_null (val.Date n ∷ values) none are = none_octets ty not_null values none are.1
 none_octets ty not_null (val.Text t ∷ values) none are = absurd (none t are.0)
 
+-- a loaded table's column whose type is none of texts
+pub no_octets : (contents : Contents) (k : ℕ) (type : ColumnType) → AreLoaded contents → slice_get contents.columns k ≡ Some type → ((limit : ℕ) → type.ty ≡ ty.Varchar limit → ⊥)
+    → text_octets (column_values contents.rows k) ≡ 0
+no_octets contents k type loaded is other =
+    none_octets type.ty type.not_null (column_values contents.rows k) (no_text type.ty type.not_null other) (column_typed contents.columns contents.rows k type is loaded.typed)
+  where
+    no_text : (ty' : Ty) (not_null : Bool) → ((limit : ℕ) → ty' ≡ ty.Varchar limit → ⊥) → (octets : List ℕ) → IsOfTypeOrNull ty' not_null (val.Text octets) → ⊥
+    no_text ty.Integer not_null other octets h = h
+    no_text (ty.Decimal precision scale) not_null other octets h = h
+    no_text ty.Date not_null other octets h = h
+    no_text (ty.Varchar limit) not_null other octets h = other limit refl
+
 -- a column of any type
 pub few_octets : (ty : Ty) (not_null : Bool) (values : List Val) → IsSized ty → AllByRecursion (IsOfTypeOrNull ty not_null) values
     → text_octets values ≤ 4000 * length values

@@ -1,12 +1,12 @@
 //! Where the columns of tables stand.
 
-ghost use Rattle.std.specs.Prelude.{◌≡◌, ◌≤◌, ◌<◌, ◌^◌, length, map, IfOk, IsSome, Some, slice_get};
+ghost use Rattle.std.specs.Prelude.{◌≡◌, ◌≤◌, ◌<◌, ◌+◌, ◌^◌, length, map, IfOk, IsSome, Some, slice_get};
 ghost use Rattle.qw_types.specs.Contents.{Contents};
 ghost use Rattle.qw_types.specs.Limits.{most_tables};
 ghost use Rattle.qw_map.specs.Columns as columns;
 ghost use Rattle.qw_columns.specs.Mapped.{at_indices};
 
-use crate::room::{column_end, column_type, columns_end, placed_at};
+use crate::room::{column_end, column_type, placed_at};
 use qw_csv::Loaded;
 use qw_map::layout::{COLUMNS_START, Placed};
 use qw_types::{ColumnType, NoMemory};
@@ -18,6 +18,8 @@ use std::marker::Model;
 struct TableMap {
     columns: Vec<ColumnType>,
     placed: Vec<Placed>,
+    /// The least multiple of 8 behind all of them.
+    end: u64,
 }
 
 /// For each table the types of its columns and where they stand in a memory. Contracts see both as lists.
@@ -70,8 +72,9 @@ pub(crate) fn map_of(alloc: Global, loaded: &[Loaded]) -> Result<ColumnMap, NoMe
     let mut tables = Vec::with_capacity(alloc, loaded.len())?;
     let mut at = COLUMNS_START as u64;
     for table in loaded {
-        tables.push(table_map(alloc, table, at)?)?;
-        at = columns_end(table, at);
+        let map = table_map(alloc, table, at)?;
+        at = map.end;
+        tables.push(map)?;
     }
     Ok(ColumnMap { tables })
 }
@@ -81,6 +84,8 @@ fn table_map(alloc: Global, loaded: &Loaded, at: u64) -> Result<TableMap, NoMemo
     requires { at ≤ 2 ^ 60 }
     ensures placed { IfOk result (λ table. table.placed.items ≡ columns.placed_columns at loaded.now.columns 0 loaded.now.rows) }
     ensures columns { IfOk result (λ table. table.columns.items ≡ loaded.now.columns) }
+    ensures end { IfOk result (λ table. table.end ≡ columns.columns_end at loaded.now.columns 0 loaded.now.rows) }
+    ensures limit { IfOk result (λ table. table.end ≤ at + 256_520_000_000) }
 {
     let mut columns = Vec::with_capacity(alloc, loaded.width())?;
     let mut placed = Vec::with_capacity(alloc, loaded.width())?;
@@ -92,5 +97,9 @@ fn table_map(alloc: Global, loaded: &Loaded, at: u64) -> Result<TableMap, NoMemo
         columns.push(column_type)?;
         placed.push(one)?;
     }
-    Ok(TableMap { columns, placed })
+    Ok(TableMap {
+        columns,
+        placed,
+        end,
+    })
 }

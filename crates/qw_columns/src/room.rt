@@ -104,8 +104,21 @@ pub(crate) fn column_type(loaded: &Loaded, column: usize) -> ColumnType
     loaded.columns()[column]
 }
 
-/// How many octets the texts of a column have together.
+/// How many octets the texts of a column have together; none where its type is another.
 fn text_octets(loaded: &Loaded, column: usize) -> u64
+    requires loaded { AreLoaded loaded.now }
+    requires column { column < length loaded.now.columns }
+    ensures octets { result ≡ text_octets (columns.column_values loaded.now.rows column) }
+    ensures limit { result ≤ 4_000 * most_rows }
+{
+    match column_type(loaded, column).ty {
+        Ty::Varchar { .. } => lengths_of_texts(loaded, column),
+        _ => 0,
+    }
+}
+
+/// How many octets the texts of a column have together, added up row by row.
+fn lengths_of_texts(loaded: &Loaded, column: usize) -> u64
     requires { column < length loaded.now.columns }
     ensures octets { result ≡ text_octets (columns.column_values loaded.now.rows column) }
     ensures limit { result ≤ 4_000 * most_rows }
