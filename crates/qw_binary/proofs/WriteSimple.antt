@@ -157,6 +157,3 @@ pub imports_end : (all : List Import) (i : ℕ) (old now : List ℕ) → length 
 imports_end all i old now le a =
     let whole : take i all ≡ all = take_all i all le in
     subst (λ w. Puts imports w old now) whole (awaits_all imports next_import (length all) i (take i all) old now le a)
-
--- what a loop that puts them cites
-pub ruleset imports_put = (imports_begin, imports_next, imports_end)

@@ -14,6 +14,30 @@ use qw_scalar::expression::{Branches, Cond, Expr, Exprs, Field, Matches, Operato
 use qw_types::{NoMemory, Truth};
 use std::alloc::Global;
 
+/// Two parts, each in a box of its own.
+fn two_boxes<T: Drop, U: Drop>(
+    alloc: Global,
+    first: T,
+    second: U,
+) -> Result<(Box<T>, Box<U>), NoMemory>
+    ensures { IfOk result (λ made. (made.0.value ≡ first) × (made.1.value ≡ second)) }
+{
+    Ok((Box::new(alloc, first)?, Box::new(alloc, second)?))
+}
+
+/// Three parts, each in a box of its own.
+fn three_boxes<T: Drop, U: Drop, V: Drop>(
+    alloc: Global,
+    first: T,
+    second: U,
+    third: V,
+) -> Result<(Box<T>, Box<U>, Box<V>), NoMemory>
+    ensures { IfOk result (λ made. (made.0.value ≡ first) × (made.1.value ≡ second) × (made.2.value ≡ third)) }
+{
+    let (first, second) = two_boxes(alloc, first, second)?;
+    Ok((first, second, Box::new(alloc, third)?))
+}
+
 /// `left operator right`.
 pub(crate) fn arithmetic_tree(
     alloc: Global,
@@ -24,7 +48,8 @@ pub(crate) fn arithmetic_tree(
     ensures built { IfOk result (λ made. IsBuilt (arithmetic operator (expression_of left) (expression_of right)) (1 + nodes left + nodes right) (texts_in left ++ texts_in right) made) }
     ensures folded { IfOk result (λ made. IsFolded left × IsFolded right → IsLeft operator left right × AreOperands operator left right → IsFolded made) }
 {
-    Ok(Expr::Arithmetic(operator, Box::new(alloc, left)?, Box::new(alloc, right)?))
+    let (left, right) = two_boxes(alloc, left, right)?;
+    Ok(Expr::Arithmetic(operator, left, right))
 }
 
 /// `- operand`.
@@ -56,7 +81,8 @@ pub(crate) fn match_tree(alloc: Global, operand: Expr, matches: Matches) -> Resu
     ensures built { IfOk result (λ made. IsBuilt (case (matches_of matches (expression_of operand))) (1 + nodes operand + nodes_of_matches matches) (texts_in operand ++ texts_of_matches matches) made) }
     ensures folded { IfOk result (λ made. IsFolded operand → MatchesFolded (scale_of (expression_of operand)) (largest_result (matches_of matches (expression_of operand))) matches → IsFolded made) }
 {
-    Ok(Expr::Match(Box::new(alloc, operand)?, Box::new(alloc, matches)?))
+    let (operand, matches) = two_boxes(alloc, operand, matches)?;
+    Ok(Expr::Match(operand, matches))
 }
 
 /// `COALESCE(arguments)`.
@@ -72,7 +98,8 @@ pub(crate) fn null_if_tree(alloc: Global, left: Expr, right: Expr) -> Result<Exp
     ensures built { IfOk result (λ made. IsBuilt (null_if (expression_of left) (expression_of right)) (1 + nodes left + nodes right) (texts_in left ++ texts_in right) made) }
     ensures folded { IfOk result (λ made. IsFolded left × IsFolded right → IsAtScale (scale_of (expression_of left)) right → IsFolded made) }
 {
-    Ok(Expr::NullIf(Box::new(alloc, left)?, Box::new(alloc, right)?))
+    let (left, right) = two_boxes(alloc, left, right)?;
+    Ok(Expr::NullIf(left, right))
 }
 
 /// `left op right`.
@@ -85,7 +112,8 @@ pub(crate) fn compare_tree(
     ensures built { IfOk result (λ made. AreBuilt (comparison op (expression_of left) (expression_of right)) (1 + nodes left + nodes right) (texts_in left ++ texts_in right) made) }
     ensures folded { IfOk result (λ made. IsFolded left × IsFolded right → AreAtOneScale left right → AreFolded made) }
 {
-    Ok(Cond::Compare(op, Box::new(alloc, left)?, Box::new(alloc, right)?))
+    let (left, right) = two_boxes(alloc, left, right)?;
+    Ok(Cond::Compare(op, left, right))
 }
 
 /// `operand BETWEEN least AND greatest`.
@@ -98,11 +126,8 @@ pub(crate) fn between_tree(
     ensures built { IfOk result (λ made. AreBuilt (between (expression_of operand) (expression_of least) (expression_of greatest)) (1 + nodes operand + nodes least + nodes greatest) (texts_in operand ++ (texts_in least ++ texts_in greatest)) made) }
     ensures folded { IfOk result (λ made. IsFolded operand → IsFolded least × IsAtScale (scale_of (expression_of operand)) least → IsFolded greatest × IsAtScale (scale_of (expression_of operand)) greatest → AreFolded made) }
 {
-    Ok(Cond::Between(
-        Box::new(alloc, operand)?,
-        Box::new(alloc, least)?,
-        Box::new(alloc, greatest)?,
-    ))
+    let (operand, least, greatest) = three_boxes(alloc, operand, least, greatest)?;
+    Ok(Cond::Between(operand, least, greatest))
 }
 
 /// `operand IN (values)`.
@@ -110,7 +135,8 @@ pub(crate) fn in_tree(alloc: Global, operand: Expr, values: Exprs) -> Result<Con
     ensures built { IfOk result (λ made. AreBuilt (among (expression_of operand) (expressions_of values)) (1 + nodes operand + nodes_of_all values) (texts_in operand ++ texts_of_all values) made) }
     ensures folded { IfOk result (λ made. IsFolded operand → AllFolded (scale_of (expression_of operand)) values → AreFolded made) }
 {
-    Ok(Cond::In(Box::new(alloc, operand)?, Box::new(alloc, values)?))
+    let (operand, values) = two_boxes(alloc, operand, values)?;
+    Ok(Cond::In(operand, values))
 }
 
 /// `operand IS NULL`.
@@ -126,7 +152,8 @@ pub(crate) fn and_tree(alloc: Global, left: Cond, right: Cond) -> Result<Cond, N
     ensures built { IfOk result (λ made. AreBuilt (both (condition_of left) (condition_of right)) (1 + nodes_of left + nodes_of right) (texts_within left ++ texts_within right) made) }
     ensures folded { IfOk result (λ made. AreFolded left → AreFolded right → AreFolded made) }
 {
-    Ok(Cond::And(Box::new(alloc, left)?, Box::new(alloc, right)?))
+    let (left, right) = two_boxes(alloc, left, right)?;
+    Ok(Cond::And(left, right))
 }
 
 /// `left OR right`.
@@ -134,7 +161,8 @@ pub(crate) fn or_tree(alloc: Global, left: Cond, right: Cond) -> Result<Cond, No
     ensures built { IfOk result (λ made. AreBuilt (either (condition_of left) (condition_of right)) (1 + nodes_of left + nodes_of right) (texts_within left ++ texts_within right) made) }
     ensures folded { IfOk result (λ made. AreFolded left → AreFolded right → AreFolded made) }
 {
-    Ok(Cond::Or(Box::new(alloc, left)?, Box::new(alloc, right)?))
+    let (left, right) = two_boxes(alloc, left, right)?;
+    Ok(Cond::Or(left, right))
 }
 
 /// `NOT operand`.
@@ -166,7 +194,8 @@ pub(crate) fn more_tree(alloc: Global, expr: Expr, rest: Exprs) -> Result<Exprs,
     ensures built { IfOk result (λ made. AllBuilt (more (expression_of expr) (expressions_of rest)) (1 + nodes expr + nodes_of_all rest) (texts_in expr ++ texts_of_all rest) made) }
     ensures folded { IfOk result (λ made. (s : ℕ) → IsFolded expr × IsAtScale s expr → AllFolded s rest → AllFolded s made) }
 {
-    Ok(Exprs::More(Box::new(alloc, expr)?, Box::new(alloc, rest)?))
+    let (expr, rest) = two_boxes(alloc, expr, rest)?;
+    Ok(Exprs::More(expr, rest))
 }
 
 /// `ELSE other`.
@@ -187,11 +216,8 @@ pub(crate) fn when_tree(
     ensures built { IfOk result (λ made. ChoicesBuilt (when (condition_of test) (expression_of value) (choices_of rest)) (1 + nodes_of test + nodes value + nodes_of_branches rest) (texts_within test ++ (texts_in value ++ texts_of_branches rest)) made) }
     ensures folded { IfOk result (λ made. (s : ℕ) → AreFolded test → IsFolded value × IsAtScale s value → BranchesFolded s rest → BranchesFolded s made) }
 {
-    Ok(Branches::When(
-        Box::new(alloc, test)?,
-        Box::new(alloc, value)?,
-        Box::new(alloc, rest)?,
-    ))
+    let (test, value, rest) = three_boxes(alloc, test, value, rest)?;
+    Ok(Branches::When(test, value, rest))
 }
 
 /// `WHEN wanted THEN value ELSE other`.
@@ -204,11 +230,8 @@ pub(crate) fn last_match_tree(
     ensures built { IfOk result (λ made. MatchesBuilt (λ (x : Expression). when (comparison Equal x (expression_of wanted)) (expression_of value) (otherwise (expression_of other))) (1 + nodes wanted + nodes value + nodes other) (texts_in wanted ++ (texts_in value ++ texts_in other)) made) }
     ensures folded { IfOk result (λ made. (x s : ℕ) → IsFolded wanted × IsAtScale x wanted → IsFolded value × IsAtScale s value → IsFolded other × IsAtScale s other → MatchesFolded x s made) }
 {
-    Ok(Matches::Last(
-        Box::new(alloc, wanted)?,
-        Box::new(alloc, value)?,
-        Box::new(alloc, other)?,
-    ))
+    let (wanted, value, other) = three_boxes(alloc, wanted, value, other)?;
+    Ok(Matches::Last(wanted, value, other))
 }
 
 /// `WHEN wanted THEN value` before other branches.
@@ -221,9 +244,6 @@ pub(crate) fn more_match_tree(
     ensures built { IfOk result (λ made. MatchesBuilt (λ (x : Expression). when (comparison Equal x (expression_of wanted)) (expression_of value) (matches_of rest x)) (1 + nodes wanted + nodes value + nodes_of_matches rest) (texts_in wanted ++ (texts_in value ++ texts_of_matches rest)) made) }
     ensures folded { IfOk result (λ made. (x s : ℕ) → IsFolded wanted × IsAtScale x wanted → IsFolded value × IsAtScale s value → MatchesFolded x s rest → MatchesFolded x s made) }
 {
-    Ok(Matches::When(
-        Box::new(alloc, wanted)?,
-        Box::new(alloc, value)?,
-        Box::new(alloc, rest)?,
-    ))
+    let (wanted, value, rest) = three_boxes(alloc, wanted, value, rest)?;
+    Ok(Matches::When(wanted, value, rest))
 }

@@ -138,6 +138,3 @@ module _ {S : Type 0} (step : S → ℕ → Grammar S) where
 
 -- what a loop over the items of a vector cites
 pub ruleset vector_loop = (goes_on_one_more, ends_one_more, done_counted, begin_counted)
-
--- what a loop over items to the end of the octets cites
-pub ruleset all_loop = (all_more, all_break, all_end, all_out, all_begin)

@@ -10,7 +10,6 @@ use crate::numbers::u32_at;
 use std::alloc::Global;
 
 /// So many unsigned numbers of 32 bits. Nothing is reserved by their count, which may be a lie.
-#[tactic(auto, using(crate::proofs::Loops::vector_loop))]
 fn numbers_at(alloc: Global, count: u32, octets: &[u8]) -> Result<(Vec<u32>, &[u8]), BinaryFault>
     ensures { Gives (λ x. (x.0.items, x.1.now)) result (read (counted count (one_more u32_grammar) []) octets.now) }
 {

@@ -1,18 +1,22 @@
 -- Names between quotes, names that come again and columns: what loops keep.
-use Rattle.std.proofs.Common.{◌≡◌, ℕ, ◌+◌, ◌-◌, ◌<◌, ◌≤◌, Bool, true, false, ◌||◌, List, [], ◌∷◌, ◌++◌, length, map, take, drop, get_or, Option, Some, None, refl, sym, ap, ◌∙◌, arith, inl, inr, append_assoc}
+use Rattle.std.proofs.Common.{◌≡◌, ℕ, add-one, ◌+◌, ◌-◌, ◌<◌, ◌≤◌, Bool, true, false, ◌||◌, List, [], ◌∷◌, ◌++◌, length, map, take, drop, get_or, Option, Some, None, Bor, Ok, Err, Result, refl, sym, ap, ◌∙◌, arith, inl, inr, append_assoc}
 use Rattle.std.specs.Prelude.{eqb, option_map}
 use Rattle.std.specs.List.{list_any}
 use Rattle.std.specs.Str.{bytes_eq}
 use Rattle.std.proofs.lemmas.Bool.{cases_Bool}
 use Rattle.std.proofs.lemmas.Slice.{between_to_end}
+use Rattle.qw_token.specs.Token.{lexemes}
+use Rattle.qw_token.specs.declared.token.Token.{Token}
 use Rattle.qw_types.specs.declared.schema.Column.{Column}
+use Rattle.qw_types.specs.declared.schema.Table.{Table}
 use Rattle.qw_types.specs.declared.value.Ty.{Ty}
 use Rattle.qw_ast.specs.declared.tree.ColumnDefinition.{ColumnDefinition}
 use Rattle.qw_ast.specs.Grammar.{undoubled}
-use Rattle.qw_ast.proofs.StatementLemmas.{drop_next}
+use Rattle.qw_ast.proofs.StatementLemmas.{drop_next, lexed}
 use Rattle.qw_schema.specs.Inner.Parser.{behind_octet}
 use Rattle.qw_schema.specs.Inner.Tables.{read_of}
-use Rattle.qw_schema.specs.Inner.Judges.{is_twice, name_in, columns_of}
+use Rattle.qw_schema.specs.declared.parse.SchemaFault.{SchemaFault}
+use Rattle.qw_schema.specs.Inner.Judges.{is_twice, judged, judged_from, name_in, columns_of}
 use Rattle.qw_schema.proofs.TerminalLemmas.{cases_option}
 
 -- ---- names between quotes
@@ -75,3 +79,17 @@ columns_more front c cs ty all is before =
 
 pub columns_stop : (front : List Column) (c : ColumnDefinition) (cs : List ColumnDefinition) (all : Option (List Column)) → c.ty ≡ None → option_map (λ x. front ++ x) (columns_of (map read_of (c ∷ cs))) ≡ all → None ≡ all
 columns_stop front c cs all is before = rw is at before
+
+-- ---- the loop over statements
+
+-- a statement that declares a table, and one that has a fault
+pub judged_next : (before : List Table) (k : ℕ) (ss : List (Bor (List Token))) (i : ℕ) (d : Bor (List Token)) (t : Table) → i < length ss
+    → ◌≡◌ {A = Result Table SchemaFault} (judged before k (lexemes (get_or ss i d).now)) (Ok t)
+    → judged_from before k (lexed (drop i ss)) ≡ judged_from (before ++ t ∷ []) (k + 1) (lexed (drop (i + 1) ss))
+judged_next before k ss i d t lt is =
+    rw (drop_next ss i d lt, is) (ap (λ n. judged_from (before ++ t ∷ []) n (lexed (drop (i + 1) ss))) (sym (add-one k)))
+
+pub judged_faults : (before : List Table) (k : ℕ) (ss : List (Bor (List Token))) (i : ℕ) (d : Bor (List Token)) (fault : SchemaFault) → i < length ss
+    → ◌≡◌ {A = Result Table SchemaFault} (judged before k (lexemes (get_or ss i d).now)) (Err fault)
+    → judged_from before k (lexed (drop i ss)) ≡ Err fault
+judged_faults before k ss i d fault lt is = rw (drop_next ss i d lt, is) refl

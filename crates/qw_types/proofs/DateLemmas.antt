@@ -4,6 +4,7 @@ use Rattle.std.specs.Char.{is_ascii_digit}
 use Rattle.std.specs.List.{list_all}
 use Rattle.std.specs.Str.Parse.{digits_value}
 use Rattle.std.proofs.lemmas.Bool.{and_parts, cases_Bool}
+use Rattle.std.proofs.lemmas.Grind.{common_steps}
 use Rattle.std.proofs.lemmas.Int.Digits.{digits_value-lt}
 use Rattle.std.proofs.Math.Nat.{pow-le-pow_right}
 use Rattle.qw_types.specs.Calendar.{IsDate, packed}
@@ -46,6 +47,14 @@ short_number ds number short all is =
   where
     capped : (n : ℕ) → number ≡ min n 1000000000000000000 → n < 10000 → number ≡ n
     capped n e small = omega (arith, e, small)
+
+-- the parts of a date have four, two and two octets
+pub parts_long : (text : List ℕ) → length text ≡ 10 → (length (take 4 text) ≡ 4) × (length (take 2 (drop 5 text)) ≡ 2) × (length (drop 8 text) ≡ 2)
+parts_long text long = (grind (arith, common_steps), grind (arith, common_steps), grind (arith, common_steps))
+
+-- what a part counts to is below that power of ten
+pub below_power : (number octets : ℕ) (part : List ℕ) → length part ≡ octets → number < 10 ^ length part → number < 10 ^ octets
+below_power number octets part long below = rw long at below
 
 -- the parts that a field shows, and the day that they name
 pub date_shown : (field text part after : List ℕ) (year month day : ℕ) (number : ℤ) → text ≡ without_spaces field → part ≡ take 10 text → after ≡ drop 10 text

@@ -91,7 +91,6 @@ pub fn bring(v: i64, from: u8, to: u8) -> Result<i64, Code>
 }
 
 /// How two values compare, by their exact values.
-#[tactic(auto, using(crate::proofs::ArithmeticLemmas::product_fits))]
 pub fn compare(a: i64, sa: u8, b: i64, sb: u8) -> Ordering
     requires fits { IsTrue (fits a) × IsTrue (fits b) }
     requires scales { (sa ≤ 18) × (sb ≤ 18) }
@@ -103,7 +102,6 @@ pub fn compare(a: i64, sa: u8, b: i64, sb: u8) -> Ordering
 }
 
 /// A value of one scale at another that is no smaller.
-#[tactic(auto, using(crate::proofs::ArithmeticLemmas::product_fits))]
 fn brought(v: i64, from: u8, to: u8) -> Result<i128, Code>
     requires fits { IsTrue (fits v) }
     requires up { from ≤ to }

@@ -47,7 +47,6 @@ fn export_at(alloc: Global, octets: &[u8]) -> Result<(Export, &[u8]), BinaryFaul
 }
 
 /// So many exports.
-#[tactic(auto, using(qw_octet_grammar::proofs::Loops::vector_loop, std::proofs::lemmas::List::map_push))]
 fn exports_at(alloc: Global, count: u32, octets: &[u8]) -> Result<(Vec<Export>, &[u8]), BinaryFault>
     ensures { Gives (λ x. (map export_contents x.0.items, x.1.now)) result (read (counted count (one_more export_grammar) []) octets.now) }
 {

@@ -25,7 +25,6 @@ fn locals_run_at(octets: &[u8]) -> Result<(Locals, &[u8]), BinaryFault>
 }
 
 /// So many runs of locals.
-#[tactic(auto, using(qw_octet_grammar::proofs::Loops::vector_loop))]
 fn locals_runs_at(
     alloc: Global,
     count: u32,

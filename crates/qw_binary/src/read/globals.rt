@@ -25,7 +25,6 @@ fn global_at(alloc: Global, octets: &[u8]) -> Result<(ModuleGlobal, &[u8]), Bina
 }
 
 /// So many globals.
-#[tactic(auto, using(qw_octet_grammar::proofs::Loops::vector_loop, std::proofs::lemmas::List::map_push))]
 fn globals_at(
     alloc: Global,
     count: u32,

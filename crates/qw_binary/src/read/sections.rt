@@ -148,7 +148,6 @@ impl SoFar {
 }
 
 /// The sections, to the end of the octets; at most so many.
-#[tactic(auto, using(qw_octet_grammar::proofs::Loops::all_loop))]
 pub fn sections_at(alloc: Global, most: usize, octets: &[u8]) -> Result<SoFar, BinaryFault>
     ensures { Gives sections_of result (read_all section most no_sections octets.now) }
 {

@@ -60,7 +60,6 @@ pub fn block_type_at(octets: &[u8]) -> Result<(BlockType, &[u8]), BinaryFault>
 }
 
 /// So many value types.
-#[tactic(auto, using(qw_octet_grammar::proofs::Loops::vector_loop))]
 fn val_types_at(
     alloc: Global,
     count: u32,
@@ -103,7 +102,6 @@ fn func_type_at(alloc: Global, octets: &[u8]) -> Result<(FuncType, &[u8]), Binar
 }
 
 /// So many types of functions.
-#[tactic(auto, using(qw_octet_grammar::proofs::Loops::vector_loop, std::proofs::lemmas::List::map_push))]
 fn func_types_at(
     alloc: Global,
     count: u32,
@@ -159,7 +157,6 @@ pub fn limits_at(octets: &[u8]) -> Result<(Limits, &[u8]), BinaryFault>
 }
 
 /// So many memories.
-#[tactic(auto, using(qw_octet_grammar::proofs::Loops::vector_loop))]
 fn memories_at(
     alloc: Global,
     count: u32,

@@ -42,7 +42,6 @@ fn put_export(export: &Export, out: &mut Vec<u8>) -> Result<(), AllocError>
 }
 
 /// Writes a vector of exports.
-#[tactic(auto, using(qw_octet_grammar::proofs::WriteLaws::views_put))]
 pub fn put_exports(exports: &[Export], out: &mut Vec<u8>) -> Result<(), AllocError>
     ensures { OnOk result (Puts (vector export_grammar) (map export_contents exports.now) out.old.items out.new.items) }
 {

@@ -27,7 +27,6 @@ fn put_locals_run(run: Locals, out: &mut Vec<u8>) -> Result<(), AllocError>
 }
 
 /// Writes runs of locals, however many locals they have.
-#[tactic(auto, using(qw_octet_grammar::proofs::WriteLaws::vector_put))]
 fn put_runs(runs: &[Locals], out: &mut Vec<u8>) -> Result<(), AllocError>
     ensures { OnOk result (Puts (vector locals_run) runs.now out.old.items out.new.items) }
 {
@@ -79,7 +78,6 @@ pub fn put_codes(alloc: Global, functions: &[Function], out: &mut Vec<u8>) -> Re
 }
 
 /// Writes the indices of the types of functions (5.5.6).
-#[tactic(auto, using(qw_octet_grammar::proofs::WriteLaws::views_put))]
 pub fn put_type_indices(functions: &[Function], out: &mut Vec<u8>) -> Result<(), AllocError>
     ensures { OnOk result (Puts (vector u32_grammar) (map type_index_of functions.now) out.old.items out.new.items) }
 {

@@ -56,7 +56,6 @@ fn put_import(import: Import, before: &[Import], out: &mut Vec<u8>) -> Result<()
 }
 
 /// Writes a vector of imports.
-#[tactic(auto, using(crate::proofs::WriteSimple::imports_put))]
 pub fn put_imports(imports: &[Import], out: &mut Vec<u8>) -> Result<(), WriteFault>
     ensures written { OnOk result (Puts imports_grammar imports.now out.old.items out.new.items) }
     ensures refused { IfErr result (λ e. e ≡ NotSpelled → (text : List ℕ) → Spells imports_grammar imports.now text → ⊥) }

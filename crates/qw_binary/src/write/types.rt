@@ -31,7 +31,6 @@ pub fn put_block_type(ty: BlockType, out: &mut Vec<u8>) -> Result<(), AllocError
 }
 
 /// Writes a vector of value types.
-#[tactic(auto, using(qw_octet_grammar::proofs::WriteLaws::vector_put))]
 fn put_val_types(types: &[ValType], out: &mut Vec<u8>) -> Result<(), AllocError>
     ensures { OnOk result (Puts (vector val_type) types.now out.old.items out.new.items) }
 {
@@ -53,7 +52,6 @@ fn put_func_type(ty: &FuncType, out: &mut Vec<u8>) -> Result<(), AllocError>
 }
 
 /// Writes a vector of types of functions.
-#[tactic(auto, using(qw_octet_grammar::proofs::WriteLaws::views_put))]
 pub fn put_func_types(types: &[FuncType], out: &mut Vec<u8>) -> Result<(), AllocError>
     ensures { OnOk result (Puts (vector func_type) (map signature_of types.now) out.old.items out.new.items) }
 {
@@ -83,7 +81,6 @@ pub fn put_limits(limits: Limits, out: &mut Vec<u8>) -> Result<(), AllocError>
 }
 
 /// Writes a vector of limits, the memories.
-#[tactic(auto, using(qw_octet_grammar::proofs::WriteLaws::vector_put))]
 pub fn put_memories(memories: &[Limits], out: &mut Vec<u8>) -> Result<(), AllocError>
     ensures { OnOk result (Puts (vector limits_grammar) memories.now out.old.items out.new.items) }
 {
