@@ -10,11 +10,11 @@ use Rattle.qw_scalar.specs.declared.comparison.Comparison.{Comparison}
 use Rattle.qw_ast.specs.Grammar.{folded}
 use Rattle.qw_ast.specs.Syntax.{Expression, text, Condition, comparison, between, among, is_null, both, either, negation_of, is, bracketed, Clause, condition, expression}
 use Rattle.qw_ast.specs.ScriptGrammar.{is_word, is_symbol, is_string, comparison_of, truth_of, likeness, first, IsOperator, operator, AreFurther, IsExpressionOf, arguments, IsOptionalNot, not_absent, not_there, IsValueExpression, IsPredicate, a_comparison, a_between, an_in, a_like, a_null_test, IsBooleanPrimary, predicate, condition_brackets, IsBooleanTest, no_test, a_test, IsBooleanFactor, no_negation, a_negation, is_and, is_or, IsBooleanTerm, IsSearchCondition, IsClause, IsNested}
-use Rattle.qw_parse.specs.Inner.Readers.{token_at, word_at, symbol_at, octets_if, further_at, not_at, expression_at, condition_at, the_expression, the_condition, sum_at, between_at, in_at, like_at, compare_at, null_test_at, condition_clause, ranged_at, tail_at, predicate_at, truth_test_at, test_at, boolean_factor_at, join_and, join_or, boolean_term_at, clause_at, nested_at}
+use Rattle.qw_parse.specs.Inner.Readers.{token_at, word_at, octets_if, not_at, expression_at, listing_at, condition_at, the_expression, the_condition, sum_at, between_at, in_at, like_at, compare_at, null_test_at, condition_clause, ranged_at, tail_at, predicate_at, truth_test_at, test_at, boolean_factor_at, join_and, join_or, boolean_term_at, clause_at, nested_at}
 use Rattle.qw_parse.proofs.LoopLemmas.{bind_some, some_same, cases_option}
 use Rattle.qw_parse.proofs.TokenLemmas.{word_is, Front, front, one_takes, one_is, one_not, Found, found, token_takes, token_is, octets_found, octets_are, strength, Stops, stops_at, stops_weaker, stops_one, stops_token, strong_symbol, strong_word}
-use Rattle.qw_parse.proofs.ExactLemmas.{Starts, starts_at, Exact, no_comma, further_takes, further_is, further_stops, other_word, not_takes, not_is, not_shorter}
-use Rattle.qw_parse.proofs.PrimaryLemmas.{the_expression_is, Of, IsBracketed, between_brackets, expression_takes, expression_is, expression_exact, closing_ends, further_down}
+use Rattle.qw_parse.proofs.ExactLemmas.{Starts, starts_at, Exact, other_word, not_takes, not_is, not_shorter}
+use Rattle.qw_parse.proofs.PrimaryLemmas.{the_expression_is, Of, IsBracketed, between_brackets, listing_takes, listing_is, further_down}
 use Rattle.qw_parse.proofs.SumLemmas.{sum_exact, expression_no_not, bracketed_no_not}
 use Rattle.qw_parse.proofs.RankLemmas.{rank_exact}
 
@@ -176,12 +176,10 @@ module _ (Inner : Clause → List Lexeme → List Lexeme → Type 0) (inner : Li
   in_takes : (x : Expression) (negated : Bool) (front_ts ts us vs : List Lexeme) → IsValueExpression Inner x front_ts ts → IsOptionalNot negated ts us → Front (is_word (codes "IN")) us vs → (z : Condition × List Lexeme) → in_at inner negated x vs ≡ Some z → IsPredicate Inner z.0 front_ts z.1
   unfolding in_at
   in_takes x negated front_ts ts us vs h n f z e =
-      let o = bind_some (symbol_at (codes "(") vs) _ z e in
-      let a = bind_some (expression_at inner o.0) _ z o.2 in
-      let es = bind_some (further_at (expression_at inner) a.0.1) _ z a.2 in
-      let c = bind_some (symbol_at (codes ")") es.0.1) _ z es.2 in
-      subst (λ (y : Condition × List Lexeme). IsPredicate Inner y.0 front_ts y.1) (some_same (among negated x (arguments a.0.0 es.0.0), c.0) z c.2)
-      (in_made x a.0.0 es.0.0 negated front_ts ts us vs o.0 a.0.1 es.0.1 c.0 h n f (one_takes (is_symbol (codes "(")) vs o.0 o.1) (expression_takes Inner inner reads o.0 a.0 a.1) (further_takes (expression_exact Inner inner reads) a.0.1 es.0 es.1) (one_takes (is_symbol (codes ")")) es.0.1 c.0 c.1))
+      let l = bind_some (listing_at inner vs) _ z e in
+      let parts = listing_takes Inner inner reads vs l.0 l.1 in
+      subst (λ (y : Condition × List Lexeme). IsPredicate Inner y.0 front_ts y.1) (some_same (among negated x (arguments l.0.0.0 l.0.0.1), l.0.1) z l.2)
+      (in_made x l.0.0.0 l.0.0.1 negated front_ts ts us vs parts.0 parts.1 parts.2 l.0.1 h n f parts.3 parts.4 parts.5 parts.6)
 
   like_made : (x : Expression) (p : List ℕ) (negated : Bool) (front_ts ts us vs rest : List Lexeme) → IsValueExpression Inner x front_ts ts → IsOptionalNot negated ts us → Front (is_word (codes "LIKE")) us vs → Found (octets_if is_string) p vs rest → IsPredicate Inner (comparison (likeness negated) x (text p)) front_ts rest
   like_made x _ negated front_ts ts _ _ rest h n (front w _ f) (found p t _ g) =
@@ -274,14 +272,7 @@ module _ (Inner : Clause → List Lexeme → List Lexeme → Type 0) (inner : Li
 
   in_is : (x e : Expression) (es : List Expression) (negated : Bool) (o c : Lexeme) (vs ws rest : List Lexeme) → IsTrue (is_symbol (codes "(") o) → Inner (expression e) vs ws → AreFurther (IsExpressionOf Inner) es ws (c ∷ rest) → IsTrue (is_symbol (codes ")") c) → in_at inner negated x (o ∷ vs) ≡ Some (among negated x (arguments e es), rest)
   unfolding in_at
-  in_is x e es negated o c vs ws rest f i j g =
-      let ends = closing_ends Inner inner reads c rest g in
-      rw (
-        one_is (is_symbol (codes "(")) o vs f,
-        expression_is Inner inner reads e vs ws i (further_stops (IsExpressionOf Inner) es ws (c ∷ rest) j ends),
-        further_is (expression_exact Inner inner reads) es ws (c ∷ rest) j ends (no_comma (codes ")") c rest g refl),
-        one_is (is_symbol (codes ")")) c rest g,
-      ) refl
+  in_is x e es negated o c vs ws rest f i j g = rw (listing_is Inner inner reads e es o c vs ws rest f i j g) refl
 
   like_is : (x : Expression) (negated : Bool) (t : Lexeme) (rest : List Lexeme) → IsTrue (is_string t) → like_at negated x (t ∷ rest) ≡ Some (comparison (likeness negated) x (text t.octets), rest)
   unfolding like_at

@@ -8,11 +8,11 @@ use Rattle.qw_ast.specs.declared.script.SetFunction.TheVariants.{Count, Sum, Avg
 use Rattle.qw_ast.specs.Grammar.{folded}
 use Rattle.qw_ast.specs.Syntax.{Expression, count_rows, set_function, Clause, expression}
 use Rattle.qw_ast.specs.ScriptGrammar.{is_word, is_symbol, is_name, set_function_of, IsOptionalAll, IsPrimary, a_row_count, a_set_function}
-use Rattle.qw_parse.specs.Inner.Readers.{symbol_at, expression_at, behind_all, argument_at, rows_at, set_function_at}
+use Rattle.qw_parse.specs.Inner.Readers.{symbol_at, before_at, behind_all, argument_at, rows_at, set_function_at}
 use Rattle.qw_parse.proofs.LoopLemmas.{bind_some, some_same, cases_option}
 use Rattle.qw_parse.proofs.TokenLemmas.{Front, front, one_takes, one_is, choose, Stops}
 use Rattle.qw_parse.proofs.ExactLemmas.{starts, starts_not, Exact, all_takes, all_is, all_no_asterisk}
-use Rattle.qw_parse.proofs.PrimaryLemmas.{name_no_word, expression_takes, expression_is, closing_ends}
+use Rattle.qw_parse.proofs.PrimaryLemmas.{name_no_word, before_some, expression_takes, expression_is, closing_ends}
 
 -- ---- their words
 
@@ -106,10 +106,10 @@ module _ (Inner : Clause → List Lexeme → List Lexeme → Type 0) (inner : Li
   argument_takes : (word : Lexeme) (f : SetFunction) → set_function_of word ≡ Some f → (ts us : List Lexeme) → Front (is_symbol (codes "(")) ts us → (x : Expression × List Lexeme) → argument_at inner f us ≡ Some x → IsPrimary Inner x.0 (word ∷ ts) x.1
   unfolding argument_at
   argument_takes word f w ts us opening x h =
-      let e = bind_some (expression_at inner (behind_all us)) _ x h in
-      let rest = bind_some (symbol_at (codes ")") e.0.1) _ x e.2 in
-      subst (λ (y : Expression × List Lexeme). IsPrimary Inner y.0 (word ∷ ts) y.1) (some_same (set_function (length rest.0) f e.0.0, rest.0) x rest.2)
-      (function_made word f w e.0.0 ts us (behind_all us) e.0.1 rest.0 opening (all_takes us) (expression_takes Inner inner reads (behind_all us) e.0 e.1) (one_takes (is_symbol (codes ")")) e.0.1 rest.0 rest.1))
+      let e = bind_some (before_at inner (codes ")") (behind_all us)) _ x h in
+      let vs = before_some inner (codes ")") (behind_all us) e.0 e.1 in
+      subst (λ (y : Expression × List Lexeme). IsPrimary Inner y.0 (word ∷ ts) y.1) (some_same (set_function (length e.0.1) f e.0.0, e.0.1) x e.2)
+      (function_made word f w e.0.0 ts us (behind_all us) vs.0 e.0.1 opening (all_takes us) (expression_takes Inner inner reads (behind_all us) (e.0.0, vs.0) vs.1) (one_takes (is_symbol (codes ")")) vs.0 e.0.1 vs.2))
 
   pub set_function_takes : (word : Lexeme) (f : SetFunction) → set_function_of word ≡ Some f → (ts : List Lexeme) (x : Expression × List Lexeme) → set_function_at inner f ts ≡ Some x → IsPrimary Inner x.0 (word ∷ ts) x.1
   unfolding set_function_at
@@ -122,7 +122,7 @@ module _ (Inner : Clause → List Lexeme → List Lexeme → Type 0) (inner : Li
       ]
 
   pub set_function_is : (f : SetFunction) (e : Expression) (o c : Lexeme) (ts us rest : List Lexeme) → IsTrue (is_symbol (codes "(") o) → IsOptionalAll ts us → Inner (expression e) us (c ∷ rest) → IsTrue (is_symbol (codes ")") c) → set_function_at inner f (o ∷ ts) ≡ Some (set_function (length rest) f e, rest)
-  unfolding set_function_at argument_at
+  unfolding set_function_at argument_at before_at
   set_function_is f e o c ts us rest g all h i =
       let begins = reads.begins (expression e) us (c ∷ rest) h in
       rw (

@@ -7,9 +7,9 @@ use Rattle.qw_token.specs.declared.token.Kind.{Kind}
 use Rattle.qw_token.specs.declared.token.Kind.TheVariants.{Word, DelimitedIdentifier, CharacterString, Number, Symbol}
 use Rattle.qw_scalar.specs.declared.expression.Field.{Field}
 use Rattle.qw_ast.specs.Grammar.{folded}
-use Rattle.qw_ast.specs.Syntax.{Expression, null, extract, searched_case, simple_case, coalesce, null_if, Condition, bracketed, Clause, condition, expression}
+use Rattle.qw_ast.specs.Syntax.{Expression, null, extract, searched_case, simple_case, coalesce, null_if, Condition, bracketed, Clause, condition, expression, Branching}
 use Rattle.qw_ast.specs.ScriptGrammar.{is_word_kind, is_string_kind, is_number_kind, is_symbol_kind, is_word, is_symbol, is_number, is_string, is_name, field_of, is_when, is_condition, IsOperator, operator, AreFurther, IsResult, null_result, result, Branch, IsBranch, branch, AreBranches, IsElse, no_else, else_result, IsExpressionOf, arguments, branching, IsPrimary, a_searched_case, a_simple_case, a_coalesce, a_null_if, an_extract}
-use Rattle.qw_parse.specs.Inner.Readers.{token_at, one_at, word_at, symbol_at, further_at, expression_at, the_expression, result_at, same, branch_at, branches_at, else_at, case_operand_at, is_absent, case_with, case_at, coalesce_of, coalesce_at, null_if_at, extract_at, as_clause}
+use Rattle.qw_parse.specs.Inner.Readers.{token_at, one_at, word_at, symbol_at, further_at, expression_at, before_at, listing_at, the_expression, result_at, same, branch_at, branches_at, else_at, case_operand_at, is_absent, case_of, chain_of, chain_at, case_at, coalesce_of, coalesce_at, null_if_at, extract_at, as_clause}
 use Rattle.qw_parse.proofs.LoopLemmas.{bind_some, some_same, cases_option}
 use Rattle.qw_parse.proofs.TokenLemmas.{word_is, Front, front, one_takes, one_is, Found, found, token_takes, token_is, choose, strength, Stops, strong_word}
 use Rattle.qw_parse.proofs.ExactLemmas.{Starts, starts_not, Exact, operator_stops, series_front, list_takes, list_is, list_shorter, no_comma, further_takes, further_is, further_shorter, further_stops, other_word, word_stops, symbol_stops, EndsDate}
@@ -137,6 +137,15 @@ as_clause_some (Some y) x e = (y, refl, some_same (expression y.0, y.1) x e)
 pub as_clause_is : (o : Option (Expression × List Lexeme)) (e : Expression) (rest : List Lexeme) → o ≡ Some (e, rest) → as_clause o ≡ Some (expression e, rest)
 unfolding as_clause
 as_clause_is o e rest h = rw h refl
+
+-- an expression and the symbol behind it
+pub before_some : (inner : List Lexeme → Option (Clause × List Lexeme)) (symbol : List ℕ) (ts : List Lexeme) (y : Expression × List Lexeme) → before_at inner symbol ts ≡ Some y → (us : List Lexeme) × (expression_at inner ts ≡ Some (y.0, us)) × (symbol_at symbol us ≡ Some y.1)
+unfolding before_at
+before_some inner symbol ts y h =
+    let e = bind_some (expression_at inner ts) _ y h in
+    let rest = bind_some (symbol_at symbol e.0.1) _ y e.2 in
+    let same = some_same (e.0.0, rest.0) y rest.2 in
+    (e.0.1, e.1 ∙ ap (λ (z : Expression × List Lexeme). Some (z.0, e.0.1)) same, rest.1 ∙ ap (λ (z : Expression × List Lexeme). Some z.1) same)
 
 -- what stands between CASE and WHEN
 data IsCaseOperand (Inner : Clause → List Lexeme → List Lexeme → Type 0) : Option Expression → List Lexeme → List Lexeme → Type 0 where
@@ -297,23 +306,30 @@ module _ (Inner : Clause → List Lexeme → List Lexeme → Type 0) (inner : Li
         | inr us ↦ subst (λ (z : Option Expression × List Lexeme). IsCaseOperand Inner z.0 ts z.1) (some_same (None, ts) x (rw us.1 at e)) (no_operand ts)
       ]
 
-  case_made : (word : Lexeme) → IsTrue (is_word (codes "CASE") word) → (o : Option Expression) (bs : List Branch) (other e : Expression) (ts us vs rest : List Lexeme)
-      → IsCaseOperand Inner o ts us → AreBranches Inner (is_absent o) bs us vs → IsElse Inner other vs rest → case_with o bs other ≡ Some e → IsPrimary Inner e (word ∷ ts) rest
-  case_made word w o [] other e ts us vs rest h branches end made = absurd cc
-  case_made word w _ (b ∷ bs) other e _ _ vs rest (no_operand ts) branches end made =
-      subst (λ x. IsPrimary Inner x (word ∷ ts) rest) (some_same (searched_case (branching (b ∷ bs) other)) e made) (a_searched_case b bs other word ts vs rest w branches end)
-  case_made word w _ (b ∷ bs) other e _ _ vs rest (an_operand x ts us h) branches end made =
-      subst (λ y. IsPrimary Inner y (word ∷ ts) rest) (some_same (simple_case x (branching (b ∷ bs) other)) e made) (a_simple_case x b bs other word ts us vs rest w h branches end)
+  case_made : (word : Lexeme) → IsTrue (is_word (codes "CASE") word) → (o : Option Expression) (bs : List Branch) (other : Expression) (chain : Branching) (ts us vs rest : List Lexeme)
+      → IsCaseOperand Inner o ts us → AreBranches Inner (is_absent o) bs us vs → IsElse Inner other vs rest → chain_of bs other ≡ Some chain → IsPrimary Inner (case_of o chain) (word ∷ ts) rest
+  case_made word w o [] other chain ts us vs rest h branches end made = absurd cc
+  case_made word w _ (b ∷ bs) other chain _ _ vs rest (no_operand ts) branches end made =
+      subst (λ x. IsPrimary Inner (searched_case x) (word ∷ ts) rest) (some_same (branching (b ∷ bs) other) chain made) (a_searched_case b bs other word ts vs rest w branches end)
+  case_made word w _ (b ∷ bs) other chain _ _ vs rest (an_operand x ts us h) branches end made =
+      subst (λ y. IsPrimary Inner (simple_case x y) (word ∷ ts) rest) (some_same (branching (b ∷ bs) other) chain made) (a_simple_case x b bs other word ts us vs rest w h branches end)
+
+  chain_takes : (word : Lexeme) → IsTrue (is_word (codes "CASE") word) → (o : Option Expression) (ts us : List Lexeme) → IsCaseOperand Inner o ts us → (y : Branching × List Lexeme) → chain_at inner (is_absent o) us ≡ Some y → IsPrimary Inner (case_of o y.0) (word ∷ ts) y.1
+  unfolding chain_at
+  chain_takes word w o ts us operand y e =
+      let bs = bind_some (branches_at inner (is_absent o) us) _ y e in
+      let other = bind_some (else_at inner bs.0.1) _ y bs.2 in
+      let c = bind_some (chain_of bs.0.0 other.0.0) _ y other.2 in
+      subst (λ (z : Branching × List Lexeme). IsPrimary Inner (case_of o z.0) (word ∷ ts) z.1) (some_same (c.0, other.0.1) y c.2)
+      (case_made word w o bs.0.0 other.0.0 c.0 ts us bs.0.1 other.0.1 operand (branches_takes (is_absent o) us bs.0 bs.1) (else_takes bs.0.1 other.0 other.1) c.1)
 
   pub case_takes : (word : Lexeme) → IsTrue (is_word (codes "CASE") word) → (ts : List Lexeme) (x : Expression × List Lexeme) → case_at inner ts ≡ Some x → IsPrimary Inner x.0 (word ∷ ts) x.1
   unfolding case_at
   case_takes word w ts x e =
       let o = bind_some (case_operand_at inner ts) _ x e in
-      let bs = bind_some (branches_at inner (is_absent o.0.0) o.0.1) _ x o.2 in
-      let other = bind_some (else_at inner bs.0.1) _ x bs.2 in
-      let c = bind_some (case_with o.0.0 bs.0.0 other.0.0) _ x other.2 in
-      subst (λ (y : Expression × List Lexeme). IsPrimary Inner y.0 (word ∷ ts) y.1) (some_same (c.0, other.0.1) x c.2)
-      (case_made word w o.0.0 bs.0.0 other.0.0 c.0 ts o.0.1 bs.0.1 other.0.1 (operand_takes ts o.0 o.1) (branches_takes (is_absent o.0.0) o.0.1 bs.0 bs.1) (else_takes bs.0.1 other.0 other.1) c.1)
+      let chain = bind_some (chain_at inner (is_absent o.0.0) o.0.1) _ x o.2 in
+      subst (λ (y : Expression × List Lexeme). IsPrimary Inner y.0 (word ∷ ts) y.1) (some_same (case_of o.0.0 chain.0.0, chain.0.1) x chain.2)
+      (chain_takes word w o.0.0 ts o.0.1 (operand_takes ts o.0 o.1) chain.0 chain.1)
 
   operand_none : (ts us : List Lexeme) → Front (is_word (codes "WHEN")) ts us → case_operand_at inner ts ≡ Some (None, ts)
   unfolding case_operand_at
@@ -327,14 +343,14 @@ module _ (Inner : Clause → List Lexeme → List Lexeme → Type 0) (inner : Li
   when_stops _ _ (front t rest h) = word_stops (codes "WHEN") 1 t rest refl refl (omega arith) h
 
   pub searched_is : (b : Branch) (bs : List Branch) (other : Expression) (ts us rest : List Lexeme) → AreBranches Inner true (b ∷ bs) ts us → IsElse Inner other us rest → case_at inner ts ≡ Some (searched_case (branching (b ∷ bs) other), rest)
-  unfolding case_at
+  unfolding case_at chain_at
   searched_is b bs other ts us rest h end =
       let begins = branches_front true b bs ts us h in
       let ends = else_ends other us rest end in
       rw (operand_none ts begins.0 begins.1, branches_are true (b ∷ bs) ts us h ends.0 ends.1, else_is other us rest end) refl
 
   pub simple_is : (x : Expression) (b : Branch) (bs : List Branch) (other : Expression) (ts us vs rest : List Lexeme) → Inner (expression x) ts us → AreBranches Inner false (b ∷ bs) us vs → IsElse Inner other vs rest → case_at inner ts ≡ Some (simple_case x (branching (b ∷ bs) other), rest)
-  unfolding case_at
+  unfolding case_at chain_at
   simple_is x b bs other ts us vs rest i h end =
       let begins = branches_front false b bs us vs h in
       let ends = else_ends other vs rest end in
@@ -348,30 +364,45 @@ module _ (Inner : Clause → List Lexeme → List Lexeme → Type 0) (inner : Li
   coalesce_made word w e (y ∷ es) x _ us vs _ rest (front o _ f) i h (front c _ g) made =
       subst (λ z. IsPrimary Inner z (word ∷ o ∷ us) rest) (some_same (coalesce (arguments e (y ∷ es))) x made) (a_coalesce e y es word o c us vs rest w f i h g)
 
+  pub listing_takes : (ts : List Lexeme) (y : (Expression × List Expression) × List Lexeme) → listing_at inner ts ≡ Some y
+      → (us : List Lexeme) × (vs : List Lexeme) × (ws : List Lexeme) × Front (is_symbol (codes "(")) ts us × Inner (expression y.0.0) us vs × AreFurther (IsExpressionOf Inner) y.0.1 vs ws × Front (is_symbol (codes ")")) ws y.1
+  unfolding listing_at
+  listing_takes ts y h =
+      let us = bind_some (symbol_at (codes "(") ts) _ y h in
+      let e = bind_some (expression_at inner us.0) _ y us.2 in
+      let es = bind_some (further_at (expression_at inner) e.0.1) _ y e.2 in
+      let rest = bind_some (symbol_at (codes ")") es.0.1) _ y es.2 in
+      subst
+      (λ (z : (Expression × List Expression) × List Lexeme). (us : List Lexeme) × (vs : List Lexeme) × (ws : List Lexeme) × Front (is_symbol (codes "(")) ts us × Inner (expression z.0.0) us vs × AreFurther (IsExpressionOf Inner) z.0.1 vs ws × Front (is_symbol (codes ")")) ws z.1)
+      (some_same ((e.0.0, es.0.0), rest.0) y rest.2)
+      (us.0, e.0.1, es.0.1, one_takes (is_symbol (codes "(")) ts us.0 us.1, expression_takes us.0 e.0 e.1, further_takes expression_exact e.0.1 es.0 es.1, one_takes (is_symbol (codes ")")) es.0.1 rest.0 rest.1)
+
   pub coalesce_takes : (word : Lexeme) → IsTrue (is_word (codes "COALESCE") word) → (ts : List Lexeme) (x : Expression × List Lexeme) → coalesce_at inner ts ≡ Some x → IsPrimary Inner x.0 (word ∷ ts) x.1
   unfolding coalesce_at
   coalesce_takes word w ts x h =
-      let us = bind_some (symbol_at (codes "(") ts) _ x h in
-      let e = bind_some (expression_at inner us.0) _ x us.2 in
-      let es = bind_some (further_at (expression_at inner) e.0.1) _ x e.2 in
-      let rest = bind_some (symbol_at (codes ")") es.0.1) _ x es.2 in
-      let c = bind_some (coalesce_of e.0.0 es.0.0) _ x rest.2 in
-      subst (λ (y : Expression × List Lexeme). IsPrimary Inner y.0 (word ∷ ts) y.1) (some_same (c.0, rest.0) x c.2)
-      (coalesce_made word w e.0.0 es.0.0 c.0 ts us.0 e.0.1 es.0.1 rest.0 (one_takes (is_symbol (codes "(")) ts us.0 us.1) (expression_takes us.0 e.0 e.1) (further_takes expression_exact e.0.1 es.0 es.1) (one_takes (is_symbol (codes ")")) es.0.1 rest.0 rest.1) c.1)
+      let l = bind_some (listing_at inner ts) _ x h in
+      let c = bind_some (coalesce_of l.0.0.0 l.0.0.1) _ x l.2 in
+      let parts = listing_takes ts l.0 l.1 in
+      subst (λ (y : Expression × List Lexeme). IsPrimary Inner y.0 (word ∷ ts) y.1) (some_same (c.0, l.0.1) x c.2)
+      (coalesce_made word w l.0.0.0 l.0.0.1 c.0 ts parts.0 parts.1 parts.2 l.0.1 parts.3 parts.4 parts.5 parts.6 c.1)
 
   pub closing_ends : (c : Lexeme) (rest : List Lexeme) → IsTrue (is_symbol (codes ")") c) → Stops 1 (c ∷ rest)
   closing_ends c rest h = symbol_stops (codes ")") 1 c rest refl (omega arith) h
 
-  pub coalesce_is : (e y : Expression) (es : List Expression) (o c : Lexeme) (ts us rest : List Lexeme) → IsTrue (is_symbol (codes "(") o) → Inner (expression e) ts us → AreFurther (IsExpressionOf Inner) (y ∷ es) us (c ∷ rest) → IsTrue (is_symbol (codes ")") c) → coalesce_at inner (o ∷ ts) ≡ Some (coalesce (arguments e (y ∷ es)), rest)
-  unfolding coalesce_at
-  coalesce_is e y es o c ts us rest f i h g =
+  pub listing_is : (e : Expression) (es : List Expression) (o c : Lexeme) (ts us rest : List Lexeme) → IsTrue (is_symbol (codes "(") o) → Inner (expression e) ts us → AreFurther (IsExpressionOf Inner) es us (c ∷ rest) → IsTrue (is_symbol (codes ")") c) → listing_at inner (o ∷ ts) ≡ Some ((e, es), rest)
+  unfolding listing_at
+  listing_is e es o c ts us rest f i h g =
       let ends = closing_ends c rest g in
       rw (
         one_is (is_symbol (codes "(")) o ts f,
-        expression_is e ts us i (further_stops (IsExpressionOf Inner) (y ∷ es) us (c ∷ rest) h ends),
-        further_is expression_exact (y ∷ es) us (c ∷ rest) h ends (no_comma (codes ")") c rest g refl),
+        expression_is e ts us i (further_stops (IsExpressionOf Inner) es us (c ∷ rest) h ends),
+        further_is expression_exact es us (c ∷ rest) h ends (no_comma (codes ")") c rest g refl),
         one_is (is_symbol (codes ")")) c rest g,
       ) refl
+
+  pub coalesce_is : (e y : Expression) (es : List Expression) (o c : Lexeme) (ts us rest : List Lexeme) → IsTrue (is_symbol (codes "(") o) → Inner (expression e) ts us → AreFurther (IsExpressionOf Inner) (y ∷ es) us (c ∷ rest) → IsTrue (is_symbol (codes ")") c) → coalesce_at inner (o ∷ ts) ≡ Some (coalesce (arguments e (y ∷ es)), rest)
+  unfolding coalesce_at
+  coalesce_is e y es o c ts us rest f i h g = rw (listing_is e (y ∷ es) o c ts us rest f i h g) refl
 
   null_if_made : (word : Lexeme) → IsTrue (is_word (codes "NULLIF") word) → (a b : Expression) (ts us vs ws xs rest : List Lexeme)
       → Front (is_symbol (codes "(")) ts us → Inner (expression a) us vs → Front (is_symbol (codes ",")) vs ws → Inner (expression b) ws xs → Front (is_symbol (codes ")")) xs rest → IsPrimary Inner (null_if a b) (word ∷ ts) rest
@@ -381,15 +412,15 @@ module _ (Inner : Clause → List Lexeme → List Lexeme → Type 0) (inner : Li
   unfolding null_if_at
   null_if_takes word w ts x h =
       let us = bind_some (symbol_at (codes "(") ts) _ x h in
-      let a = bind_some (expression_at inner us.0) _ x us.2 in
-      let vs = bind_some (symbol_at (codes ",") a.0.1) _ x a.2 in
-      let b = bind_some (expression_at inner vs.0) _ x vs.2 in
-      let rest = bind_some (symbol_at (codes ")") b.0.1) _ x b.2 in
-      subst (λ (y : Expression × List Lexeme). IsPrimary Inner y.0 (word ∷ ts) y.1) (some_same (null_if a.0.0 b.0.0, rest.0) x rest.2)
-      (null_if_made word w a.0.0 b.0.0 ts us.0 a.0.1 vs.0 b.0.1 rest.0 (one_takes (is_symbol (codes "(")) ts us.0 us.1) (expression_takes us.0 a.0 a.1) (one_takes (is_symbol (codes ",")) a.0.1 vs.0 vs.1) (expression_takes vs.0 b.0 b.1) (one_takes (is_symbol (codes ")")) b.0.1 rest.0 rest.1))
+      let a = bind_some (before_at inner (codes ",") us.0) _ x us.2 in
+      let b = bind_some (before_at inner (codes ")") a.0.1) _ x a.2 in
+      let vs = before_some inner (codes ",") us.0 a.0 a.1 in
+      let ws = before_some inner (codes ")") a.0.1 b.0 b.1 in
+      subst (λ (y : Expression × List Lexeme). IsPrimary Inner y.0 (word ∷ ts) y.1) (some_same (null_if a.0.0 b.0.0, b.0.1) x b.2)
+      (null_if_made word w a.0.0 b.0.0 ts us.0 vs.0 a.0.1 ws.0 b.0.1 (one_takes (is_symbol (codes "(")) ts us.0 us.1) (expression_takes us.0 (a.0.0, vs.0) vs.1) (one_takes (is_symbol (codes ",")) vs.0 a.0.1 vs.2) (expression_takes a.0.1 (b.0.0, ws.0) ws.1) (one_takes (is_symbol (codes ")")) ws.0 b.0.1 ws.2))
 
   pub null_if_is : (a b : Expression) (o m c : Lexeme) (ts us rest : List Lexeme) → IsTrue (is_symbol (codes "(") o) → Inner (expression a) ts (m ∷ us) → IsTrue (is_symbol (codes ",") m) → Inner (expression b) us (c ∷ rest) → IsTrue (is_symbol (codes ")") c) → null_if_at inner (o ∷ ts) ≡ Some (null_if a b, rest)
-  unfolding null_if_at
+  unfolding null_if_at before_at
   null_if_is a b o m c ts us rest f i g j k =
       rw (one_is (is_symbol (codes "(")) o ts f, expression_is a ts (m ∷ us) i (symbol_stops (codes ",") 1 m us refl (omega arith) g), one_is (is_symbol (codes ",")) m us g, expression_is b us (c ∷ rest) j (closing_ends c rest k), one_is (is_symbol (codes ")")) c rest k) refl
 
@@ -403,13 +434,13 @@ module _ (Inner : Clause → List Lexeme → List Lexeme → Type 0) (inner : Li
       let us = bind_some (symbol_at (codes "(") ts) _ x h in
       let field = bind_some (token_at field_of us.0) _ x us.2 in
       let vs = bind_some (word_at (codes "FROM") field.0.1) _ x field.2 in
-      let e = bind_some (expression_at inner vs.0) _ x vs.2 in
-      let rest = bind_some (symbol_at (codes ")") e.0.1) _ x e.2 in
-      subst (λ (y : Expression × List Lexeme). IsPrimary Inner y.0 (word ∷ ts) y.1) (some_same (extract field.0.0 e.0.0, rest.0) x rest.2)
-      (extract_made word w field.0.0 e.0.0 ts us.0 field.0.1 vs.0 e.0.1 rest.0 (one_takes (is_symbol (codes "(")) ts us.0 us.1) (token_takes field_of us.0 field.0 field.1) (one_takes (is_word (codes "FROM")) field.0.1 vs.0 vs.1) (expression_takes vs.0 e.0 e.1) (one_takes (is_symbol (codes ")")) e.0.1 rest.0 rest.1))
+      let e = bind_some (before_at inner (codes ")") vs.0) _ x vs.2 in
+      let ws = before_some inner (codes ")") vs.0 e.0 e.1 in
+      subst (λ (y : Expression × List Lexeme). IsPrimary Inner y.0 (word ∷ ts) y.1) (some_same (extract field.0.0 e.0.0, e.0.1) x e.2)
+      (extract_made word w field.0.0 e.0.0 ts us.0 field.0.1 vs.0 ws.0 e.0.1 (one_takes (is_symbol (codes "(")) ts us.0 us.1) (token_takes field_of us.0 field.0 field.1) (one_takes (is_word (codes "FROM")) field.0.1 vs.0 vs.1) (expression_takes vs.0 (e.0.0, ws.0) ws.1) (one_takes (is_symbol (codes ")")) ws.0 e.0.1 ws.2))
 
   pub extract_is : (field : Field) (e : Expression) (o n m c : Lexeme) (ts rest : List Lexeme) → IsTrue (is_symbol (codes "(") o) → field_of n ≡ Some field → IsTrue (is_word (codes "FROM") m) → Inner (expression e) ts (c ∷ rest) → IsTrue (is_symbol (codes ")") c) → extract_at inner (o ∷ n ∷ m ∷ ts) ≡ Some (extract field e, rest)
-  unfolding extract_at
+  unfolding extract_at before_at
   extract_is field e o n m c ts rest f g h i k =
       rw (one_is (is_symbol (codes "(")) o (n ∷ m ∷ ts) f, token_is field_of n (m ∷ ts) field g, one_is (is_word (codes "FROM")) m ts h, expression_is e ts (c ∷ rest) i (closing_ends c rest k), one_is (is_symbol (codes ")")) c rest k) refl
 

@@ -11,7 +11,7 @@ ghost use Rattle.qw_typer.specs.Inner.Typing.{AreTold, GivesArguments, GivesChoi
 
 use crate::kinds::{agree, are_comparable, joined};
 use crate::refusal::Refusal;
-use crate::tree::{Results, Typed, Values, boxed};
+use crate::tree::{Results, Typed, Values, boxed, boxes, three_boxes};
 use qw_scalar::expression::{Branches, Cond, Exprs, Matches};
 use std::alloc::Global;
 
@@ -39,10 +39,13 @@ pub(crate) fn arguments_more<'a>(
     ensures gives { GivesArguments result (Ok (more (expression_of x.tree) (expressions_of others.tree))) }
     ensures fits { (n k m j : ℕ) → Fits x.tree n k → FitsAll others.tree m j → IfOk result (λ made. FitsAll made.tree (1 + (n + m)) (k + j)) }
 {
+    let kind = joined(x.kind, others.kind);
+    let agree = agree(x.kind, others.kind) && others.agree;
+    let (first, rest) = boxes(alloc, x.tree, others.tree)?;
     Ok(Results {
-        kind: joined(x.kind, others.kind),
-        agree: agree(x.kind, others.kind) && others.agree,
-        tree: Exprs::More(boxed(alloc, x.tree)?, boxed(alloc, others.tree)?),
+        kind,
+        agree,
+        tree: Exprs::More(first, rest),
     })
 }
 
@@ -72,9 +75,11 @@ pub(crate) fn values_more<'a>(
     ensures gives { GivesValues (expression_of operand.now.tree) result (Ok (more (expression_of x.tree) (expressions_of others.tree))) }
     ensures fits { (n k m j : ℕ) → Fits x.tree n k → FitsAll others.tree m j → IfOk result (λ made. FitsAll made.tree (1 + (n + m)) (k + j)) }
 {
+    let comparable = are_comparable(operand.kind, x.kind) && others.comparable;
+    let (first, rest) = boxes(alloc, x.tree, others.tree)?;
     Ok(Values {
-        comparable: are_comparable(operand.kind, x.kind) && others.comparable,
-        tree: Exprs::More(boxed(alloc, x.tree)?, boxed(alloc, others.tree)?),
+        comparable,
+        tree: Exprs::More(first, rest),
     })
 }
 
@@ -105,12 +110,11 @@ pub(crate) fn when<'a>(
 {
     let kind = joined(x.kind, others.kind);
     let agree = agree(x.kind, others.kind) && others.agree;
-    let test = boxed(alloc, test)?;
-    let first = boxed(alloc, x.tree)?;
+    let (test, first, rest) = three_boxes(alloc, test, x.tree, others.tree)?;
     Ok(Results {
         kind,
         agree,
-        tree: Branches::When(test, first, boxed(alloc, others.tree)?),
+        tree: Branches::When(test, first, rest),
     })
 }
 
@@ -128,12 +132,11 @@ pub(crate) fn last_match<'a>(
 {
     let kind = joined(x.kind, other.kind);
     let agree = agree(x.kind, other.kind);
-    let wanted = boxed(alloc, wanted.tree)?;
-    let first = boxed(alloc, x.tree)?;
+    let (wanted, first, last) = three_boxes(alloc, wanted.tree, x.tree, other.tree)?;
     Ok(Results {
         kind,
         agree,
-        tree: Matches::Last(wanted, first, boxed(alloc, other.tree)?),
+        tree: Matches::Last(wanted, first, last),
     })
 }
 
@@ -152,11 +155,10 @@ pub(crate) fn match_more<'a>(
 {
     let kind = joined(x.kind, others.kind);
     let agree = agree(x.kind, others.kind) && others.agree;
-    let wanted = boxed(alloc, wanted.tree)?;
-    let first = boxed(alloc, x.tree)?;
+    let (wanted, first, rest) = three_boxes(alloc, wanted.tree, x.tree, others.tree)?;
     Ok(Results {
         kind,
         agree,
-        tree: Matches::When(wanted, first, boxed(alloc, others.tree)?),
+        tree: Matches::When(wanted, first, rest),
     })
 }

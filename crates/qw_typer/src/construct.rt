@@ -1,26 +1,26 @@
 //! One construct over typed operands: whether their kinds go with it, and its tree.
 #![tactic(auto, using(crate::proofs::CaseLemmas::told_case), unfolding(crate::specs::Inner::Typing::Refuses))]
 
-ghost use Rattle.std.specs.Prelude.{◌≡◌, ℕ, ◌+◌, IfOk, MatchResult};
+ghost use Rattle.std.specs.Prelude.{◌≡◌, ℕ, ◌+◌, IfOk, MatchResult, Ok, Result};
 ghost use Rattle.qw_ast.specs.SyntaxTree as syntax;
-ghost use Rattle.qw_scalar.specs.Expression.{coalesced};
+ghost use Rattle.qw_scalar.specs.Expression.{Condition, Expression, both, coalesced, either, is, is_null, negation_of};
 ghost use Rattle.qw_scalar.specs.Tree.{choices_of, condition_of, expression_of, expressions_of, matches_of};
 ghost use Rattle.qw_scalar.specs.Typing.{kind_of};
-ghost use Rattle.qw_typer.specs.Faults.{first_of_all, first_of_branches, first_token};
+ghost use Rattle.qw_typer.specs.Faults.{Fault, first_of_all, first_of_branches, first_token};
 ghost use Rattle.qw_typer.specs.Inner.Sizes.{Fits, FitsAll, FitsBranches, FitsCondition, FitsMatches};
-ghost use Rattle.qw_typer.specs.Inner.Typing.{AreTold, Gives, GivesCondition, IsTold, all_comparable, among_outcome, arithmetic_outcome, between_outcome, case_outcome, comparison_outcome, field_outcome, null_if_outcome, sign_outcome};
+ghost use Rattle.qw_typer.specs.Inner.Typing.{◌>>=◌ as ◌and_then◌, AreTold, Gives, GivesCondition, IsTold, all_comparable, among_outcome, arithmetic_outcome, between_outcome, case_outcome, comparison_outcome, field_outcome, null_if_outcome, sign_outcome};
 ghost use Rattle.qw_typer.specs.Meant.{with_not};
 ghost use Rattle.qw_typer.specs.declared.refusal.Refusal.TheVariants.{NoMemory};
 
 use crate::fault::FaultKind;
 use crate::kinds::{are_comparable, is_date, is_number, scale};
 use crate::refusal::{Refusal, first_of_all, first_of_branches, first_token};
-use crate::tree::{Results, Typed, boxed};
+use crate::tree::{Results, Typed, both, boxed, boxes, three_boxes};
 use qw_ast::script::{Branches, Expr, Exprs, Sign};
 use qw_scalar::comparison::Comparison;
 use qw_scalar::expression as meaning;
 use qw_scalar::expression::{Field, Operator};
-use qw_types::Kind;
+use qw_types::{Kind, Truth};
 use std::alloc::Global;
 
 /// The most digits behind the point of a result.
@@ -68,13 +68,10 @@ pub(crate) fn arithmetic<'a>(
     let Some(scale) = scale_after(operator, scale(left.kind), scale(right.kind)) else {
         return Err(Refusal::Fault(FaultKind::ScaleTooLarge, first_token(at)));
     };
+    let (left, right) = boxes(alloc, left.tree, right.tree)?;
     Ok(Typed {
         kind: Some(Kind::Number(scale)),
-        tree: meaning::Expr::Arithmetic(
-            operator,
-            boxed(alloc, left.tree)?,
-            boxed(alloc, right.tree)?,
-        ),
+        tree: meaning::Expr::Arithmetic(operator, left, right),
     })
 }
 
@@ -143,9 +140,10 @@ pub(crate) fn simple_case<'a>(
     if !results.agree || results.kind.is_none() {
         return Err(Refusal::Fault(FaultKind::Clash, first_token(at)));
     }
+    let (operand, branches) = boxes(alloc, operand.tree, results.tree)?;
     Ok(Typed {
         kind: results.kind,
-        tree: meaning::Expr::Match(boxed(alloc, operand.tree)?, boxed(alloc, results.tree)?),
+        tree: meaning::Expr::Match(operand, branches),
     })
 }
 
@@ -183,9 +181,11 @@ pub(crate) fn null_if<'a>(
     if !are_comparable(left.kind, right.kind) {
         return Err(Refusal::Fault(FaultKind::Clash, first_token(at)));
     }
+    let kind = left.kind;
+    let (left, right) = boxes(alloc, left.tree, right.tree)?;
     Ok(Typed {
-        kind: left.kind,
-        tree: meaning::Expr::NullIf(boxed(alloc, left.tree)?, boxed(alloc, right.tree)?),
+        kind,
+        tree: meaning::Expr::NullIf(left, right),
     })
 }
 
@@ -205,11 +205,8 @@ pub(crate) fn compared<'a>(
     if !are_comparable(left.kind, right.kind) {
         return Err(Refusal::Fault(FaultKind::Clash, first_token(at)));
     }
-    Ok(meaning::Cond::Compare(
-        comparison,
-        boxed(alloc, left.tree)?,
-        boxed(alloc, right.tree)?,
-    ))
+    let (left, right) = boxes(alloc, left.tree, right.tree)?;
+    Ok(meaning::Cond::Compare(comparison, left, right))
 }
 
 /// The operands of BETWEEN.
@@ -230,9 +227,7 @@ pub(crate) fn between<'a>(
     if !are_comparable(operand.kind, least.kind) || !are_comparable(operand.kind, greatest.kind) {
         return Err(Refusal::Fault(FaultKind::Clash, first_token(at)));
     }
-    let operand = boxed(alloc, operand.tree)?;
-    let least = boxed(alloc, least.tree)?;
-    let greatest = boxed(alloc, greatest.tree)?;
+    let (operand, least, greatest) = three_boxes(alloc, operand.tree, least.tree, greatest.tree)?;
     with_not(
         alloc,
         negated,
@@ -256,13 +251,79 @@ pub(crate) fn among<'a>(
     if !comparable {
         return Err(Refusal::Fault(FaultKind::Clash, first_token(at)));
     }
-    let operand = boxed(alloc, operand.tree)?;
-    let values = boxed(alloc, values)?;
+    let (operand, values) = boxes(alloc, operand.tree, values)?;
     with_not(alloc, negated, meaning::Cond::In(operand, values))
 }
 
+/// A test for NULL of an operand as it was found.
+pub(crate) fn null_test<'a>(
+    alloc: Global,
+    negated: bool,
+    operand: Result<Typed, Refusal<'a>>,
+) -> Result<meaning::Cond, Refusal<'a>>
+    ensures gives { (x : Result Expression Fault) → Gives operand.entry x → GivesCondition result (x and_then (λ e. Ok (with_not negated (is_null e)))) }
+    ensures fits { (n k : ℕ) → IfOk operand.entry (λ x. Fits x.tree n k) → IfOk result (λ made. FitsCondition made (2 + n) k) }
+{
+    let operand = operand?;
+    let operand = boxed(alloc, operand.tree)?;
+    with_not(alloc, negated, meaning::Cond::IsNull(operand))
+}
+
+/// AND of two operands as they were found.
+pub(crate) fn conjunction<'a>(
+    alloc: Global,
+    left: Result<meaning::Cond, Refusal<'a>>,
+    right: Result<meaning::Cond, Refusal<'a>>,
+) -> Result<meaning::Cond, Refusal<'a>>
+    ensures gives { (x y : Result Condition Fault) → GivesCondition left.entry x → GivesCondition right.entry y → GivesCondition result (x and_then (λ c. y and_then (λ d. Ok (both c d)))) }
+    ensures fits { (n k m j : ℕ) → IfOk left.entry (λ x. FitsCondition x n k) → IfOk right.entry (λ y. FitsCondition y m j) → IfOk result (λ made. FitsCondition made (1 + (n + m)) (k + j)) }
+{
+    let (left, right) = both(alloc, left, right)?;
+    Ok(meaning::Cond::And(left, right))
+}
+
+/// OR of two operands as they were found.
+pub(crate) fn disjunction<'a>(
+    alloc: Global,
+    left: Result<meaning::Cond, Refusal<'a>>,
+    right: Result<meaning::Cond, Refusal<'a>>,
+) -> Result<meaning::Cond, Refusal<'a>>
+    ensures gives { (x y : Result Condition Fault) → GivesCondition left.entry x → GivesCondition right.entry y → GivesCondition result (x and_then (λ c. y and_then (λ d. Ok (either c d)))) }
+    ensures fits { (n k m j : ℕ) → IfOk left.entry (λ x. FitsCondition x n k) → IfOk right.entry (λ y. FitsCondition y m j) → IfOk result (λ made. FitsCondition made (1 + (n + m)) (k + j)) }
+{
+    let (left, right) = both(alloc, left, right)?;
+    Ok(meaning::Cond::Or(left, right))
+}
+
+/// NOT before an operand as it was found.
+pub(crate) fn negation<'a>(
+    alloc: Global,
+    operand: Result<meaning::Cond, Refusal<'a>>,
+) -> Result<meaning::Cond, Refusal<'a>>
+    ensures gives { (x : Result Condition Fault) → GivesCondition operand.entry x → GivesCondition result (x and_then (λ c. Ok (negation_of c))) }
+    ensures fits { (n k : ℕ) → IfOk operand.entry (λ x. FitsCondition x n k) → IfOk result (λ made. FitsCondition made (1 + n) k) }
+{
+    let operand = operand?;
+    Ok(meaning::Cond::Not(boxed(alloc, operand)?))
+}
+
+/// A test for a truth value of an operand as it was found.
+pub(crate) fn truth_test<'a>(
+    alloc: Global,
+    negated: bool,
+    operand: Result<meaning::Cond, Refusal<'a>>,
+    truth: Truth,
+) -> Result<meaning::Cond, Refusal<'a>>
+    ensures gives { (x : Result Condition Fault) → GivesCondition operand.entry x → GivesCondition result (x and_then (λ c. Ok (with_not negated (is c truth)))) }
+    ensures fits { (n k : ℕ) → IfOk operand.entry (λ x. FitsCondition x n k) → IfOk result (λ made. FitsCondition made (2 + n) k) }
+{
+    let operand = operand?;
+    let operand = boxed(alloc, operand)?;
+    with_not(alloc, negated, meaning::Cond::Is(operand, truth))
+}
+
 /// A predicate, or its negation where NOT stands in it.
-pub(crate) fn with_not<'a>(
+fn with_not<'a>(
     alloc: Global,
     negated: bool,
     cond: meaning::Cond,

@@ -12,8 +12,8 @@ use crate::branch::{
     argument, arguments_more, last_match, match_more, otherwise, value, values_more, when,
 };
 use crate::construct::{
-    among, arithmetic, between, coalesced, compared, extracted, null_if, searched_case, signed,
-    simple_case, with_not,
+    among, arithmetic, between, coalesced, compared, conjunction, disjunction, extracted, negation,
+    null_if, null_test, searched_case, signed, simple_case, truth_test,
 };
 use crate::fault::FaultKind;
 use crate::kinds::are_comparable;
@@ -21,7 +21,7 @@ use crate::leaf::{column, date, number, text};
 use crate::refusal::{Refusal, Token, first_token};
 use crate::scope::Scope;
 use crate::set_function::{applied, expect_grouping, rows_counted};
-use crate::tree::{Results, Typed, Values, boxed};
+use crate::tree::{Results, Typed, Values};
 use qw_ast::script::{Branches, Cond, Expr, Exprs, Phrase};
 use qw_scalar::expression as meaning;
 use std::alloc::Global;
@@ -116,28 +116,26 @@ pub(crate) fn condition<'a>(
             among(alloc, *negated, x, found.tree, found.comparable, operand)
         }
         Cond::IsNull(negated, operand) => {
-            let x = expression(alloc, scope, operand)?;
-            let tested = meaning::Cond::IsNull(boxed(alloc, x.tree)?);
-            with_not(alloc, *negated, tested)
+            let x = expression(alloc, scope, operand);
+            null_test(alloc, *negated, x)
         }
         Cond::And(left, right) => {
-            let x = condition(alloc, scope, left)?;
-            let y = condition(alloc, scope, right)?;
-            Ok(meaning::Cond::And(boxed(alloc, x)?, boxed(alloc, y)?))
+            let x = condition(alloc, scope, left);
+            let y = condition(alloc, scope, right);
+            conjunction(alloc, x, y)
         }
         Cond::Or(left, right) => {
-            let x = condition(alloc, scope, left)?;
-            let y = condition(alloc, scope, right)?;
-            Ok(meaning::Cond::Or(boxed(alloc, x)?, boxed(alloc, y)?))
+            let x = condition(alloc, scope, left);
+            let y = condition(alloc, scope, right);
+            disjunction(alloc, x, y)
         }
         Cond::Not(operand) => {
-            let x = condition(alloc, scope, operand)?;
-            Ok(meaning::Cond::Not(boxed(alloc, x)?))
+            let x = condition(alloc, scope, operand);
+            negation(alloc, x)
         }
         Cond::Is(negated, operand, truth) => {
-            let x = condition(alloc, scope, operand)?;
-            let tested = meaning::Cond::Is(boxed(alloc, x)?, *truth);
-            with_not(alloc, *negated, tested)
+            let x = condition(alloc, scope, operand);
+            truth_test(alloc, *negated, x, *truth)
         }
         Cond::Bracketed(operand) => condition(alloc, scope, operand),
     }

@@ -1,6 +1,6 @@
 //! Typed trees on the way, with the kinds of their values.
 
-ghost use Rattle.std.specs.Prelude.{◌≡◌, IfOk, IfErr};
+ghost use Rattle.std.specs.Prelude.{◌≡◌, ◌⊎◌, IfOk, IfErr, MatchResult, Ok, Err};
 ghost use Rattle.qw_typer.specs.declared.refusal.Refusal.TheVariants.{NoMemory};
 
 use crate::refusal::Refusal;
@@ -36,4 +36,50 @@ pub(crate) fn boxed<'a, T: Drop>(alloc: Global, value: T) -> Result<Box<T>, Refu
     ensures refused { IfErr result (λ refusal. refusal ≡ NoMemory) }
 {
     Box::new(alloc, value).map_err(|_| Refusal::NoMemory)
+}
+
+/// Two values, each in a box of its own.
+pub(crate) fn boxes<'a, T: Drop, U: Drop>(
+    alloc: Global,
+    first: T,
+    second: U,
+) -> Result<(Box<T>, Box<U>), Refusal<'a>>
+    ensures first { IfOk result (λ made. made.0.value ≡ first) }
+    ensures second { IfOk result (λ made. made.1.value ≡ second) }
+    ensures refused { IfErr result (λ refusal. refusal ≡ NoMemory) }
+{
+    let first = boxed(alloc, first)?;
+    let second = boxed(alloc, second)?;
+    Ok((first, second))
+}
+
+/// Three values, each in a box of its own.
+pub(crate) fn three_boxes<'a, T: Drop, U: Drop, V: Drop>(
+    alloc: Global,
+    first: T,
+    second: U,
+    third: V,
+) -> Result<(Box<T>, Box<U>, Box<V>), Refusal<'a>>
+    ensures first { IfOk result (λ made. made.0.value ≡ first) }
+    ensures second { IfOk result (λ made. made.1.value ≡ second) }
+    ensures third { IfOk result (λ made. made.2.value ≡ third) }
+    ensures refused { IfErr result (λ refusal. refusal ≡ NoMemory) }
+{
+    let (first, second) = boxes(alloc, first, second)?;
+    let third = boxed(alloc, third)?;
+    Ok((first, second, third))
+}
+
+/// Both of what was found, each in a box of its own, or the refusal of the first that was refused.
+pub(crate) fn both<'a, T: Drop, U: Drop>(
+    alloc: Global,
+    left: Result<T, Refusal<'a>>,
+    right: Result<U, Refusal<'a>>,
+) -> Result<(Box<T>, Box<U>), Refusal<'a>>
+    ensures found { IfOk result (λ made. (left.entry ≡ Ok made.0.value) × (right.entry ≡ Ok made.1.value)) }
+    ensures refused { IfErr result (λ refusal. (refusal ≡ NoMemory) ⊎ MatchResult left.entry (λ _. right.entry ≡ Err refusal) (λ e. e ≡ refusal)) }
+{
+    let left = left?;
+    let right = right?;
+    boxes(alloc, left, right)
 }

@@ -124,6 +124,15 @@ the_condition (expression e) = None
 unfoldable pub expression_at : Reader Clause → Reader Expression
 expression_at inner ts = inner ts >>= (λ x. the_expression x.0 >>= (λ e. Some (e, x.1)))
 
+-- an expression, and the symbol behind it
+unfoldable pub before_at : Reader Clause → List ℕ → Reader Expression
+before_at inner symbol ts = expression_at inner ts >>= (λ e. symbol_at symbol e.1 >>= (λ rest. Some (e.0, rest)))
+
+-- expressions with commas between them, in brackets: the first and the others
+unfoldable pub listing_at : Reader Clause → Reader (Expression × List Expression)
+listing_at inner ts =
+    symbol_at (codes "(") ts >>= (λ us. expression_at inner us >>= (λ e. further_at (expression_at inner) e.1 >>= (λ es. symbol_at (codes ")") es.1 >>= (λ rest. Some ((e.0, es.0), rest)))))
+
 unfoldable pub condition_at : Reader Clause → Reader Condition
 condition_at inner ts = inner ts >>= (λ x. the_condition x.0 >>= (λ c. Some (c, x.1)))
 
@@ -160,15 +169,20 @@ abbrev pub is_absent : {A : Type 0} → Option A → Bool
 is_absent None = true
 is_absent (Some x) = false
 
--- the CASE of these branches, if there are any
-abbrev pub case_with : Option Expression → List Branch → Expression → Option Expression
-case_with operand [] other = None
-case_with operand (b ∷ bs) other = Some (case_of operand (branching (b ∷ bs) other))
+-- the branches, if there are any, and the result of ELSE
+abbrev pub chain_of : List Branch → Expression → Option Branching
+chain_of [] other = None
+chain_of (b ∷ bs) other = Some (branching (b ∷ bs) other)
+
+-- what stands behind the operand of CASE
+unfoldable pub chain_at : Reader Clause → Bool → Reader Branching
+chain_at inner searched ts =
+    branches_at inner searched ts >>= (λ bs. else_at inner bs.1 >>= (λ other. chain_of bs.0 other.0 >>= (λ chain. Some (chain, other.1))))
 
 -- what stands behind CASE
 unfoldable pub case_at : Reader Clause → Reader Expression
 case_at inner ts =
-    case_operand_at inner ts >>= (λ x. branches_at inner (is_absent x.0) x.1 >>= (λ bs. else_at inner bs.1 >>= (λ other. case_with x.0 bs.0 other.0 >>= (λ e. Some (e, other.1)))))
+    case_operand_at inner ts >>= (λ x. chain_at inner (is_absent x.0) x.1 >>= (λ chain. Some (case_of x.0 chain.0, chain.1)))
 
 -- COALESCE of two arguments or more
 abbrev pub coalesce_of : Expression → List Expression → Option Expression
@@ -177,21 +191,20 @@ coalesce_of e (f ∷ es) = Some (coalesce (arguments e (f ∷ es)))
 
 -- what stands behind COALESCE
 unfoldable pub coalesce_at : Reader Clause → Reader Expression
-coalesce_at inner ts =
-    symbol_at (codes "(") ts >>= (λ us. expression_at inner us >>= (λ e. further_at (expression_at inner) e.1 >>= (λ es. symbol_at (codes ")") es.1 >>= (λ rest. coalesce_of e.0 es.0 >>= (λ c. Some (c, rest))))))
+coalesce_at inner ts = listing_at inner ts >>= (λ l. coalesce_of l.0.0 l.0.1 >>= (λ c. Some (c, l.1)))
 
 unfoldable pub null_if_at : Reader Clause → Reader Expression
 null_if_at inner ts =
-    symbol_at (codes "(") ts >>= (λ us. expression_at inner us >>= (λ a. symbol_at (codes ",") a.1 >>= (λ vs. expression_at inner vs >>= (λ b. symbol_at (codes ")") b.1 >>= (λ rest. Some (null_if a.0 b.0, rest))))))
+    symbol_at (codes "(") ts >>= (λ us. before_at inner (codes ",") us >>= (λ a. before_at inner (codes ")") a.1 >>= (λ b. Some (null_if a.0 b.0, b.1))))
 
 unfoldable pub extract_at : Reader Clause → Reader Expression
 extract_at inner ts =
-    symbol_at (codes "(") ts >>= (λ us. token_at field_of us >>= (λ field. word_at (codes "FROM") field.1 >>= (λ vs. expression_at inner vs >>= (λ e. symbol_at (codes ")") e.1 >>= (λ rest. Some (extract field.0 e.0, rest))))))
+    symbol_at (codes "(") ts >>= (λ us. token_at field_of us >>= (λ field. word_at (codes "FROM") field.1 >>= (λ vs. before_at inner (codes ")") vs >>= (λ e. Some (extract field.0 e.0, e.1)))))
 
 -- the argument of a set function, and `)`
 unfoldable pub argument_at : Reader Clause → SetFunction → Reader Expression
 argument_at inner f ts =
-    expression_at inner (behind_all ts) >>= (λ e. symbol_at (codes ")") e.1 >>= (λ rest. Some (set_function (length rest) f e.0, rest)))
+    before_at inner (codes ")") (behind_all ts) >>= (λ e. Some (set_function (length e.1) f e.0, e.1))
 
 -- what stands behind `*` of a set function, which is COUNT
 unfoldable pub rows_at : SetFunction → Reader Expression
@@ -287,8 +300,7 @@ between_at inner negated x ts =
     expression_at (sum_at inner) ts >>= (λ a. word_at (codes "AND") a.1 >>= (λ us. expression_at (sum_at inner) us >>= (λ b. Some (between negated x a.0 b.0, b.1))))
 
 unfoldable pub in_at : Reader Clause → Bool → Expression → Reader Condition
-in_at inner negated x ts =
-    symbol_at (codes "(") ts >>= (λ us. expression_at inner us >>= (λ e. further_at (expression_at inner) e.1 >>= (λ es. symbol_at (codes ")") es.1 >>= (λ rest. Some (among negated x (arguments e.0 es.0), rest)))))
+in_at inner negated x ts = listing_at inner ts >>= (λ l. Some (among negated x (arguments l.0.0 l.0.1), l.1))
 
 unfoldable pub compare_at : Reader Clause → Comparison → Expression → Reader Condition
 compare_at inner op x ts = expression_at (sum_at inner) ts >>= (λ b. Some (comparison op x b.0, b.1))

@@ -2,16 +2,36 @@
 
 ghost use Rattle.std.specs.Prelude.{◌≡◌, map, IfOk};
 ghost use Rattle.qw_ast.specs.ScriptGrammar.{arguments};
+ghost use Rattle.qw_ast.specs.Syntax.{further, last};
 ghost use Rattle.qw_ast.specs.SyntaxTree.{expression_of, expressions_of};
-ghost use Rattle.qw_parse.specs.Inner.Readers.{argument_at, coalesce_at, expression_at, extract_at, further_at, nested_at, null_if_at, rows_at, set_function_at};
+ghost use Rattle.qw_parse.specs.Inner.Readers.{argument_at, before_at, coalesce_at, expression_at, extract_at, further_at, listing_at, nested_at, null_if_at, rows_at, set_function_at};
 ghost use Rattle.qw_parse.specs.Inner.Parser.{Reads, left};
 ghost use Rattle.qw_parse.specs.Inner.Nests.{Nests};
 
 use super::parser::{Parser, Stop};
 use super::rules::Rules;
-use super::tree::{boxed, push};
+use super::tree::{boxed, boxes, push};
 use qw_ast::script::{Expr, Exprs, Phrase, SetFunction};
 use std::alloc::{AllocError, Global};
+
+/// A list of one expression.
+fn alone<'a>(alloc: Global, expression: Expr<'a>) -> Result<Exprs<'a>, AllocError>
+    ensures { IfOk result (λ list. expressions_of list ≡ last (expression_of expression.entry)) }
+{
+    Ok(Exprs::Last(boxed(alloc, expression)?))
+}
+
+/// The list with one more expression before it.
+fn with_first<'a>(
+    alloc: Global,
+    expression: Expr<'a>,
+    list: Exprs<'a>,
+) -> Result<Exprs<'a>, AllocError>
+    ensures { IfOk result (λ made. expressions_of made ≡ further (expression_of expression.entry) (expressions_of list.entry)) }
+{
+    let (expression, list) = boxes(alloc, expression, list)?;
+    Ok(Exprs::More(expression, list))
+}
 
 /// The first expression and the others, in order.
 pub(crate) fn listed<'a>(
@@ -22,15 +42,13 @@ pub(crate) fn listed<'a>(
     ensures { IfOk result (λ list. expressions_of list ≡ arguments (expression_of first.entry) (map expression_of others.entry.items)) }
 {
     let Some(last) = others.pop() else {
-        return Ok(Exprs::Last(boxed(alloc, first)?));
+        return alone(alloc, first);
     };
-    let mut list = Exprs::Last(boxed(alloc, last)?);
+    let mut list = alone(alloc, last)?;
     'others: while let Some(expression) = others.pop() {
-        let rest = boxed(alloc, list)?;
-        list = Exprs::More(boxed(alloc, expression)?, rest);
+        list = with_first(alloc, expression, list)?;
     }
-    let rest = boxed(alloc, list)?;
-    Ok(Exprs::More(boxed(alloc, first)?, rest))
+    with_first(alloc, first, list)
 }
 
 /// Reads what stands behind `*` of a set function, which is COUNT. Its place is the number of tokens behind it.
@@ -60,16 +78,38 @@ impl<'a, F: Fn(&mut Parser<'a>, usize) -> Result<Phrase<'a>, Stop>> Rules<F> {
         Ok(expressions)
     }
 
+    /// Reads an expression and the symbol behind it.
+    #[tactic(auto, unfolding(crate::specs::Inner::Readers::before_at))]
+    fn before(&self, parser: &mut Parser<'a>, symbol: &[u8]) -> Result<Box<Expr<'a>>, Stop>
+        requires { Nests self.now.levels (F.pre self.now.inner) (F.post self.now.inner) }
+        ensures { Reads (λ b. expression_of b.value) (before_at (nested_at self.now.levels) symbol.now (left parser.old)) result (left parser.new) }
+    {
+        let expression = self.expression(parser)?;
+        let expression = boxed(parser.alloc, expression)?;
+        parser.expect_symbol(symbol)?;
+        Ok(expression)
+    }
+
+    /// Reads expressions with commas between them, in brackets: the first and the others.
+    #[tactic(auto, unfolding(crate::specs::Inner::Readers::listing_at))]
+    pub(crate) fn listing(&self, parser: &mut Parser<'a>) -> Result<(Expr<'a>, Vec<Expr<'a>>), Stop>
+        requires { Nests self.now.levels (F.pre self.now.inner) (F.post self.now.inner) }
+        ensures { Reads (λ l. (expression_of l.0, map expression_of l.1.items)) (listing_at (nested_at self.now.levels) (left parser.old)) result (left parser.new) }
+    {
+        parser.expect_symbol(b"(")?;
+        let first = self.expression(parser)?;
+        let others = self.further(parser)?;
+        parser.expect_symbol(b")")?;
+        Ok((first, others))
+    }
+
     /// Reads what stands behind COALESCE.
     #[tactic(auto, unfolding(crate::specs::Inner::Readers::coalesce_at))]
     pub(crate) fn coalesce(&self, parser: &mut Parser<'a>) -> Result<Expr<'a>, Stop>
         requires { Nests self.now.levels (F.pre self.now.inner) (F.post self.now.inner) }
         ensures { Reads expression_of (coalesce_at (nested_at self.now.levels) (left parser.old)) result (left parser.new) }
     {
-        parser.expect_symbol(b"(")?;
-        let first = self.expression(parser)?;
-        let others = self.further(parser)?;
-        parser.expect_symbol(b")")?;
+        let (first, others) = self.listing(parser)?;
         if others.is_empty() {
             return Err(Stop::NotGrammar);
         }
@@ -84,12 +124,9 @@ impl<'a, F: Fn(&mut Parser<'a>, usize) -> Result<Phrase<'a>, Stop>> Rules<F> {
         ensures { Reads expression_of (null_if_at (nested_at self.now.levels) (left parser.old)) result (left parser.new) }
     {
         parser.expect_symbol(b"(")?;
-        let left = self.expression(parser)?;
-        parser.expect_symbol(b",")?;
-        let right = self.expression(parser)?;
-        parser.expect_symbol(b")")?;
-        let left = boxed(parser.alloc, left)?;
-        Ok(Expr::NullIf(left, boxed(parser.alloc, right)?))
+        let left = self.before(parser, b",")?;
+        let right = self.before(parser, b")")?;
+        Ok(Expr::NullIf(left, right))
     }
 
     /// Reads what stands behind EXTRACT.
@@ -101,9 +138,8 @@ impl<'a, F: Fn(&mut Parser<'a>, usize) -> Result<Phrase<'a>, Stop>> Rules<F> {
         parser.expect_symbol(b"(")?;
         let field = parser.field()?;
         parser.expect_word(b"FROM")?;
-        let date = self.expression(parser)?;
-        parser.expect_symbol(b")")?;
-        Ok(Expr::Extract(field, boxed(parser.alloc, date)?))
+        let date = self.before(parser, b")")?;
+        Ok(Expr::Extract(field, date))
     }
 
     /// Reads the argument of a set function and `)`. Its place is the number of tokens behind it.
@@ -113,10 +149,8 @@ impl<'a, F: Fn(&mut Parser<'a>, usize) -> Result<Phrase<'a>, Stop>> Rules<F> {
         ensures { Reads expression_of (argument_at (nested_at self.now.levels) function (left parser.old)) result (left parser.new) }
     {
         parser.word(b"ALL");
-        let argument = self.expression(parser)?;
-        parser.expect_symbol(b")")?;
+        let argument = self.before(parser, b")")?;
         let place = parser.count();
-        let argument = boxed(parser.alloc, argument)?;
         Ok(Expr::SetFunction(place, function, argument))
     }
 

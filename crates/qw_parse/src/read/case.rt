@@ -2,14 +2,15 @@
 
 ghost use Rattle.std.specs.Prelude.{◌≡◌, map, option_map, IfOk};
 ghost use Rattle.qw_ast.specs.ScriptGrammar.{branching};
+ghost use Rattle.qw_ast.specs.Syntax.{when};
 ghost use Rattle.qw_ast.specs.SyntaxTree.{branching_of, expression_of};
-ghost use Rattle.qw_parse.specs.Inner.Readers.{branch_at, branches_at, case_at, case_operand_at, else_at, nested_at};
+ghost use Rattle.qw_parse.specs.Inner.Readers.{branch_at, branches_at, case_at, case_operand_at, chain_at, else_at, nested_at};
 ghost use Rattle.qw_parse.specs.Inner.Parser.{Reads, branch_of, left};
 ghost use Rattle.qw_parse.specs.Inner.Nests.{Nests};
 
 use super::parser::{Parser, Stop};
 use super::rules::Rules;
-use super::tree::{boxed, push};
+use super::tree::{boxed, boxes, push};
 use qw_ast::script::{Branches, Expr, Phrase};
 use std::alloc::{AllocError, Global};
 
@@ -18,6 +19,19 @@ use std::alloc::{AllocError, Global};
 pub(crate) struct Branch<'a> {
     pub(crate) test: Phrase<'a>,
     pub(crate) result: Expr<'a>,
+}
+
+/// A branch before others.
+fn before<'a>(
+    alloc: Global,
+    branch: Branch<'a>,
+    others: Branches<'a>,
+) -> Result<Branches<'a>, AllocError>
+    ensures { IfOk result (λ chain. branching_of chain ≡ when (branch_of branch.entry).test (branch_of branch.entry).result (branching_of others.entry)) }
+{
+    let others = boxed(alloc, others)?;
+    let (test, result) = boxes(alloc, branch.test, branch.result)?;
+    Ok(Branches::When(test, result, others))
 }
 
 /// The branches in order, and the result of ELSE.
@@ -29,10 +43,8 @@ fn chained<'a>(
     ensures { IfOk result (λ chain. branching_of chain ≡ branching (map branch_of branches.entry.items) (expression_of otherwise.entry)) }
 {
     let mut chain = Branches::Else(boxed(alloc, otherwise)?);
-    'branches: while let Some(Branch { test, result }) = branches.pop() {
-        let rest = boxed(alloc, chain)?;
-        let result = boxed(alloc, result)?;
-        chain = Branches::When(boxed(alloc, test)?, result, rest);
+    'branches: while let Some(branch) = branches.pop() {
+        chain = before(alloc, branch, chain)?;
     }
     Ok(chain)
 }
@@ -84,15 +96,30 @@ impl<'a, F: Fn(&mut Parser<'a>, usize) -> Result<Phrase<'a>, Stop>> Rules<F> {
 
     /// Reads what stands between CASE and WHEN.
     #[tactic(auto, unfolding(crate::specs::Inner::Readers::case_operand_at))]
-    fn case_operand(&self, parser: &mut Parser<'a>) -> Result<Option<Expr<'a>>, Stop>
+    fn case_operand(&self, parser: &mut Parser<'a>) -> Result<Option<Box<Expr<'a>>>, Stop>
         requires { Nests self.now.levels (F.pre self.now.inner) (F.post self.now.inner) }
-        ensures { Reads (option_map expression_of) (case_operand_at (nested_at self.now.levels) (left parser.old)) result (left parser.new) }
+        ensures { Reads (option_map (λ b. expression_of b.value)) (case_operand_at (nested_at self.now.levels) (left parser.old)) result (left parser.new) }
     {
         if parser.is_word(b"WHEN") {
             return Ok(None);
         }
         let operand = self.expression(parser)?;
-        Ok(Some(operand))
+        Ok(Some(boxed(parser.alloc, operand)?))
+    }
+
+    /// Reads the branches, one at least, ELSE and END.
+    #[tactic(auto, unfolding(crate::specs::Inner::Readers::chain_at))]
+    fn chain(&self, parser: &mut Parser<'a>, searched: bool) -> Result<Box<Branches<'a>>, Stop>
+        requires { Nests self.now.levels (F.pre self.now.inner) (F.post self.now.inner) }
+        ensures { Reads (λ b. branching_of b.value) (chain_at (nested_at self.now.levels) searched (left parser.old)) result (left parser.new) }
+    {
+        let branches = self.branches(parser, searched)?;
+        let otherwise = self.otherwise(parser)?;
+        if branches.is_empty() {
+            return Err(Stop::NotGrammar);
+        }
+        let chain = chained(parser.alloc, branches, otherwise)?;
+        Ok(boxed(parser.alloc, chain)?)
     }
 
     /// Reads what stands behind CASE.
@@ -102,15 +129,9 @@ impl<'a, F: Fn(&mut Parser<'a>, usize) -> Result<Phrase<'a>, Stop>> Rules<F> {
         ensures { Reads expression_of (case_at (nested_at self.now.levels) (left parser.old)) result (left parser.new) }
     {
         let operand = self.case_operand(parser)?;
-        let branches = self.branches(parser, operand.is_none())?;
-        let otherwise = self.otherwise(parser)?;
-        if branches.is_empty() {
-            return Err(Stop::NotGrammar);
-        }
-        let chain = chained(parser.alloc, branches, otherwise)?;
-        let chain = boxed(parser.alloc, chain)?;
+        let chain = self.chain(parser, operand.is_none())?;
         match operand {
-            Some(operand) => Ok(Expr::Match(boxed(parser.alloc, operand)?, chain)),
+            Some(operand) => Ok(Expr::Match(operand, chain)),
             None => Ok(Expr::Case(chain)),
         }
     }

@@ -10,7 +10,7 @@ ghost use Rattle.qw_parse.specs.Inner.Nests.{Nests};
 use super::call::listed;
 use super::parser::{Parser, Stop};
 use super::rules::Rules;
-use super::tree::{boxed, the_expression};
+use super::tree::{as_phrase, boxed, boxes, the_expression};
 use qw_ast::script::{Cond, Expr, Phrase};
 use qw_scalar::comparison::Comparison;
 
@@ -41,8 +41,7 @@ fn like<'a>(parser: &mut Parser<'a>, negated: bool, operand: Expr<'a>) -> Result
     ensures { Reads condition_of (like_at negated (expression_of operand.entry) (left parser.old)) result (left parser.new) }
 {
     let pattern = parser.string().ok_or(Stop::NotGrammar)?;
-    let operand = boxed(parser.alloc, operand)?;
-    let pattern = boxed(parser.alloc, Expr::Text(pattern))?;
+    let (operand, pattern) = boxes(parser.alloc, operand, Expr::Text(pattern))?;
     Ok(Cond::Compare(likeness(negated), operand, pattern))
 }
 
@@ -62,12 +61,13 @@ fn truth_test<'a>(parser: &mut Parser<'a>, operand: Cond<'a>) -> Result<Cond<'a>
 impl<'a, F: Fn(&mut Parser<'a>, usize) -> Result<Phrase<'a>, Stop>> Rules<F> {
     /// Reads a sum that is an expression.
     #[tactic(auto, unfolding(crate::specs::Inner::Readers::expression_at))]
-    fn operand(&self, parser: &mut Parser<'a>) -> Result<Expr<'a>, Stop>
+    fn operand(&self, parser: &mut Parser<'a>) -> Result<Box<Expr<'a>>, Stop>
         requires { Nests self.now.levels (F.pre self.now.inner) (F.post self.now.inner) }
-        ensures { Reads expression_of (expression_at (sum_at (nested_at self.now.levels)) (left parser.old)) result (left parser.new) }
+        ensures { Reads (λ b. expression_of b.value) (expression_at (sum_at (nested_at self.now.levels)) (left parser.old)) result (left parser.new) }
     {
         let phrase = self.sum(parser)?;
-        the_expression(phrase)
+        let expression = the_expression(phrase)?;
+        Ok(boxed(parser.alloc, expression)?)
     }
 
     /// Reads what stands behind `operand comparison`.
@@ -81,9 +81,9 @@ impl<'a, F: Fn(&mut Parser<'a>, usize) -> Result<Phrase<'a>, Stop>> Rules<F> {
         requires { Nests self.now.levels (F.pre self.now.inner) (F.post self.now.inner) }
         ensures { Reads condition_of (compare_at (nested_at self.now.levels) comparison (expression_of operand.entry) (left parser.old)) result (left parser.new) }
     {
-        let right = self.operand(parser)?;
         let left = boxed(parser.alloc, operand)?;
-        Ok(Cond::Compare(comparison, left, boxed(parser.alloc, right)?))
+        let right = self.operand(parser)?;
+        Ok(Cond::Compare(comparison, left, right))
     }
 
     /// Reads what stands behind `operand [NOT] BETWEEN`.
@@ -97,12 +97,10 @@ impl<'a, F: Fn(&mut Parser<'a>, usize) -> Result<Phrase<'a>, Stop>> Rules<F> {
         requires { Nests self.now.levels (F.pre self.now.inner) (F.post self.now.inner) }
         ensures { Reads condition_of (between_at (nested_at self.now.levels) negated (expression_of operand.entry) (left parser.old)) result (left parser.new) }
     {
+        let operand = boxed(parser.alloc, operand)?;
         let least = self.operand(parser)?;
         parser.expect_word(b"AND")?;
         let greatest = self.operand(parser)?;
-        let operand = boxed(parser.alloc, operand)?;
-        let least = boxed(parser.alloc, least)?;
-        let greatest = boxed(parser.alloc, greatest)?;
         Ok(Cond::Between(negated, operand, least, greatest))
     }
 
@@ -117,11 +115,8 @@ impl<'a, F: Fn(&mut Parser<'a>, usize) -> Result<Phrase<'a>, Stop>> Rules<F> {
         requires { Nests self.now.levels (F.pre self.now.inner) (F.post self.now.inner) }
         ensures { Reads condition_of (in_at (nested_at self.now.levels) negated (expression_of operand.entry) (left parser.old)) result (left parser.new) }
     {
-        parser.expect_symbol(b"(")?;
-        let first = self.expression(parser)?;
-        let others = self.further(parser)?;
-        parser.expect_symbol(b")")?;
         let operand = boxed(parser.alloc, operand)?;
+        let (first, others) = self.listing(parser)?;
         let values = listed(parser.alloc, first, others)?;
         Ok(Cond::In(negated, operand, boxed(parser.alloc, values)?))
     }
@@ -133,25 +128,20 @@ impl<'a, F: Fn(&mut Parser<'a>, usize) -> Result<Phrase<'a>, Stop>> Rules<F> {
         ensures { Reads clause_of (tail_at (nested_at self.now.levels) (expression_of operand.entry) (left parser.old)) result (left parser.new) }
     {
         if let Some(comparison) = parser.comparison() {
-            let condition = self.compare(parser, comparison, operand)?;
-            return Ok(Phrase::Condition(condition));
+            return as_phrase(self.compare(parser, comparison, operand));
         }
         if parser.word(b"IS") {
-            let condition = null_test(parser, operand)?;
-            return Ok(Phrase::Condition(condition));
+            return as_phrase(null_test(parser, operand));
         }
         let negated = parser.not();
         if parser.word(b"BETWEEN") {
-            let condition = self.between(parser, negated, operand)?;
-            return Ok(Phrase::Condition(condition));
+            return as_phrase(self.between(parser, negated, operand));
         }
         if parser.word(b"IN") {
-            let condition = self.among(parser, negated, operand)?;
-            return Ok(Phrase::Condition(condition));
+            return as_phrase(self.among(parser, negated, operand));
         }
         if parser.word(b"LIKE") {
-            let condition = like(parser, negated, operand)?;
-            return Ok(Phrase::Condition(condition));
+            return as_phrase(like(parser, negated, operand));
         }
         if negated {
             return Err(Stop::NotGrammar);

@@ -1,10 +1,12 @@
 //! Trees of a query, put together from their parts.
 
-ghost use Rattle.std.specs.Prelude.{◌≡◌, ◌≢◌, ◌⊎◌, ◌++◌, ◌∷◌, [], Some, Ok, Err, IfOk, IfErr};
+ghost use Rattle.std.specs.Prelude.{◌≡◌, ◌≢◌, ◌⊎◌, ◌++◌, ◌∷◌, [], List, Option, Some, Ok, Err, IfOk, IfErr};
+ghost use Rattle.qw_ast.specs.Syntax.{Condition};
+ghost use Rattle.qw_token.specs.Token.{Lexeme};
 ghost use Rattle.qw_parse.specs.declared.read.parser.Stop.TheVariants.{NoMemory};
 ghost use Rattle.qw_ast.specs.SyntaxTree.{clause_of, condition_of, expression_of};
-ghost use Rattle.qw_parse.specs.Inner.Readers.{in_brackets, join_and, join_arithmetic, join_or, the_condition, the_expression};
-ghost use Rattle.qw_parse.specs.Inner.Parser.{Finds};
+ghost use Rattle.qw_parse.specs.Inner.Readers.{condition_clause, in_brackets, join_and, join_arithmetic, join_or, the_condition, the_expression};
+ghost use Rattle.qw_parse.specs.Inner.Parser.{Finds, Reads};
 
 use super::parser::Stop;
 use qw_ast::script::{Cond, Expr, Phrase};
@@ -16,6 +18,19 @@ pub(crate) fn boxed<T: Drop>(alloc: Global, value: T) -> Result<Box<T>, AllocErr
     ensures { IfOk result (λ b. b.value ≡ value) }
 {
     Ok(Box::new(alloc, value)?)
+}
+
+/// Both values on the heap.
+pub(crate) fn boxes<T: Drop, U: Drop>(
+    alloc: Global,
+    left: T,
+    right: U,
+) -> Result<(Box<T>, Box<U>), AllocError>
+    ensures { IfOk result (λ p. (p.0.value ≡ left) × (p.1.value ≡ right)) }
+{
+    let left = boxed(alloc, left)?;
+    let right = boxed(alloc, right)?;
+    Ok((left, right))
 }
 
 /// Both of what was found, each on the heap, or what stopped the first that was not.
@@ -70,6 +85,14 @@ pub(crate) fn the_condition<'a>(phrase: Phrase<'a>) -> Result<Cond<'a>, Stop>
     }
 }
 
+/// What was read as a condition, as a phrase.
+#[tactic(auto, unfolding(crate::specs::Inner::Readers::condition_clause))]
+pub(crate) fn as_phrase<'a>(found: Result<Cond<'a>, Stop>) -> Result<Phrase<'a>, Stop>
+    ensures { (o : Option (Condition × List Lexeme)) (rest : List Lexeme) → Reads condition_of o found.entry rest → Reads clause_of (condition_clause o) result rest }
+{
+    Ok(Phrase::Condition(found?))
+}
+
 /// What brackets round the phrase are.
 pub(crate) fn in_brackets<'a>(alloc: Global, phrase: Phrase<'a>) -> Result<Phrase<'a>, Stop>
     ensures { Finds clause_of (Some (in_brackets (clause_of phrase.entry))) result }
@@ -92,9 +115,7 @@ pub(crate) fn arithmetic<'a>(
 ) -> Result<Phrase<'a>, Stop>
     ensures { Finds clause_of (join_arithmetic operator (clause_of left.entry) (clause_of right.entry)) result }
 {
-    let left = the_expression(left)?;
-    let right = the_expression(right)?;
-    let (left, right) = (boxed(alloc, left)?, boxed(alloc, right)?);
+    let (left, right) = both(alloc, the_expression(left), the_expression(right))?;
     Ok(Phrase::Expression(Expr::Arithmetic(operator, left, right)))
 }
 

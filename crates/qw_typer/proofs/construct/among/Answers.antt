@@ -15,5 +15,5 @@ returns-then-not-comparable-clause-gives c =
 pub returns-clause-gives : goal.returns-clause-gives
 returns-clause-gives c =
     among_given (first_token (syntax.expression_of c.args.at.now)) c.args.negated c.args.comparable (expression_of c.args.operand.tree) (expression_of c.in_ok-operand.operand.value)
-    (expressions_of c.args.values) (expressions_of c.in_ok-values.values.value) c.with_not.result c.if-not-comparable.false c.requires.comparable
-    (ap expression_of c.in_ok-operand.ensures.same) (ap expressions_of c.in_ok-values.ensures.same) c.with_not.ensures.gives
+    (expressions_of c.args.values) (expressions_of c.in_ok-operand.values.value) c.with_not.result c.if-not-comparable.false c.requires.comparable
+    (ap expression_of c.in_ok-operand.ensures.first) (ap expressions_of c.in_ok-operand.ensures.second) c.with_not.ensures.gives

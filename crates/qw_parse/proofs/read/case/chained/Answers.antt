@@ -1,4 +1,4 @@
-use Rattle.std.proofs.Common.{map, ◌∙◌}
+use Rattle.std.proofs.Common.{map, refl, ◌∙◌}
 use Rattle.qw_ast.specs.SyntaxTree.{branching_of, expression_of}
 use Rattle.qw_parse.specs.Inner.Parser.{branch_of}
 use Rattle.qw_parse.proofs.ReadLemmas.{chain_start, chaining_on}
@@ -9,6 +9,6 @@ branches-init c = rw c.in_ok-boxed.ensures (chain_start (map branch_of c.args.br
 
 pub branches-preserved : goal.branches-preserved
 branches-preserved c =
-    rw c.in_ok-rest.ensures
-    (chaining_on c.branches.branches.items c.pop.new.self.items c.in-Some.field-0 c.in_ok-boxed-2.field-0.value c.in_ok-result.result.value (branching_of c.branches.chain) c.in-Some.ensures.items c.in_ok-boxed-2.ensures c.in_ok-result.ensures
+    rw c.in_ok-chain.ensures
+    (chaining_on c.branches.branches.items c.pop.new.self.items c.in-Some.branch c.in-Some.branch.test c.in-Some.branch.result (branching_of c.branches.chain) c.in-Some.ensures.items refl refl
     ∙ c.branches.invariant)
