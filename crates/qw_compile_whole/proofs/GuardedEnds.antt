@@ -170,7 +170,7 @@ module _ (layout : Layout) (tables : List (List (List Val))) (limit others : ℕ
 
       -- ---- where they are many
       module _ (more : top ≤ length (rows_met tables stoods gathering)) (told : (raised : ℕ) → Tells (fed_over tables stoods gathering).codes raised → Told raised) (S : ℕ → Type 0) (stops : S 1) where
-        many_ends : EndsOrTakes (2 + top) (2 + (G * N + 5)) Nowhere Nowhere Never Told S (meaning most fuel (counted_block top z T (length building) gathers) t)
+        many_ends : EndsOrTakes top (2 + (G * N + 5)) Nowhere Nowhere Never Told S (meaning most fuel (counted_block top z T (length building) gathers) t)
         many_ends =
             let none : top - length rows ≡ 0 = omega (arith, more) in
             set_then Nowhere Nowhere Never Told S most fuel z top top (G * N + 5) (seq (build_block T (length building) gathers) (stop_at (Some z))) t room_z
@@ -256,9 +256,9 @@ module _ (layout : Layout) (tables : List (List (List Val))) (limit others : ℕ
           let r = b.gathered stoods are in
           (omega arith, record { s0 = s0; ground = ground; stoods = stoods; are = are; stood_is = stood_is; source = sources gathering r.table_is r.has_column; between = between }))
 
-      onward : (t : LowState) → Fronted t → EndsOrTakes (2 + top) (2 + (G * N + 5)) Post Other Never Told S (meaning most fuel later t)
+      onward : (t : LowState) → Fronted t → EndsOrTakes top (2 + (G * N + 5)) Post Other Never Told S (meaning most fuel later t)
       onward t h =
-          never_then (2 + top) (2 + (G * N + 5)) Post Other Told S (meaning most fuel (counted_block top z T (length building) gathers) t) (meaning most fuel rest)
+          never_then top (2 + (G * N + 5)) Post Other Told S (meaning most fuel (counted_block top z T (length building) gathers) t) (meaning most fuel rest)
           (many_ends h.s0 h.ground h.stoods h.are h.stood_is h.source (b.budget (length building)) (b.gathered h.stoods h.are) t h.between (more h.stoods h.are) (b.told_gathered h.stoods h.are) S stops)
 
       pub many_whole : EndsOrTakes top (size (seq (space_block base) (seq leads (seq sets (seq (builds_block T 0 builds) (seq (counted_block top z T (length building) gathers) rest))))) * N) Post Other Never Told S
@@ -267,7 +267,7 @@ module _ (layout : Layout) (tables : List (List (List Val))) (limit others : ℕ
           let whole : Statement = seq (space_block base) (seq leads (seq sets (seq (builds_block T 0 builds) (seq (counted_block top z T (length building) gathers) rest)))) in
           let a : ℕ = 7 + (size leads + size sets) + 7 in
           let Q : ℕ = size rest in
-          or_takes_more Post Other Never Told S top (2 + top) ((7 + (size leads + (size sets + (B * N + 0)))) + (2 + (G * N + 5))) (size whole * N) (meaning most fuel whole first) (omega arith)
+          or_takes_more Post Other Never Told S top top ((7 + (size leads + (size sets + (B * N + 0)))) + (2 + (G * N + 5))) (size whole * N) (meaning most fuel whole first) (omega arith)
           (omega (arith, add-mul a (B + (G + Q)) N, add-mul B (G + Q) N, add-mul G Q N, at_least a N some))
-          (subst (λ (out : Outcome). EndsOrTakes (2 + top) ((7 + (size leads + (size sets + (B * N + 0)))) + (2 + (G * N + 5))) Post Other Never Told S out) (sym (four_apart most fuel (space_block base) leads sets (builds_block T 0 builds) later first))
-          (or_takes_then Post Other Never Told S most fuel (2 + top) (7 + (size leads + (size sets + (B * N + 0)))) (2 + (G * N + 5)) Fronted front later first fronted onward))
+          (subst (λ (out : Outcome). EndsOrTakes top ((7 + (size leads + (size sets + (B * N + 0)))) + (2 + (G * N + 5))) Post Other Never Told S out) (sym (four_apart most fuel (space_block base) leads sets (builds_block T 0 builds) later first))
+          (or_takes_then Post Other Never Told S most fuel top (7 + (size leads + (size sets + (B * N + 0)))) (2 + (G * N + 5)) Fronted front later first fronted onward))

@@ -242,7 +242,7 @@ module _ (layout : Layout) (tables : List (List (List Val))) (limit others : ℕ
 
       -- ---- so many are counted, and the module stops
       module _ (most_come : top ≤ length (rows_met tables h.stoods taking)) where
-        many_guarded : EndsOrTakes (2 + top) (2 + (W * N + 5)) Nowhere Nowhere Never Told IsSomeCode (meaning most fuel guarded t)
+        many_guarded : EndsOrTakes top (2 + (W * N + 5)) Nowhere Nowhere Never Told IsSomeCode (meaning most fuel guarded t)
         many_guarded =
             set_then Nowhere Nowhere Never Told IsSomeCode most fuel z top top (W * N + 5) (seq scan (stop_at (Some z))) t room_z
             (counted_then Nowhere Nowhere Never Told IsSomeCode most fuel z top (W * N) 5 Mid scan (stop_at (Some z)) put counts counted holds scan_ends
@@ -253,8 +253,8 @@ module _ (layout : Layout) (tables : List (List (List Val))) (limit others : ℕ
 
         many_ends : EndsOrTakes top (2 + (W * N + 5) + (6 + (size one * N + 12))) Answered (Settled layout tables) Never Told IsSomeCode (meaning most fuel (seq guarded behind) t)
         many_ends =
-            or_takes_more Answered (Settled layout tables) Never Told IsSomeCode top (2 + top) (2 + (W * N + 5)) (2 + (W * N + 5) + (6 + (size one * N + 12))) (meaning most fuel (seq guarded behind) t) (omega arith) (omega arith)
-            (never_then (2 + top) (2 + (W * N + 5)) Answered (Settled layout tables) Told IsSomeCode (meaning most fuel guarded t) (meaning most fuel behind) many_guarded)
+            or_takes_more Answered (Settled layout tables) Never Told IsSomeCode top top (2 + (W * N + 5)) (2 + (W * N + 5) + (6 + (size one * N + 12))) (meaning most fuel (seq guarded behind) t) (omega arith) (omega arith)
+            (never_then top (2 + (W * N + 5)) Answered (Settled layout tables) Told IsSomeCode (meaning most fuel guarded t) (meaning most fuel behind) many_guarded)
 
       guarded_ends : EndsOrTakes top (2 + (W * N + 5) + (6 + (size one * N + 12))) Answered (Settled layout tables) Never Told IsSomeCode (meaning most fuel (seq guarded behind) t)
       guarded_ends = ⊎_elim (λ few. inl (few_ends few)) (λ most_come. many_ends most_come) (cases_lt (length (rows_met tables h.stoods taking)) top)

@@ -36,12 +36,12 @@ pub came_to : (most pages : ℕ) (P : LowState → Type 0) (R : ℕ → Type 0) 
     (k : ℕ) (b : Moment) → OpenRun k start b → b.state ≡ Returned → CameTo P b
 came_to most pages P R (Completed n t) start runs h k b run at =
     let over : IsOver b.state = subst IsOver (sym at) tt in
-    let end = runs.behaves.ends k b run over in
+    let end = runs.ends.behaves.ends k b run over in
     record { state = t; stands = (end.1 end.0).1; promised = h.1 }
 came_to most pages P R (Exited n t) start runs h k b run at = absurd h.1
 came_to most pages P R (Stopped code n t) start runs h k b run at =
     let over : IsOver b.state = subst IsOver (sym at) tt in
-    let end = runs.behaves.ends k b run over in
+    let end = runs.ends.behaves.ends k b run over in
     absurd (raised-returned (sym (end.1 end.0).0 ∙ at))
   where
     raised-returned : Raised code ≡ Returned → ⊥
@@ -104,10 +104,13 @@ module _ (out : meant.Outcome) (layout : Layout) (most pages left descriptor : �
     ends = λ k b run over. let end = h.ends k b run over in (omega (arith, end.0), λ within. answers b (end.1 end.0) (run-keeps k start b run));
   }
 
+  within : (n count : ℕ) → count ≤ n → n ≤ most → count ≤ most
+  within n count less le = omega (arith, less, le)
+
   by_outcome : (low : Outcome) → RunsAs low pages start → Ends most P Never (IsTold out) low → Tells pages low → Refuses None low → BehavesWithin most pages left (AnswersAt out layout most pages descriptor) start
-  by_outcome (Completed n t) runs h tells refuses' = answered n (IsOutcome (Completed n t)) h.0 (λ b is keeps. return-answers t b is.0 is.1 h.1 keeps) runs.behaves
+  by_outcome (Completed n t) runs h tells refuses' = answered runs.count (IsOutcome (Completed n t)) (within n runs.count runs.most h.0) (λ b is keeps. return-answers t b is.0 is.1 h.1 keeps) runs.ends.behaves
   by_outcome (Exited n t) runs h tells refuses' = absurd h.1
-  by_outcome (Stopped code n t) runs h tells refuses' = answered n (IsOutcome (Stopped code n t)) h.0 (λ b is keeps. by_code code n t b is h.1 tells refuses') runs.behaves
+  by_outcome (Stopped code n t) runs h tells refuses' = answered runs.count (IsOutcome (Stopped code n t)) (within n runs.count runs.most h.0) (λ b is keeps. by_code code n t b is h.1 tells refuses') runs.ends.behaves
   by_outcome Wrong runs h tells refuses' = absurd h
   by_outcome Unfinished runs h tells refuses' = absurd h
 

@@ -109,7 +109,7 @@ module _ (n pages : ℕ) (layout : Layout) (tables : List (List (List Val))) (R 
     in_order h.1.found,
     λ descriptor start first_page runs k b run at.
         let over : IsOver b.state = subst IsOver (sym at) tt in
-        let end = runs.behaves.ends k b run over in
+        let end = runs.ends.behaves.ends k b run over in
         there layout tables small descriptor start first_page t b.world b.memory h.1 (end.1 end.0).1 (run-keeps k start b run),
   )
   left_there (Exited m t) h = absurd h.1
@@ -117,7 +117,7 @@ module _ (n pages : ℕ) (layout : Layout) (tables : List (List (List Val))) (R 
     [],
     λ descriptor start first_page runs k b run at.
         let over : IsOver b.state = subst IsOver (sym at) tt in
-        let end = runs.behaves.ends k b run over in
+        let end = runs.ends.behaves.ends k b run over in
         absurd (raised-returned code (sym (end.1 end.0).0 ∙ at)),
   )
   left_there Wrong h = absurd h
@@ -143,10 +143,10 @@ module _ (n pages : ℕ) (layout : Layout) (tables : List (List (List Val))) (R 
     }
 
     job_runs : (out : Outcome) → RunsAs out pages start → Ends n (Settled layout tables) Never R out → Behaves most_run Leaves start
-    job_runs (Completed k t) runs h = job-behaves k (IsOutcome (Completed k t))
-        (λ b is keeps. returned-leaves b (in_order h.1.found) is.0 (there layout tables small descriptor start first_page t b.world b.memory h.1 is.1 keeps)) runs.behaves
+    job_runs (Completed k t) runs h = job-behaves runs.count (IsOutcome (Completed k t))
+        (λ b is keeps. returned-leaves b (in_order h.1.found) is.0 (there layout tables small descriptor start first_page t b.world b.memory h.1 is.1 keeps)) runs.ends.behaves
     job_runs (Exited k t) runs h = absurd h.1
-    job_runs (Stopped code k t) runs h = job-behaves k (IsOutcome (Stopped code k t)) (λ b is keeps. raised-leaves code b is.0) runs.behaves
+    job_runs (Stopped code k t) runs h = job-behaves runs.count (IsOutcome (Stopped code k t)) (λ b is keeps. raised-leaves code b is.0) runs.ends.behaves
     job_runs Wrong runs h = absurd h
     job_runs Unfinished runs h = absurd h
 

@@ -151,4 +151,4 @@ pub record Collects (directory : ℕ) (key : List Field) (aggregates : List Aggr
       1 + text_octets (key_of (length key) row) + units * (1 + text_octets (key_of (length key) row)) + chosen ≤ more → more ≤ fuel → units < fuel → free + 24 ≤ length s.locals →
       FeedsTo (groups_sink (length key) (HasGroup (Told text) key aggregates) (group_size key aggregates) k o directory u before (λ xs. IsTrue (may xs)) beginnings) most fuel more (Below free) Any (one_row row) a s
   pub typed : (types : List ValType) → AreDeclared types key → DeclareArguments types aggregates → slice_get types 1 ≡ Some I32 → slice_get types 2 ≡ Some I32 → slice_get types directory ≡ Some I32 → Declares types free group_types → IsTyped types a
-  pub short : size a ≤ 79 + 188 * length key + 100 * length aggregates
+  pub short : size a ≤ 80 + 188 * length key + 100 * length aggregates

@@ -109,7 +109,7 @@ areas_short e at g (x ∷ aggregates) a is =
     let rest = areas_short e (at + 32) g aggregates is.1 is.4 in
     subst (λ (b : Statement). size b ≤ 100 * suc (length aggregates)) (sym is.2) (omega (arith, one, rest))
 
-entered_short : (d : ℕ) (key : List Field) (aggregates : List Aggregate) (free : ℕ) (a : Statement) → Groups d key aggregates free a → size a ≤ 79 + 188 * length key + 100 * length aggregates
+entered_short : (d : ℕ) (key : List Field) (aggregates : List Aggregate) (free : ℕ) (a : Statement) → Groups d key aggregates free a → size a ≤ 80 + 188 * length key + 100 * length aggregates
 entered_short d key aggregates free a groups =
     let told : Test = record { out = local (free + 6); block = groups.test } in
     let fill : Statement = cells_block 24 (joins.sources_of key) in
@@ -118,8 +118,8 @@ entered_short d key aggregates free a groups =
     let test = groups.tests.short in
     let some = cells_size key 24 in
     let update = areas_short (free + 4) (cell_offset (length key)) (free + 15) aggregates groups.update groups.updates in
-    let whole : size (seq groups.find group) ≡ size groups.find + ((2 + (5 + (5 + (size groups.test + (2 + (4 + 3)))))) + ((2 + (0 + ((18 + (size fill + 21)) + 4))) + size groups.update)) = omega arith in
-    subst (λ (b : Statement). size b ≤ 79 + 188 * length key + 100 * length aggregates) (sym groups.is) (omega (arith, few, test, some, update, whole))
+    let whole : size (seq groups.find group) ≡ size groups.find + ((2 + (5 + (5 + (size groups.test + (2 + (4 + 3)))))) + ((2 + (0 + ((19 + (size fill + 21)) + 4))) + size groups.update)) = omega arith in
+    subst (λ (b : Statement). size b ≤ 80 + 188 * length key + 100 * length aggregates) (sym groups.is) (omega (arith, few, test, some, update, whole))
 
 -- seven instructions more with a guard
 guarded_short : (guard : Option ℕ) (a : Statement) → size (guarded_by guard a) ≤ size a + 7

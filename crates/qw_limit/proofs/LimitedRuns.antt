@@ -30,7 +30,7 @@ module _ (limit z : ℕ) (small : limit < 2 ^ 64) (sink : Sink) (most fuel N n :
       ((code : ℕ) → Tells flow.codes code → R code) →
       ((t : LowState) → length flow.rows ≤ limit → flow.codes ≡ [] → Keeps Old sink.Spared (record s { locals = slice_set s.locals z (Number limit) }) t → After t → sink.Has flow.rows t → Ends n Post Never R (meaning most fuel rest t)) →
       ((t : LowState) → limit < length flow.rows → flow.codes ≡ [] → Keeps Old sink.Spared (record s { locals = slice_set s.locals z (Number limit) }) t → After t → sink.Has (take limit flow.rows) t → Ends n Other Never S (meaning most fuel rest t)) →
-      EndsOrTakes (2 + limit) (2 + (size feeding * N + n)) Post Other Never R S (meaning most fuel (seq (assign z (constant_of (const.I64 limit))) (seq feeding rest)) s)
+      EndsOrTakes limit (2 + (size feeding * N + n)) Post Other Never R S (meaning most fuel (seq (assign z (constant_of (const.I64 limit))) (seq feeding rest)) s)
   limited_run has may fed told full cut =
       let Mid : LowState → Type 0 = FedTo (limit_of limit z sink) Old After flow [] from in
       let left = slice_get-set_same s.locals z (Number limit) room in

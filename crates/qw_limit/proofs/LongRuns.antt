@@ -1,6 +1,6 @@
 -- Runs that end as they should, or are long: how they are put together from their parts. Of two statements, of which the first counts down, either all that
--- came was counted, or the local is 0 between them, and then the run takes as many instructions as the local held at first.
-use Rattle.std.proofs.Common.{◌≡◌, ℕ, ◌+◌, ◌^◌, ◌<◌, ◌≤◌, ◌⊎◌, inl, inr, length, Some, slice_get, slice_set, sym, ap, ◌∙◌, ⊎_elim, arith}
+-- came was counted, or the local is 0 between them, and then the run takes as many instructions as the local held at first, since each turn of the count is two at least.
+use Rattle.std.proofs.Common.{◌≡◌, ℕ, ◌+◌, ◌*◌, ◌^◌, ◌<◌, ◌≤◌, ◌⊎◌, inl, inr, length, Some, slice_get, slice_set, sym, ap, ◌∙◌, ⊎_elim, arith}
 use Rattle.std.proofs.lemmas.Bool.{lt-ltb}
 use Rattle.std.proofs.lemmas.Option.{same_Some}
 use Rattle.qw_module.specs.declared.instruction.Const.TheVariants as const
@@ -13,7 +13,7 @@ use Rattle.qw_limit.specs.Counting.{CountsDown, EndsOrTakes, TakesAtLeast}
 use Rattle.qw_limit.proofs.Lowered.{HasLowered, lowered}
 
 -- ---- how long it takes
-takes-counting : (least n : ℕ) (out : Outcome) → TakesAtLeast least out → TakesAtLeast (n + least) (counting n out)
+takes-counting : (least n : ℕ) (out : Outcome) → TakesAtLeast least out → TakesAtLeast least (counting n out)
 takes-counting least n (Completed m t) h = omega (arith, h)
 takes-counting least n (Exited m t) h = omega (arith, h)
 takes-counting least n (Stopped code m t) h = omega (arith, h)
@@ -28,7 +28,7 @@ takes-fewer least more Wrong le h = h
 takes-fewer least more Unfinished le h = h
 
 -- what follows so many instructions, and ends
-takes-behind : (least n most : ℕ) (P X : LowState → Type 0) (R : ℕ → Type 0) (out : Outcome) → least ≤ n → Ends most P X R out → TakesAtLeast least (counting n out)
+takes-behind : (least n most : ℕ) (P X : LowState → Type 0) (R : ℕ → Type 0) (out : Outcome) → 2 * least ≤ n → Ends most P X R out → TakesAtLeast least (counting n out)
 takes-behind least n most P X R (Completed m t) le h = omega (arith, le)
 takes-behind least n most P X R (Exited m t) le h = omega (arith, le)
 takes-behind least n most P X R (Stopped code m t) le h = omega (arith, le)
@@ -53,13 +53,12 @@ module _ (Post Other X : LowState → Type 0) (R S : ℕ → Type 0) where
   or_takes_more least more m n out le le' (inr h) = inr (Ends-weaker m n Other Other X X S S out le' (λ t p. p) (λ t x. x) (λ code r. r) h.0, takes-fewer least more out le h.1)
 
   -- instructions before it
-  pub or_takes_counting : (least k l m : ℕ) (out : Outcome) → k ≤ l → EndsOrTakes least m Post Other X R S out → EndsOrTakes (k + least) (l + m) Post Other X R S (counting k out)
+  pub or_takes_counting : (least k l m : ℕ) (out : Outcome) → k ≤ l → EndsOrTakes least m Post Other X R S out → EndsOrTakes least (l + m) Post Other X R S (counting k out)
   or_takes_counting least k l m out le (inl h) = inl (Ends-counting Post X R k l m out le h)
   or_takes_counting least k l m out le (inr h) = inr (Ends-counting Other X S k l m out le h.0, takes-counting least k out h.1)
 
   behind-all : (least m n : ℕ) (M : LowState → Type 0) (out : Outcome) (f : LowState → Outcome) → Ends m M X R out → ((t : LowState) → M t → Either least n (f t)) → Either least (m + n) (and_then out f)
-  behind-all least m n M (Completed k s) f first second =
-      or_takes_more least (k + least) (m + n) (m + n) (counting k (f s)) (omega arith) (omega arith) (or_takes_counting least k m n (f s) first.0 (second s first.1))
+  behind-all least m n M (Completed k s) f first second = or_takes_counting least k m n (f s) first.0 (second s first.1)
   behind-all least m n M (Exited k s) f first second = inl (omega (arith, first.0), first.1)
   behind-all least m n M (Stopped code k s) f first second = inl (omega (arith, first.0), first.1)
   behind-all least m n M Wrong f first second = absurd first
@@ -72,7 +71,7 @@ module _ (Post Other X : LowState → Type 0) (R S : ℕ → Type 0) where
       (λ all. inl (Ends-counting Post X R k m n (f s) first.0 all))
       (λ cut.
       let none : low.0 ≡ 0 = number_is low.0 0 (sym low.1 ∙ cut.0) in
-      let long : v ≤ k = omega (arith, none, low.3) in
+      let long : 2 * v ≤ k = omega (arith, none, low.3) in
       inr (Ends-counting Other X S k m n (f s) first.0 cut.1, takes-behind v k n Other X S (f s) long cut.1))
       (second s first.1)
   behind-counted z v m n M (Exited k s) f low first second = inl (omega (arith, first.0), first.1)
@@ -93,8 +92,8 @@ module _ (Post Other X : LowState → Type 0) (R S : ℕ → Type 0) where
     counted_then z v m n M a b s counts small is first second =
         behind-counted z v m n M (meaning most fuel a s) (meaning most fuel b) (lowered z most fuel a v s counts small is) first second
 
-    -- the local is set, which takes two instructions
+    -- the local is set, which counts two
     pub set_then : (z v least m : ℕ) (a : Statement) (s : LowState) → z < length s.locals → EndsOrTakes least m Post Other X R S (meaning most fuel a (record s { locals = slice_set s.locals z (Number v) })) →
-        EndsOrTakes (2 + least) (2 + m) Post Other X R S (meaning most fuel (seq (assign z (constant_of (const.I64 v))) a) s)
+        EndsOrTakes least (2 + m) Post Other X R S (meaning most fuel (seq (assign z (constant_of (const.I64 v))) a) s)
     set_then z v least m a s room h = rw (lt-ltb z (length s.locals) room)
         (or_takes_counting least 2 2 m (meaning most fuel a (record s { locals = slice_set s.locals z (Number v) })) (omega arith) h)

@@ -1,5 +1,5 @@
--- What a local has counted down is no more than the instructions that were executed.
-use Rattle.std.proofs.Common.{◌≡◌, ℕ, zero, suc, ◌+◌, ◌-◌, ◌%◌, ◌^◌, ◌<◌, ◌≤◌, inl, inr, ◌==◌, false, length, Option, Some, None, slice_get, slice_set, refl, sym, subst, arith}
+-- What a local has counted down is no more than half of what was counted of instructions.
+use Rattle.std.proofs.Common.{◌≡◌, ℕ, zero, suc, ◌+◌, ◌-◌, ◌*◌, ◌%◌, ◌^◌, ◌<◌, ◌≤◌, inl, inr, ◌==◌, false, length, Option, Some, None, slice_get, slice_set, refl, sym, subst, arith}
 use Rattle.std.proofs.lemmas.Bool.{eqb-true, false_from_ne_true, lt-ltb}
 use Rattle.std.proofs.lemmas.Option.{slice_get_within}
 use Rattle.qw_map.proofs.TurnFacts.{slice_get-set_same}
@@ -9,9 +9,9 @@ use Rattle.qw_low.specs.Meaning.{value, cost, Outcome, Completed, Exited, Stoppe
 use Rattle.qw_limit.specs.Counting.{CountsDown, Spares, guarded_block, less_block}
 use Rattle.qw_limit.proofs.Spared.{Holds, spared}
 
--- the local held v; now it holds no more, and no less than v less the count
+-- the local held v; now it holds no more, and no less than v less half of the count
 abbrev pub Lowers : (z v n : ℕ) → LowState → Type 0
-Lowers z v n t = (w : ℕ) × (slice_get t.locals z ≡ Some (Number w)) × (w ≤ v) × (v ≤ w + n)
+Lowers z v n t = (w : ℕ) × (slice_get t.locals z ≡ Some (Number w)) × (w ≤ v) × (2 * v ≤ 2 * w + n)
 
 abbrev pub HasLowered : (z v : ℕ) → Outcome → Type 0
 HasLowered z v (Completed n t) = Lowers z v n t
@@ -36,7 +36,7 @@ module _ (z : ℕ) where
   held_so v found out is h = held v out (subst (λ (f : Option Value). Holds z f out) is h)
 
   -- instructions before it, in which it was lowered from v to w
-  lowered-counting : (v w n : ℕ) (out : Outcome) → w ≤ v → v ≤ w + n → HasLowered z w out → HasLowered z v (counting n out)
+  lowered-counting : (v w n : ℕ) (out : Outcome) → w ≤ v → 2 * v ≤ 2 * w + n → HasLowered z w out → HasLowered z v (counting n out)
   lowered-counting v w n (Completed m t) le ge h = let low = h.2 in let high = h.3 in (h.0, h.1, omega (arith, le, low), omega (arith, ge, high))
   lowered-counting v w n (Exited m t) le ge h = let low = h.2 in let high = h.3 in (h.0, h.1, omega (arith, le, low), omega (arith, ge, high))
   lowered-counting v w n (Stopped code m t) le ge h = let low = h.2 in let high = h.3 in (h.0, h.1, omega (arith, le, low), omega (arith, ge, high))

@@ -1,6 +1,6 @@
 -- A local that counts down: a block is done while the local is above 0, and then it is one less. So what was counted can be told from the number of
 -- instructions that were executed.
-use Rattle.std.specs.Prelude.{◌≡◌, ◌≢◌, ℕ, ◌≤◌, ◌⊎◌}
+use Rattle.std.specs.Prelude.{◌≡◌, ◌≢◌, ℕ, ◌*◌, ◌≤◌, ◌⊎◌}
 use Rattle.qw_module.specs.declared.instruction.ValType.TheVariants.{I64}
 use Rattle.qw_module.specs.declared.instruction.Const.TheVariants as const
 use Rattle.qw_module.specs.declared.instruction.Binary.TheVariants.{Sub}
@@ -49,14 +49,14 @@ CountsDown z (raise code) = Unit {0}
 CountsDown z exit = Unit {0}
 
 -- ---- how long a run is
--- it is over after so many instructions at least
+-- It is over after so many instructions at least. Its count is at most twice theirs, since it counts each `local.tee` as two.
 abbrev pub TakesAtLeast : (least : ℕ) → Outcome → Type 0
-TakesAtLeast least (Completed n t) = least ≤ n
-TakesAtLeast least (Exited n t) = least ≤ n
-TakesAtLeast least (Stopped code n t) = least ≤ n
+TakesAtLeast least (Completed n t) = 2 * least ≤ n
+TakesAtLeast least (Exited n t) = 2 * least ≤ n
+TakesAtLeast least (Stopped code n t) = 2 * least ≤ n
 TakesAtLeast least Wrong = ⊥
 TakesAtLeast least Unfinished = ⊥
 
--- It ends within so many instructions as `post`, `exits` and `raises` say; or it takes at least so many, and ends as `other`, `exits` and `others` say.
+-- It ends within a count of so many as `post`, `exits` and `raises` say; or it takes at least so many instructions, and ends as `other`, `exits` and `others` say.
 abbrev pub EndsOrTakes : (least most : ℕ) → (post other exits : LowState → Type 0) → (raises others : ℕ → Type 0) → Outcome → Type 0
 EndsOrTakes least most post other exits raises others out = Ends most post exits raises out ⊎ (Ends most other exits others out × TakesAtLeast least out)

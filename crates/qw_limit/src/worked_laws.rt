@@ -24,15 +24,15 @@ pub fn statements_that_count_down()
     ensures spared { Spares 0 (seven 1) × (Spares 0 (guarded_block 0 (seven 1)) → ⊥) }
 {}
 
-/// A run of nine instructions takes at least nine, and not ten. Where it should leave the first local 2 and leaves it 1, it ends in the other way alone,
-/// which it may if nine instructions are long, and not if ten are.
+/// A run whose count is nine takes at least four instructions, and may take no five, since each `local.tee` of it counts two. Where it should leave
+/// the first local 2 and leaves it 1, it ends in the other way alone, which it may if four instructions are long, and not if five are.
 pub fn runs_that_take_long()
-    ensures nine { TakesAtLeast 9 (Completed 9 (two_locals 1 7)) }
-    ensures not_ten { TakesAtLeast 10 (Completed 9 (two_locals 1 7)) → ⊥ }
-    ensures stopped { TakesAtLeast 9 (Stopped 3 9 (two_locals 1 7)) × (TakesAtLeast 9 Wrong → ⊥) }
-    ensures as_it_should { EndsOrTakes 10 12 (λ t. t ≡ two_locals 1 7) (λ t. ⊥) (λ t. ⊥) (λ code. ⊥) (λ code. ⊥) (Completed 9 (two_locals 1 7)) }
-    ensures long { EndsOrTakes 9 12 (λ t. ⊥) (λ t. t ≡ two_locals 1 7) (λ t. ⊥) (λ code. ⊥) (λ code. ⊥) (Completed 9 (two_locals 1 7)) }
-    ensures not_long { EndsOrTakes 10 12 (λ t. ⊥) (λ t. t ≡ two_locals 1 7) (λ t. ⊥) (λ code. ⊥) (λ code. ⊥) (Completed 9 (two_locals 1 7)) → ⊥ }
+    ensures four { TakesAtLeast 4 (Completed 9 (two_locals 1 7)) }
+    ensures not_five { TakesAtLeast 5 (Completed 9 (two_locals 1 7)) → ⊥ }
+    ensures stopped { TakesAtLeast 4 (Stopped 3 9 (two_locals 1 7)) × (TakesAtLeast 4 Wrong → ⊥) }
+    ensures as_it_should { EndsOrTakes 5 12 (λ t. t ≡ two_locals 1 7) (λ t. ⊥) (λ t. ⊥) (λ code. ⊥) (λ code. ⊥) (Completed 9 (two_locals 1 7)) }
+    ensures long { EndsOrTakes 4 12 (λ t. ⊥) (λ t. t ≡ two_locals 1 7) (λ t. ⊥) (λ code. ⊥) (λ code. ⊥) (Completed 9 (two_locals 1 7)) }
+    ensures not_long { EndsOrTakes 5 12 (λ t. ⊥) (λ t. t ≡ two_locals 1 7) (λ t. ⊥) (λ code. ⊥) (λ code. ⊥) (Completed 9 (two_locals 1 7)) → ⊥ }
 {}
 
 /// Of three rows a sink that takes two has the first two, and may take none more; of one it has one, and may take one.

@@ -1,5 +1,6 @@
 -- The code of typed Low is typed, by the standard's rules.
-use Rattle.std.proofs.Common.{◌≡◌, ℕ, ◌<◌, ◌≤◌, ◌^◌, List, [], ◌∷◌, ◌++◌, None, refl, subst, arith}
+use Rattle.std.proofs.Common.{◌≡◌, ℕ, ◌<◌, ◌≤◌, ◌^◌, ◌==◌, if◌then◌else◌, Bool, true, false, List, [], ◌∷◌, ◌++◌, Some, None, slice_get, refl, ap, ◌∙◌, subst, arith}
+use Rattle.std.proofs.lemmas.Bool.{eqb-true}
 use Rattle.qw_module.specs.declared.instruction.ValType.{ValType}
 use Rattle.qw_module.specs.declared.instruction.ValType.TheVariants.{I32, I64}
 use Rattle.qw_module.specs.declared.instruction.Op.{Op}
@@ -7,12 +8,14 @@ use Rattle.qw_module.specs.declared.instruction.Load.{Load}
 use Rattle.qw_module.specs.declared.instruction.Load.TheVariants as loads
 use Rattle.qw_module.specs.declared.instruction.Store as instruction
 use Rattle.qw_module.specs.declared.instruction.Store.TheVariants as stores
+use Rattle.qw_module.specs.declared.instruction.Op.TheVariants as o
 use Rattle.qw_module.specs.Numbers.{load_width, store_width}
 use Rattle.qw_module.specs.Syntax.{Code, done, op, br_if, return}
 use Rattle.qw_module.specs.Typing.{Scope, within, OpTyped, typed-local_get, typed-local_set, typed-local_tee, typed-const, typed-unary, typed-binary, typed-division, typed-eqz, typed-relation, typed-convert, typed-load, typed-store, typed-grow, Typed, typed-done, typed-op, typed-loop, typed-if_then, typed-if_else, typed-br_if, typed-return, typed-call}
 use Rattle.qw_module.specs.Soundness.{raise_signature}
+use Rattle.qw_module.proofs.TypedParts.{op_parts, parts}
 use Rattle.qw_low.specs.Syntax.{Expression, constant_of, local, unop, binop, divop, is_zero, relop, cvtop, advance, retreat, Statement, skip, seq, assign, load, store, conditional, while, request, raise, exit}
-use Rattle.qw_low.specs.Translation.{expression_code, statement_code, raising}
+use Rattle.qw_low.specs.Translation.{expression_code, statement_code, raising, setting}
 use Rattle.qw_low.specs.Typing.{HasType, IsTyped, HostsLow}
 
 next : {scope : Scope} {o : Op} {rest : Code} {before middle after : List ValType} → OpTyped scope o before middle → Typed scope rest middle after → Typed scope (op o rest) before after
@@ -59,12 +62,30 @@ hosts-within scope types hosts = record { raise_is = hosts.raise_is; memory = ho
 raising_typed : (scope : Scope) (code : ℕ) (k : Code) → HostsLow scope → code < 2 ^ 32 → Typed scope k [] [] → Typed scope (raising code k) [] []
 raising_typed scope code k hosts small rest = next (typed-const _ _ _ small) (typed-call _ 0 raise_signature _ [] _ hosts.raise_is rest)
 
+-- a `local.tee` has the types of the `local.set` and the `local.get` that it is
+setting_typed : (scope : Scope) (x : ℕ) (t : ValType) (k : Code) → slice_get scope.locals x ≡ Some t → Typed scope k [] [] → Typed scope (setting x k) (t ∷ []) []
+setting_typed scope x t (op (o.LocalGet y) k) has rest = at (x == y) refl
+  where
+    -- the `local.get` puts the type of y before what follows, which is that of x
+    got : x ≡ y → Typed scope k (t ∷ []) []
+    got same =
+        let first = parts scope (op (o.LocalGet y) k) [] [] rest in
+        let put = op_parts scope (o.LocalGet y) [] first.0 first.1 in
+        let found : slice_get scope.locals y ≡ Some t = subst (λ (z : ℕ). slice_get scope.locals z ≡ Some t) same has in
+        let type : put.0 ≡ t = cc (put.1, found) in
+        subst (λ (types : List ValType). Typed scope k types []) (put.2 ∙ ap (λ (u : ValType). u ∷ []) type) first.2
+
+    at : (is : Bool) → (x == y) ≡ is → Typed scope (if is then op (o.LocalTee x) k else op (o.LocalSet x) (op (o.LocalGet y) k)) (t ∷ []) []
+    at true same = next (typed-local_tee _ _ x t has) (got (eqb-true x y same))
+    at false same = next (typed-local_set _ _ x t has) rest
+setting_typed scope x t k has rest = next (typed-local_set _ _ x t has) rest
+
 pub statement_typed : (scope : Scope) (s : Statement) (k : Code) → HostsLow scope → IsTyped scope.locals s → Typed scope k [] [] → Typed scope (statement_code s k) [] []
 statement_typed scope skip k hosts is rest = rest
 statement_typed scope (seq a b) k hosts is rest = statement_typed scope a (statement_code b k) hosts is.0 (statement_typed scope b k hosts is.1 rest)
-statement_typed scope (assign x e) k hosts is rest = expression_typed scope e is.0 _ [] [] is.2 (next (typed-local_set _ _ x is.0 is.1) rest)
+statement_typed scope (assign x e) k hosts is rest = expression_typed scope e is.0 _ [] [] is.2 (setting_typed scope x is.0 k is.1 rest)
 statement_typed scope (load x l offset at) k hosts is rest =
-    expression_typed scope at I32 _ [] [] is.1 (next (typed-load _ _ l _ hosts.memory (one_load l)) (next (typed-local_set _ _ x _ is.0) rest))
+    expression_typed scope at I32 _ [] [] is.1 (next (typed-load _ _ l _ hosts.memory (one_load l)) (setting_typed scope x _ k is.0 rest))
 statement_typed scope (store st offset at it) k hosts is rest =
     expression_typed scope at I32 _ [] [] is.0 (expression_typed scope it _ _ _ [] is.1 (next (typed-store _ _ st _ hosts.memory (one_store st)) rest))
 statement_typed scope (conditional e a b) k hosts is rest =
@@ -80,5 +101,5 @@ statement_typed scope (raise code) k hosts is rest = raising_typed scope code k 
 statement_typed scope (request e x) k hosts is rest =
     expression_typed scope e I32 _ [] [] is.0 (next (typed-grow _ _ hosts.memory) (next (typed-local_tee _ _ x I32 is.1) (next (typed-const _ _ _ (omega arith)) (next (typed-relation _ _ _ _)
     (typed-if_then _ _ _ [] _ (raising_typed (within scope []) 3 done (hosts-within scope [] hosts) (omega arith) (typed-done _ _))
-    (next (typed-local_get _ _ x I32 is.1) (next (typed-const _ _ _ (omega arith)) (next (typed-binary _ _ _ _) (next (typed-local_set _ _ x I32 is.1) rest)))))))))
+    (next (typed-local_get _ _ x I32 is.1) (next (typed-const _ _ _ (omega arith)) (next (typed-binary _ _ _ _) (setting_typed scope x I32 k is.1 rest)))))))))
 statement_typed scope exit k hosts is rest = subst (λ (results : List ValType). Typed scope (return k) (results ++ []) []) hosts.results (typed-return scope k [] [] [] rest)

@@ -1,18 +1,28 @@
 -- Rules for code that takes exactly so many steps, over any memory of which M holds, where M speaks only of what others keep.
-use Rattle.std.proofs.Common.{◌≡◌, ℕ, suc, ◌+◌, ◌-◌, ◌*◌, ◌/◌, ◌≤◌, true, false, nat_le, List, ◌++◌, length, refl, subst, arith}
+use Rattle.std.proofs.Common.{◌≡◌, ℕ, zero, suc, ◌+◌, ◌-◌, ◌*◌, ◌/◌, ◌≤◌, true, false, nat_le, List, ◌++◌, length, refl, subst, arith}
 use Rattle.std.proofs.lemmas.Bool.{le-leb, and_from, and_left}
-use Rattle.qw_module.specs.Execution.{Config, State, Running, Raised, Raises, refusal}
+use Rattle.qw_module.specs.Execution.{Config, State, Running, Raised, IsOver, Raises, refusal}
 use Rattle.qw_linear.specs.Memory.{page, most_pages, number_at, with_number, grown_by, pages_of}
 use Rattle.qw_module.specs.Step.{Goes, Asks, Puts, AsksPages, Signals, wants}
 use Rattle.qw_map.specs.Areas.{World, are_covered, IsFine, GoesOn, grants}
 use Rattle.qw_map.specs.Runs.{Moment}
 use Rattle.qw_map.proofs.OpenRuns.{room-granted}
 use Rattle.qw_map.proofs.RunRules.{IsKept, with_granted, with_refused}
-use Rattle.qw_low.specs.Inner.Exact.{Exactly, Rest, asks, Then}
+use Rattle.qw_low.specs.Inner.Exact.{Exactly, Rest, end_of_run, asks, Then}
 
 -- From a state, over any memory of which M holds, exactly n steps lead to Q.
 pub record Comes (Q : Moment → Type 0) (w : World) (M : List ℕ → Type 0) (n : ℕ) (s : State) : Type 0 where
   pub steps : (memory : List ℕ) → M memory → Exactly Q n (record { world = w; state = s; memory = memory })
+
+-- Of a run that goes on it speaks by its next step alone: of two instructions that want the same it holds alike.
+abbrev pub LooksAhead : (Moment → Type 0) → Type 0
+LooksAhead Q = (w : World) (memory : List ℕ) (c d : Config) → wants c ≡ wants d →
+    Q (record { world = w; state = Running d; memory = memory }) → Q (record { world = w; state = Running c; memory = memory })
+
+-- so does a path's rest, where the run is over at its end
+pub looks_ahead : (pages : ℕ) (Q : Moment → Type 0) → ((b : Moment) → Q b → IsOver b.state) → (r : Rest) → LooksAhead (Then pages Q r)
+looks_ahead pages Q ended end_of_run w memory c d same h = absurd (ended (record { world = w; state = Running d; memory = memory }) h)
+looks_ahead pages Q ended (asks asked granted n r) w memory c d same h = λ before others. rw same (h before others)
 
 module _ (Q : Moment → Type 0) (w : World) (M : List ℕ → Type 0) where
   pub counted : (m n : ℕ) (s : State) → m ≡ n → Comes Q w M m s → Comes Q w M n s
@@ -20,6 +30,11 @@ module _ (Q : Moment → Type 0) (w : World) (M : List ℕ → Type 0) where
 
   pub there : (s : State) → ((memory : List ℕ) → M memory → Q (record { world = w; state = s; memory = memory })) → Comes Q w M 0 s
   there s holds = record { steps = holds }
+
+  -- an instruction that wants what another wants leads to Q in as many steps
+  pub instead : LooksAhead Q → (n : ℕ) (c d : Config) → wants c ≡ wants d → Comes Q w M n (Running d) → Comes Q w M n (Running c)
+  instead ahead zero c d same comes = record { steps = λ memory h. ahead w memory c d same (comes.steps memory h) }
+  instead ahead (suc n) c d same comes = record { steps = λ memory h before others. rw same (comes.steps memory h before others) }
 
   pub goes : IsKept w M → (n : ℕ) (c : Config) (s : State) → wants c ≡ Goes s → Comes Q w M n s → Comes Q w M (suc n) (Running c)
   goes kept n c s wanted comes = record {

@@ -26,3 +26,6 @@ pub mod StatementRuns
 mod StepsFit
 mod StepsNumbered
 mod StepsWritten
+mod Tees
+mod TeesNumbered
+mod TeesWritten

@@ -12,10 +12,10 @@ use Rattle.qw_low.specs.State.{LowState}
 use Rattle.qw_low.specs.Meaning.{Outcome, Completed, Exited, Stopped, Wrong, Unfinished, meaning}
 use Rattle.qw_low.specs.Translation.{statement_code}
 use Rattle.qw_low.specs.Inner.Exact.{IsQuiet, OnQuiet, OnAsked, Exactly, Rest, end_of_run, asks, Path, Then, Takes}
-use Rattle.qw_low.specs.Places.{AreMeant, StandsFor, IsOutcome, EndsAfter, RunsAs, HasRaise, IsDone, beginning}
+use Rattle.qw_low.specs.Places.{AreMeant, StandsFor, IsOutcome, EndsAfter, EndsCounted, RunsAs, HasRaise, IsDone, beginning}
 use Rattle.qw_low.proofs.ExactSteps.{there}
 use Rattle.qw_low.proofs.ExpressionRuns.{standing}
-use Rattle.qw_low.proofs.Paths.{steps, length_of, total, Counts, counts}
+use Rattle.qw_low.proofs.Paths.{steps, length_of, total, AreCounted, Counts, counts}
 use Rattle.qw_low.proofs.StatementRuns.{RunsTo, statement_runs}
 
 -- ---- a path, step by step: what is left of it after so many, and what they make of the pages held and of the last refused request
@@ -193,35 +193,45 @@ outcome-over Unfinished b h = absurd h
 module _ (pages fuel : ℕ) (a : Statement) (s : LowState) (store : Store) (imported : HasRaise store) where
   -- the path of the state's run
   abbrev pub path : Path
-  path = steps pages fuel a s 0 end_of_run
+  path = steps pages fuel a done s 0 end_of_run
 
   module _ (w : World) (memory xs : List ℕ) (stands : StandsFor w s memory) (are : AreMeant w s.locals xs) where
     abbrev start : Moment
     start = beginning store w a xs memory
 
     by_outcome : (out : Outcome) →
-        ((Q : Moment → Type 0) → RunsTo pages Q store out (steps pages fuel a s) w (StandsFor w s) (standing store (statement_code a done) [] xs whole_call) (λ ys. standing store done [] ys whole_call)) →
+        ((Q : Moment → Type 0) → ((b : Moment) → Q b → IsOver b.state) → RunsTo pages Q store out (steps pages fuel a done s) w (StandsFor w s) (standing store (statement_code a done) [] xs whole_call) (λ ys. standing store done [] ys whole_call)) →
         IsDone out → Takes pages (IsOutcome out) path start
     by_outcome (Completed n t) runs comes =
-        (runs (IsOutcome (Completed n t)) 0 end_of_run (λ w' ys are'. there (IsOutcome (Completed n t)) w' (StandsFor w' t) Returned (λ m h. (refl, h)))).steps memory stands
-    by_outcome (Exited n t) runs comes = (runs (IsOutcome (Exited n t)) 0 end_of_run (λ w'. there (IsOutcome (Exited n t)) w' (StandsFor w' t) Returned (λ m h. (refl, h)))).steps memory stands
+        (runs (IsOutcome (Completed n t)) (outcome-over (Completed n t)) 0 end_of_run (λ w' ys are'. there (IsOutcome (Completed n t)) w' (StandsFor w' t) Returned (λ m h. (refl, h)))).steps memory stands
+    by_outcome (Exited n t) runs comes = (runs (IsOutcome (Exited n t)) (outcome-over (Exited n t)) 0 end_of_run (λ w'. there (IsOutcome (Exited n t)) w' (StandsFor w' t) Returned (λ m h. (refl, h)))).steps memory stands
     by_outcome (Stopped code n t) runs comes =
-        (runs (IsOutcome (Stopped code n t)) 0 end_of_run (λ w'. there (IsOutcome (Stopped code n t)) w' (StandsFor w' t) (Raised code) (λ m h. (refl, h)))).steps memory stands
+        (runs (IsOutcome (Stopped code n t)) (outcome-over (Stopped code n t)) 0 end_of_run (λ w'. there (IsOutcome (Stopped code n t)) w' (StandsFor w' t) (Raised code) (λ m h. (refl, h)))).steps memory stands
     by_outcome Wrong runs comes = absurd comes
     by_outcome Unfinished runs comes = absurd comes
 
     -- every memory that stands for the state leads along the same path to its outcome
     pub takes_path : IsDone (meaning pages fuel a s) → Takes pages (IsOutcome (meaning pages fuel a s)) path start
-    takes_path = by_outcome (meaning pages fuel a s) (λ Q. statement_runs pages Q store imported fuel a s w xs are whole_call refl done)
+    takes_path = by_outcome (meaning pages fuel a s) (λ Q over. statement_runs pages Q store over imported fuel a s w xs are whole_call refl done)
 
-    runs_as : (out : Outcome) → Counts out (steps pages fuel a s) → (IsDone out → Takes pages (IsOutcome out) path start) → RunsAs out pages start
-    runs_as (Completed n t) counted takes = ends_after pages (IsOutcome (Completed n t)) (outcome-over (Completed n t)) path n (let all = counted 0 end_of_run in omega (arith, all)) start (takes tt)
-    runs_as (Exited n t) counted takes = ends_after pages (IsOutcome (Exited n t)) (outcome-over (Exited n t)) path n (let all = counted 0 end_of_run in omega (arith, all)) start (takes tt)
-    runs_as (Stopped code n t) counted takes = ends_after pages (IsOutcome (Stopped code n t)) (outcome-over (Stopped code n t)) path n (let all = counted 0 end_of_run in omega (arith, all)) start (takes tt)
-    runs_as Wrong counted takes = tt
-    runs_as Unfinished counted takes = tt
+    -- so each open run ends after exactly as many instructions as the path has
+    pub ends_on_path : IsDone (meaning pages fuel a s) → EndsAfter (total path) pages (IsOutcome (meaning pages fuel a s)) start
+    ends_on_path comes =
+        ends_after pages (IsOutcome (meaning pages fuel a s)) (outcome-over (meaning pages fuel a s)) path (total path) refl start (takes_path comes)
+
+    ends_counted : (n : ℕ) (Q : Moment → Type 0) → AreCounted n (steps pages fuel a done s) → EndsAfter (total path) pages Q start → EndsCounted n pages Q start
+    ends_counted n Q counted ends =
+        let all = counted 0 end_of_run in
+        record { count = total path; most = omega (arith, all.0); least = omega (arith, all.1); ends = ends }
+
+    runs_as : (out : Outcome) → Counts out (steps pages fuel a done s) → (IsDone out → EndsAfter (total path) pages (IsOutcome out) start) → RunsAs out pages start
+    runs_as (Completed n t) counted ends = ends_counted n (IsOutcome (Completed n t)) counted (ends tt)
+    runs_as (Exited n t) counted ends = ends_counted n (IsOutcome (Exited n t)) counted (ends tt)
+    runs_as (Stopped code n t) counted ends = ends_counted n (IsOutcome (Stopped code n t)) counted (ends tt)
+    runs_as Wrong counted ends = tt
+    runs_as Unfinished counted ends = tt
 
 pub low_runs : (pages fuel : ℕ) (a : Statement) (s : LowState) (store : Store) (w : World) (memory xs : List ℕ) → HasRaise store → StandsFor w s memory → AreMeant w s.locals xs →
     RunsAs (meaning pages fuel a s) pages (beginning store w a xs memory)
 low_runs pages fuel a s store w memory xs imported stands are =
-    runs_as pages fuel a s store imported w memory xs stands are (meaning pages fuel a s) (counts pages fuel a s) (takes_path pages fuel a s store imported w memory xs stands are)
+    runs_as pages fuel a s store imported w memory xs stands are (meaning pages fuel a s) (counts pages fuel a done s) (ends_on_path pages fuel a s store imported w memory xs stands are)

@@ -7,7 +7,7 @@ use Rattle.qw_map.proofs.BehavingLemmas.{within-weaker}
 use Rattle.qw_low.specs.Syntax.{Statement}
 use Rattle.qw_low.specs.State.{LowState}
 use Rattle.qw_low.specs.Meaning.{Outcome, Completed, Exited, Stopped, Wrong, Unfinished, meaning}
-use Rattle.qw_low.specs.Places.{AreMeant, StandsFor, IsOutcome, EndsAfter, RunsAs, HasRaise, beginning}
+use Rattle.qw_low.specs.Places.{AreMeant, StandsFor, IsOutcome, EndsCounted, RunsAs, HasRaise, beginning}
 use Rattle.qw_low.specs.Promise.{Ends}
 use Rattle.qw_low.proofs.OpenOutcomes.{low_runs}
 
@@ -19,9 +19,9 @@ module _ (pages fuel most left : ℕ) (P X : LowState → Type 0) (R : ℕ → T
   abbrev start : Moment
   start = beginning store w a xs memory
 
-  ended : (n : ℕ) (out : Outcome) → n ≤ most → ((b : Moment) → IsOutcome out b → Keeps P X R b) → EndsAfter n pages (IsOutcome out) start → BehavesWithin most pages left (Keeps P X R) start
+  ended : (n : ℕ) (out : Outcome) → n ≤ most → ((b : Moment) → IsOutcome out b → Keeps P X R b) → EndsCounted n pages (IsOutcome out) start → BehavesWithin most pages left (Keeps P X R) start
   ended n out le keeps runs =
-      within-weaker n most pages pages n left (IsOutcome out) (Keeps P X R) start le (omega arith) (inr (omega arith)) keeps runs.behaves
+      within-weaker runs.count most pages pages runs.count left (IsOutcome out) (Keeps P X R) start (omega (arith, le, runs.most)) (omega arith) (inr (omega arith)) keeps runs.ends.behaves
 
   by_outcome : (out : Outcome) → RunsAs out pages start → Ends most P X R out → BehavesWithin most pages left (Keeps P X R) start
   by_outcome (Completed n t) runs h = ended n (Completed n t) h.0 (λ b is. inl (t, is.0, is.1, inl h.1)) runs

@@ -1,6 +1,6 @@
--- A statement's code does what the statement means, in as many instructions.
+-- A statement's code does what the statement means, in as many instructions, or in one fewer where it sets a local that is got next.
 use Rattle.std.proofs.Common.{◌≡◌, ◌≢◌, ℕ, zero, suc, ◌+◌, ◌-◌, ◌≤◌, inl, inr, true, nat_lt, List, [], ◌∷◌, length, Option, Some, None, option_and_then, slice_get, slice_set, refl, sym, ap, ◌∙◌, subst, ⊎_elim, arith}
-use Rattle.std.proofs.lemmas.Bool.{cases_Bool}
+use Rattle.std.proofs.lemmas.Bool.{cases_Bool, eqb-true, ltb-true}
 use Rattle.std.proofs.lemmas.Option.{same_Some}
 use Rattle.qw_linear.specs.Memory.{number_at}
 use Rattle.qw_module.specs.declared.instruction.Op.TheVariants as o
@@ -15,14 +15,16 @@ use Rattle.qw_module.specs.Execution.{Store, Context, label, State, Returned, Ra
 use Rattle.qw_module.specs.Step.{wants, Goes, Asks, Puts}
 use Rattle.qw_map.specs.Areas.{Area, World, IsFine, GoesOn}
 use Rattle.qw_map.specs.Runs.{Moment}
+use Rattle.qw_map.proofs.TurnFacts.{slice_get-set_same}
 use Rattle.qw_module.proofs.Sound.{settled-unfinished}
 use Rattle.std.specs.Prelude.{◌==◌}
 use Rattle.qw_low.specs.Syntax.{Expression, Statement}
 use Rattle.qw_low.specs.State.{Part, Column, Own, Value, Number, Address, LowState, is_within, stored_as, with_cell}
 use Rattle.qw_low.specs.Meaning.{value, cost, Outcome, Completed, Exited, Stopped, Wrong, Unfinished, with_local, found_at, put_at, raised}
-use Rattle.qw_low.specs.Translation.{expression_code, statement_code, unaligned, raising, to_octets, on_answer}
+use Rattle.qw_low.specs.Translation.{expression_code, statement_code, unaligned, raising, setting, to_octets, on_answer}
 use Rattle.qw_low.specs.Places.{Means, AreMeant, StandsFor, HasRaise}
-use Rattle.qw_low.proofs.ExactSteps.{Comes, counted, goes, loads, stores, raises, weaker, knowing}
+use Rattle.qw_low.proofs.ExactSteps.{Comes, LooksAhead, counted, instead, goes, loads, stores, raises, weaker, knowing}
+use Rattle.qw_low.proofs.Paths.{set_steps}
 use Rattle.qw_low.proofs.Standing.{stable, lies, lies-at, area_of-sized, length-meant, set-meant}
 use Rattle.qw_low.proofs.CellLemmas.{loaded-means, found-there, stored-means, given-there, stored-stands}
 use Rattle.qw_low.proofs.ExpressionRuns.{standing, config, op_goes, within-is, expression_runs}
@@ -84,16 +86,16 @@ alike w s memory h (Some (Address p off)) n tells word means =
 alike w s memory h None n tells word means = absurd tells
 
 module _ (Q : Moment → Type 0) (module_store : Store) where
-  -- the code from a state on has this outcome: it goes on with what follows, or raises, after so many instructions
-  abbrev pub QuietTo : Outcome → World → (List ℕ → Type 0) → State → (List ℕ → State) → Type 0
-  QuietTo (Completed n t) w M state following = (j : ℕ) →
+  -- the code from a state on has this outcome: after n instructions it goes on with what follows, or raises
+  abbrev pub QuietTo : ℕ → Outcome → World → (List ℕ → Type 0) → State → (List ℕ → State) → Type 0
+  QuietTo n (Completed m t) w M state following = (j : ℕ) →
       ((w' : World) (xs : List ℕ) → AreMeant w' t.locals xs → Comes Q w' (StandsFor w' t) j (following xs)) → Comes Q w M (n + j) state
-  QuietTo (Exited n t) w M state following = (j : ℕ) →
+  QuietTo n (Exited m t) w M state following = (j : ℕ) →
       ((w' : World) → Comes Q w' (StandsFor w' t) j Returned) → Comes Q w M (n + j) state
-  QuietTo (Stopped code n t) w M state following = (j : ℕ) →
+  QuietTo n (Stopped code m t) w M state following = (j : ℕ) →
       ((w' : World) → Comes Q w' (StandsFor w' t) j (Raised code)) → Comes Q w M (n + j) state
-  QuietTo Wrong w M state following = Unit {0}
-  QuietTo Unfinished w M state following = Unit {0}
+  QuietTo n Wrong w M state following = Unit {0}
+  QuietTo n Unfinished w M state following = Unit {0}
 
   -- a return from these contexts ends the run: no frame awaits
   abbrev pub EndsRun : List Context → Type 0
@@ -114,54 +116,77 @@ module _ (Q : Moment → Type 0) (module_store : Store) where
         (goes Q w (StandsFor w s) (stable w s) n (config module_store code operands xs contexts) next wanted comes)
 
     -- a word is put into a local
-    sets : (x : ℕ) (v : Value) (word : ℕ) (k : Code) (j : ℕ) → nat_lt x (length s.locals) ≡ true → Means w v word →
+    sets_word : (w' : World) (t : LowState) (ys : List ℕ) (x word : ℕ) (k : Code) (j : ℕ) → nat_lt x (length ys) ≡ true →
+        Comes Q w' (StandsFor w' t) j (standing module_store k [] (slice_set ys x word) contexts) →
+        Comes Q w' (StandsFor w' t) (1 + j) (standing module_store (op (o.LocalSet x) k) (word ∷ []) ys contexts)
+    sets_word w' t ys x word k j below comes = counted Q w' (StandsFor w' t) (suc j) (1 + j) _ (omega arith)
+        (op_goes Q module_store contexts w' t ys (o.LocalSet x) k (word ∷ []) [] (slice_set ys x word) j (rw below refl) comes)
+
+    -- the same before code that may begin by getting it: a tee wants what the get behind a set wants, so it leads where that leads
+    pub setting_runs : LooksAhead Q → (w' : World) (t : LowState) (ys : List ℕ) (x word : ℕ) (k : Code) (j : ℕ) → nat_lt x (length ys) ≡ true →
+        Comes Q w' (StandsFor w' t) j (standing module_store k [] (slice_set ys x word) contexts) →
+        Comes Q w' (StandsFor w' t) (set_steps x k + j) (standing module_store (setting x k) (word ∷ []) ys contexts)
+    setting_runs ahead w' t ys x word (op (o.LocalGet y) k) j below comes = ⊎_elim
+        (λ same.
+        let is : x ≡ y = eqb-true x y same in
+        let there : slice_get (slice_set ys x word) y ≡ Some word = subst (λ (z : ℕ). slice_get (slice_set ys x word) z ≡ Some word) is (slice_get-set_same ys x word (ltb-true x (length ys) below)) in
+        rw same (counted Q w' (StandsFor w' t) j (0 + j) _ (omega arith)
+        (subst (λ (state : State). Comes Q w' (StandsFor w' t) j state) (sym (settled-unfinished module_store contexts (op (o.LocalTee x) k) (word ∷ []) ys (λ e. cc)))
+        (instead Q w' (StandsFor w' t) ahead j (config module_store (op (o.LocalTee x) k) (word ∷ []) ys contexts) (config module_store (op (o.LocalGet y) k) [] (slice_set ys x word) contexts)
+        (rw (below, there) refl)
+        (subst (λ (state : State). Comes Q w' (StandsFor w' t) j state) (settled-unfinished module_store contexts (op (o.LocalGet y) k) [] (slice_set ys x word) (λ e. cc)) comes)))))
+        (λ other. rw other (sets_word w' t ys x word (op (o.LocalGet y) k) j below comes))
+        (cases_Bool (x == y))
+    setting_runs ahead w' t ys x word k j below comes = sets_word w' t ys x word k j below comes
+
+    -- and where the locals mean values
+    sets : LooksAhead Q → (x : ℕ) (v : Value) (word : ℕ) (k : Code) (j : ℕ) → nat_lt x (length s.locals) ≡ true → Means w v word →
         ((w' : World) (ys : List ℕ) → AreMeant w' (slice_set s.locals x v) ys → Comes Q w' (StandsFor w' (record s { locals = slice_set s.locals x v })) j (standing module_store k [] ys contexts)) →
-        Comes Q w (StandsFor w s) (suc j) (standing module_store (op (o.LocalSet x) k) (word ∷ []) xs contexts)
-    sets x v word k j room means onward =
-        let below : nat_lt x (length xs) ≡ true = rw (length-meant w s.locals xs are) room in
-        op_goes Q module_store contexts w s xs (o.LocalSet x) k (word ∷ []) [] (slice_set xs x word) j (rw below refl)
+        Comes Q w (StandsFor w s) (set_steps x k + j) (standing module_store (setting x k) (word ∷ []) xs contexts)
+    sets ahead x v word k j room means onward =
+        setting_runs ahead w s xs x word k j (rw (length-meant w s.locals xs are) room)
         (weaker Q w (StandsFor w s) (StandsFor w (record s { locals = slice_set s.locals x v })) j (standing module_store k [] (slice_set xs x word) contexts)
         (λ memory h. relocated w s (slice_set s.locals x v) memory h)
         (onward w (slice_set xs x word) (set-meant w s.locals xs are x v word means)))
 
     -- and given a value that is there
-    given : (n x : ℕ) (k : Code) (state : State) (found : Option Value) →
-        ((v : Value) → found ≡ Some v → (j : ℕ) → ((word : ℕ) → Means w v word → Comes Q w (StandsFor w s) (suc j) (standing module_store (op (o.LocalSet x) k) (word ∷ []) xs contexts)) →
-        Comes Q w (StandsFor w s) (n + j) state) →
-        QuietTo (with_local n s x found) w (StandsFor w s) state (λ ys. standing module_store k [] ys contexts)
-    given n x k state None lead = tt
-    given n x k state (Some v) lead = ⊎_elim
-        (λ room. rw room (λ j onward. lead v refl j (λ word means. sets x v word k j room means onward)))
+    given : LooksAhead Q → (m n x : ℕ) (k : Code) (state : State) (found : Option Value) →
+        ((v : Value) → found ≡ Some v → (j : ℕ) → ((word : ℕ) → Means w v word → Comes Q w (StandsFor w s) (set_steps x k + j) (standing module_store (setting x k) (word ∷ []) xs contexts)) →
+        Comes Q w (StandsFor w s) (m + j) state) →
+        QuietTo m (with_local n s x found) w (StandsFor w s) state (λ ys. standing module_store k [] ys contexts)
+    given ahead m n x k state None lead = tt
+    given ahead m n x k state (Some v) lead = ⊎_elim
+        (λ room. rw room (λ j onward. lead v refl j (λ word means. sets ahead x v word k j room means onward)))
         (λ no_room. rw no_room tt)
         (cases_Bool (nat_lt x (length s.locals)))
 
-    pub assign_runs : (x : ℕ) (e : Expression) (k : Code) →
-        QuietTo (with_local (cost e + 1) s x (value s e)) w (StandsFor w s) (standing module_store (expression_code e (op (o.LocalSet x) k)) [] xs contexts) (λ ys. standing module_store k [] ys contexts)
-    assign_runs x e k = given (cost e + 1) x k (standing module_store (expression_code e (op (o.LocalSet x) k)) [] xs contexts) (value s e)
-        (λ v is j onward. knowing Q w (StandsFor w s) (cost e + 1 + j) _ (λ memory h.
-        counted Q w (StandsFor w s) (cost e + suc j) (cost e + 1 + j) _ (omega arith)
-        (expression_runs Q module_store contexts w s xs memory h are e v is (op (o.LocalSet x) k) [] (suc j) onward)))
+    pub assign_runs : LooksAhead Q → (x : ℕ) (e : Expression) (k : Code) →
+        QuietTo (cost e + set_steps x k) (with_local (cost e + 1) s x (value s e)) w (StandsFor w s) (standing module_store (expression_code e (setting x k)) [] xs contexts) (λ ys. standing module_store k [] ys contexts)
+    assign_runs ahead x e k = given ahead (cost e + set_steps x k) (cost e + 1) x k (standing module_store (expression_code e (setting x k)) [] xs contexts) (value s e)
+        (λ v is j onward. knowing Q w (StandsFor w s) (cost e + set_steps x k + j) _ (λ memory h.
+        counted Q w (StandsFor w s) (cost e + (set_steps x k + j)) (cost e + set_steps x k + j) _ (omega arith)
+        (expression_runs Q module_store contexts w s xs memory h are e v is (setting x k) [] (set_steps x k + j) onward)))
 
     -- what is read at an address
-    pub load_runs : (x : ℕ) (l : Load) (offset : ℕ) (at : Expression) (k : Code) →
-        QuietTo (with_local (cost at + 2) s x (found_at s l offset (value s at))) w (StandsFor w s)
-        (standing module_store (expression_code at (op (o.Load l (unaligned offset)) (op (o.LocalSet x) k))) [] xs contexts) (λ ys. standing module_store k [] ys contexts)
-    load_runs x l offset at k = given (cost at + 2) x k (standing module_store (expression_code at (op (o.Load l (unaligned offset)) (op (o.LocalSet x) k))) [] xs contexts) (found_at s l offset (value s at))
-        (λ v is j onward. knowing Q w (StandsFor w s) (cost at + 2 + j) _ (λ memory h.
+    pub load_runs : LooksAhead Q → (x : ℕ) (l : Load) (offset : ℕ) (at : Expression) (k : Code) →
+        QuietTo (cost at + 1 + set_steps x k) (with_local (cost at + 2) s x (found_at s l offset (value s at))) w (StandsFor w s)
+        (standing module_store (expression_code at (op (o.Load l (unaligned offset)) (setting x k))) [] xs contexts) (λ ys. standing module_store k [] ys contexts)
+    load_runs ahead x l offset at k = given ahead (cost at + 1 + set_steps x k) (cost at + 2) x k (standing module_store (expression_code at (op (o.Load l (unaligned offset)) (setting x k))) [] xs contexts) (found_at s l offset (value s at))
+        (λ v is j onward. knowing Q w (StandsFor w s) (cost at + 1 + set_steps x k + j) _ (λ memory h.
         let found = found-there s l offset (value s at) v is in
         let p : Part = found.0 in
         let off : ℕ = found.1 in
         let r = h.cells p (off + offset) (load_width l) found.2 found.4 in
-        counted Q w (StandsFor w s) (cost at + suc (suc j)) (cost at + 2 + j) _ (omega arith)
-        (expression_runs Q module_store contexts w s xs memory h are at (Address p off) found.3 (op (o.Load l (unaligned offset)) (op (o.LocalSet x) k)) [] (suc (suc j))
+        counted Q w (StandsFor w s) (cost at + suc (set_steps x k + j)) (cost at + 1 + set_steps x k + j) _ (omega arith)
+        (expression_runs Q module_store contexts w s xs memory h are at (Address p off) found.3 (op (o.Load l (unaligned offset)) (setting x k)) [] (suc (set_steps x k + j))
         (λ word means.
         let same : means.0 ≡ r.area = same_Some means.0 r.area (sym means.1 ∙ r.is) in
         let place : word + offset ≡ r.area.start + (off + offset) = omega (arith, means.3, ap (λ (a : Area). a.start) same) in
-        subst (λ (state : State). Comes Q w (StandsFor w s) (suc (suc j)) state)
-        (sym (settled-unfinished module_store contexts (op (o.Load l (unaligned offset)) (op (o.LocalSet x) k)) (word ∷ []) xs (λ e. cc)))
-        (loads Q w (StandsFor w s) (stable w s) (λ n. Means w found.2 n) (suc j) (config module_store (op (o.Load l (unaligned offset)) (op (o.LocalSet x) k)) (word ∷ []) xs contexts)
-        (r.area.start + (off + offset)) (load_width l) (λ n. standing module_store (op (o.LocalSet x) k) (loaded_value l n ∷ []) xs contexts)
-        (ap (λ (a : ℕ). Asks a (load_width l) (λ n. standing module_store (op (o.LocalSet x) k) (loaded_value l n ∷ []) xs contexts)) place)
+        subst (λ (state : State). Comes Q w (StandsFor w s) (suc (set_steps x k + j)) state)
+        (sym (settled-unfinished module_store contexts (op (o.Load l (unaligned offset)) (setting x k)) (word ∷ []) xs (λ e. cc)))
+        (loads Q w (StandsFor w s) (stable w s) (λ n. Means w found.2 n) (set_steps x k + j) (config module_store (op (o.Load l (unaligned offset)) (setting x k)) (word ∷ []) xs contexts)
+        (r.area.start + (off + offset)) (load_width l) (λ n. standing module_store (setting x k) (loaded_value l n ∷ []) xs contexts)
+        (ap (λ (a : ℕ). Asks a (load_width l) (λ n. standing module_store (setting x k) (loaded_value l n ∷ []) xs contexts)) place)
         (lies w p r.area (off + offset) (load_width l) r.is r.inside)
         (λ m stands.
         let r' = stands.cells p (off + offset) (load_width l) found.2 found.4 in
@@ -171,7 +196,7 @@ module _ (Q : Moment → Type 0) (module_store : Store) where
 
     -- what is put at an address
     pub store_runs : (st : instruction.Store) (offset : ℕ) (at it : Expression) (k : Code) (place put : Option Value) → value s at ≡ place → option_and_then (stored_as st) (value s it) ≡ put →
-        QuietTo (put_at (cost at + cost it + 1) s offset (store_width st) place put) w (StandsFor w s)
+        QuietTo (cost at + cost it + 1) (put_at (cost at + cost it + 1) s offset (store_width st) place put) w (StandsFor w s)
         (standing module_store (expression_code at (expression_code it (op (o.Store st (unaligned offset)) k))) [] xs contexts) (λ ys. standing module_store k [] ys contexts)
     store_runs st offset at it k None put place_is put_is = tt
     store_runs st offset at it k (Some (Number n)) put place_is put_is = tt
@@ -242,13 +267,13 @@ module _ (Q : Moment → Type 0) (module_store : Store) where
         (subst (λ (state : State). Comes Q w (StandsFor w s) (suc j) state) (sym (settled-unfinished module_store contexts (call 0 k) (code ∷ []) xs (λ e. cc)))
         (raises Q w (StandsFor w s) (stable w s) j (config module_store (call 0 k) (code ∷ []) xs contexts) code (rw imported refl) fine comes)))
 
-    pub raise_runs : HasRaise module_store → (code : ℕ) (k : Code) → QuietTo (raised code s) w (StandsFor w s) (standing module_store (raising code k) [] xs contexts) (λ ys. standing module_store k [] ys contexts)
+    pub raise_runs : HasRaise module_store → (code : ℕ) (k : Code) → QuietTo 2 (raised code s) w (StandsFor w s) (standing module_store (raising code k) [] xs contexts) (λ ys. standing module_store k [] ys contexts)
     raise_runs imported zero k = tt
     raise_runs imported (suc zero) k = λ j onward. raises_to imported 1 k (inl refl) j (onward w)
     raise_runs imported (suc (suc zero)) k = λ j onward. raises_to imported 2 k (inr (inl refl)) j (onward w)
     raise_runs imported (suc (suc (suc code))) k = tt
 
     -- the run is left, through all labels
-    pub exit_runs : EndsRun contexts → (k : Code) → QuietTo (Exited 1 s) w (StandsFor w s) (standing module_store (return k) [] xs contexts) (λ ys. standing module_store k [] ys contexts)
+    pub exit_runs : EndsRun contexts → (k : Code) → QuietTo 1 (Exited 1 s) w (StandsFor w s) (standing module_store (return k) [] xs contexts) (λ ys. standing module_store k [] ys contexts)
     exit_runs ends k = λ j onward. counted Q w (StandsFor w s) (suc j) (1 + j) _ (omega arith)
         (steps_to (return k) [] j Returned (λ e. cc) (rw ends refl) (onward w))

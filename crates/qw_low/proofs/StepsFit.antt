@@ -1,12 +1,13 @@
 -- The offsets of a statement's accesses have 32 bits, where those of its steps have.
-use Rattle.std.proofs.Common.{◌≡◌, ℕ, zero, suc, ◌+◌, ◌<◌, ◌≤◌, List, [], ◌∷◌, ◌++◌, length, take, get_or, sym, subst, arith}
+use Rattle.std.proofs.Common.{◌≡◌, ℕ, zero, suc, ◌+◌, ◌<◌, ◌≤◌, ◌==◌, if◌then◌else◌, Bool, true, false, List, [], ◌∷◌, ◌++◌, length, take, get_or, sym, subst, arith}
 use Rattle.std.specs.List.{AllByRecursion}
-use Rattle.qw_module.specs.Syntax.{Code, done}
+use Rattle.qw_module.specs.Syntax.{Code, done, op}
+use Rattle.qw_module.specs.declared.instruction.Op.TheVariants as o
 use Rattle.qw_module.specs.Offsets.{FitOffsets}
 use Rattle.qw_low.specs.declared.step.LowStep.{LowStep}
 use Rattle.qw_low.specs.declared.step.LowStep.TheVariants as step
 use Rattle.qw_low.specs.Syntax.{Expression, constant_of, local, unop, binop, divop, is_zero, relop, cvtop, advance, retreat, Statement, skip, seq, assign, load, store, conditional, while, request, raise, exit}
-use Rattle.qw_low.specs.Translation.{expression_code, statement_code}
+use Rattle.qw_low.specs.Translation.{expression_code, setting, statement_code}
 use Rattle.qw_low.specs.Steps.{FitsStep, expression_steps, steps_of}
 
 front : {A : Type 0} (P : A → Type 0) (xs ys : List A) → AllByRecursion P (xs ++ ys) → AllByRecursion P xs
@@ -29,12 +30,20 @@ expression_fits (cvtop c e) k h = expression_fits e _ (tt, h)
 expression_fits (advance a n) k h = expression_fits a _ (expression_fits n _ (tt, h))
 expression_fits (retreat a n) k h = expression_fits a _ (expression_fits n _ (tt, h))
 
+setting_fits : (x : ℕ) (k : Code) → FitOffsets k → FitOffsets (setting x k)
+setting_fits x (op (o.LocalGet y) k) h = at (x == y)
+  where
+    at : (same : Bool) → FitOffsets (if same then op (o.LocalTee x) k else op (o.LocalSet x) (op (o.LocalGet y) k))
+    at true = h
+    at false = (tt, h)
+setting_fits x _ h = (tt, h)
+
 statement_fits : (s : Statement) (k : Code) → AllByRecursion FitsStep (steps_of s) → FitOffsets k → FitOffsets (statement_code s k)
 statement_fits skip k all h = h
 statement_fits (seq a b) k all h =
     statement_fits a _ (front FitsStep (steps_of a) (steps_of b) all) (statement_fits b k (back FitsStep (steps_of a) (steps_of b) all) h)
-statement_fits (assign x e) k all h = expression_fits e _ (tt, h)
-statement_fits (load x l offset a) k all h = expression_fits a _ ((back FitsStep (expression_steps a) _ all).0, (tt, h))
+statement_fits (assign x e) k all h = expression_fits e _ (setting_fits x k h)
+statement_fits (load x l offset a) k all h = expression_fits a _ ((back FitsStep (expression_steps a) _ all).0, setting_fits x k h)
 statement_fits (store st offset a e) k all h = expression_fits a _ (expression_fits e _ ((back FitsStep (expression_steps e) _ (back FitsStep (expression_steps a) _ all)).0, h))
 statement_fits (conditional e a b) k all h =
     let choice = (back FitsStep (expression_steps e) (step.If ∷ (steps_of a ++ (step.Else ∷ (steps_of b ++ step.End ∷ [])))) all).1 in
@@ -43,7 +52,7 @@ statement_fits (conditional e a b) k all h =
 statement_fits (while e a) k all h =
     let turn = (back FitsStep (expression_steps e) (step.If ∷ step.Loop ∷ (steps_of a ++ (expression_steps e ++ step.Again ∷ step.End ∷ step.End ∷ []))) all).1.1 in
     expression_fits e _ ((statement_fits a _ (front FitsStep (steps_of a) (expression_steps e ++ step.Again ∷ step.End ∷ step.End ∷ []) turn) (expression_fits e _ tt), tt), h)
-statement_fits (request e x) k all h = expression_fits e _ (tt, (tt, (tt, (tt, ((tt, tt), (tt, (tt, (tt, (tt, h)))))))))
+statement_fits (request e x) k all h = expression_fits e _ (tt, (tt, (tt, (tt, ((tt, tt), (tt, (tt, (tt, setting_fits x k h))))))))
 statement_fits (raise code) k all h = (tt, h)
 statement_fits exit k all h = h
 

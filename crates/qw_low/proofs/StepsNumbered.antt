@@ -18,15 +18,16 @@ use Rattle.qw_low.specs.declared.step.LowStep.TheVariants as step
 use Rattle.qw_low.specs.declared.body.Opened.{Opened}
 use Rattle.qw_low.specs.declared.body.Opened.TheVariants as opened
 use Rattle.qw_low.specs.Syntax.{Expression, constant_of, local, unop, binop, divop, is_zero, relop, cvtop, advance, retreat, Statement, skip, seq, assign, load, store, conditional, while, request, raise, exit}
-use Rattle.qw_low.specs.Translation.{expression_code, statement_code, unaligned, raising, to_octets, on_answer}
+use Rattle.qw_low.specs.Translation.{expression_code, unaligned, raising}
 use Rattle.qw_low.specs.Steps.{expression_steps, request_steps, steps_of}
-use Rattle.qw_low.specs.Inner.Writing.{Writing, writing, all_written, start, unlabelled}
+use Rattle.qw_low.specs.Inner.Tees.{plain_answer, plain_code, plain_octets}
+use Rattle.qw_low.specs.Inner.Writing.{writing, all_written, appended, bodies_in, start, unlabelled}
 
 -- From a numbering on, the steps write what the code is numbered by, whatever follows.
 record IsNext (steps : List LowStep) (f : Code → Code) (n : Numbering) : Type 0 where
   pub next : Numbering
   pub numbers : (k : Code) → numbering (f k) n ≡ numbering k next
-  pub writes : (rest : List LowStep) (waiting : List (List Instr × Opened)) → all_written (steps ++ rest) (writing n.ended n.now waiting) ≡ all_written rest (writing next.ended next.now waiting)
+  pub writes : (rest : List LowStep) (waiting : List (List Instr × Opened)) → all_written appended (steps ++ rest) (writing n.ended n.now waiting) ≡ all_written appended rest (writing next.ended next.now waiting)
   pub labels : next.labels ≡ n.labels
 
 abbrev Numbers : List LowStep → (Code → Code) → Type 0
@@ -39,7 +40,7 @@ numbers_then xs ys f g one two n =
     record {
       next = second.next;
       numbers = λ k. first.numbers (g k) ∙ second.numbers k;
-      writes = λ rest waiting. ap (λ (steps : List LowStep). all_written steps (writing n.ended n.now waiting)) (append_assoc xs ys rest) ∙ first.writes (ys ++ rest) waiting ∙ second.writes rest waiting;
+      writes = λ rest waiting. ap (λ (steps : List LowStep). all_written appended steps (writing n.ended n.now waiting)) (append_assoc xs ys rest) ∙ first.writes (ys ++ rest) waiting ∙ second.writes rest waiting;
       labels = second.labels ∙ first.labels;
     }
 
@@ -83,9 +84,9 @@ choice_numbers xs ys f g one two n =
           ap (λ (a : Numbering). numbering k (holding a (numbering (g done) (at_other a)))) (first.numbers done)
           ∙ ap (λ (b : Numbering). numbering k (holding first.next b)) (second.numbers done);
       writes = λ rest waiting.
-          ap (λ (steps : List LowStep). all_written steps (writing n.ended [] ((n.now, opened.If) ∷ waiting))) (append_assoc xs (step.Else ∷ (ys ++ step.End ∷ [])) rest)
+          ap (λ (steps : List LowStep). all_written appended steps (writing n.ended [] ((n.now, opened.If) ∷ waiting))) (append_assoc xs (step.Else ∷ (ys ++ step.End ∷ [])) rest)
           ∙ first.writes (step.Else ∷ (ys ++ step.End ∷ []) ++ rest) ((n.now, opened.If) ∷ waiting)
-          ∙ ap (λ (steps : List LowStep). all_written steps (writing (first.next.ended ++ first.next.now ∷ []) [] ((n.now, opened.Else (length first.next.ended)) ∷ waiting))) (append_assoc ys (step.End ∷ []) rest)
+          ∙ ap (λ (steps : List LowStep). all_written appended steps (writing (first.next.ended ++ first.next.now ∷ []) [] ((n.now, opened.Else (length first.next.ended)) ∷ waiting))) (append_assoc ys (step.End ∷ []) rest)
           ∙ second.writes (step.End ∷ [] ++ rest) ((n.now, opened.Else (length first.next.ended)) ∷ waiting);
       labels = second.labels ∙ first.labels;
     }
@@ -98,7 +99,7 @@ then_numbers xs f one n =
       next = holding first.next;
       numbers = λ k. ap (λ (a : Numbering). numbering k (holding a)) (first.numbers done);
       writes = λ rest waiting.
-          ap (λ (steps : List LowStep). all_written steps (writing n.ended [] ((n.now, opened.If) ∷ waiting))) (append_assoc xs (step.End ∷ []) rest) ∙ first.writes (step.End ∷ [] ++ rest) ((n.now, opened.If) ∷ waiting);
+          ap (λ (steps : List LowStep). all_written appended steps (writing n.ended [] ((n.now, opened.If) ∷ waiting))) (append_assoc xs (step.End ∷ []) rest) ∙ first.writes (step.End ∷ [] ++ rest) ((n.now, opened.If) ∷ waiting);
       labels = first.labels;
     }
 
@@ -110,7 +111,7 @@ loop_numbers xs f one n =
       next = holding first.next;
       numbers = λ k. ap (λ (a : Numbering). numbering k (holding a)) (first.numbers done);
       writes = λ rest waiting.
-          ap (λ (steps : List LowStep). all_written steps (writing n.ended [] ((n.now, opened.Loop) ∷ waiting))) (append_assoc xs (step.End ∷ []) rest) ∙ first.writes (step.End ∷ [] ++ rest) ((n.now, opened.Loop) ∷ waiting);
+          ap (λ (steps : List LowStep). all_written appended steps (writing n.ended [] ((n.now, opened.Loop) ∷ waiting))) (append_assoc xs (step.End ∷ []) rest) ∙ first.writes (step.End ∷ [] ++ rest) ((n.now, opened.Loop) ∷ waiting);
       labels = first.labels;
     }
 
@@ -124,11 +125,11 @@ raise_numbers : (code : ℕ) → Numbers (step.Raise code ∷ []) (raising code)
 raise_numbers code n = record {
   next = and_then (and_then n (i.Op (o.Const (const.I32 code)))) (i.Call 0);
   numbers = λ k. refl;
-  writes = λ rest waiting. ap (λ (c : List Instr). all_written rest (writing n.ended c waiting)) (sym (append_assoc n.now (i.Op (o.Const (const.I32 code)) ∷ []) (i.Call 0 ∷ [])));
+  writes = λ rest waiting. refl;
   labels = refl;
 }
 
-request_numbers : (x : ℕ) → Numbers (request_steps x) (λ k. op o.MemoryGrow (on_answer x k))
+request_numbers : (x : ℕ) → Numbers (request_steps x) (λ k. op o.MemoryGrow (plain_answer x k))
 request_numbers x =
     let set : List LowStep = step.Op (o.LocalSet x) ∷ [] in
     let multiplied : List LowStep = step.Op (o.Binary I32 Mul) ∷ set in
@@ -137,11 +138,11 @@ request_numbers x =
     let chosen : List LowStep = step.If ∷ step.Raise 3 ∷ step.End ∷ octets in
     let compared : List LowStep = step.Op (o.Relation I32 Eq) ∷ chosen in
     let with_refusal : List LowStep = step.Op (o.Const (const.I32 refusal)) ∷ compared in
-    numbers_first o.MemoryGrow (step.Op (o.LocalTee x) ∷ with_refusal) (on_answer x)
-    (numbers_first (o.LocalTee x) with_refusal (λ k. op (o.Const (const.I32 refusal)) (op (o.Relation I32 Eq) (if_then None (raising 3 done) (to_octets x k))))
-    (numbers_first (o.Const (const.I32 refusal)) compared (λ k. op (o.Relation I32 Eq) (if_then None (raising 3 done) (to_octets x k)))
-    (numbers_first (o.Relation I32 Eq) chosen (λ k. if_then None (raising 3 done) (to_octets x k))
-    (numbers_then (step.If ∷ step.Raise 3 ∷ step.End ∷ []) octets (if_then None (raising 3 done)) (to_octets x)
+    numbers_first o.MemoryGrow (step.Op (o.LocalTee x) ∷ with_refusal) (plain_answer x)
+    (numbers_first (o.LocalTee x) with_refusal (λ k. op (o.Const (const.I32 refusal)) (op (o.Relation I32 Eq) (if_then None (raising 3 done) (plain_octets x k))))
+    (numbers_first (o.Const (const.I32 refusal)) compared (λ k. op (o.Relation I32 Eq) (if_then None (raising 3 done) (plain_octets x k)))
+    (numbers_first (o.Relation I32 Eq) chosen (λ k. if_then None (raising 3 done) (plain_octets x k))
+    (numbers_then (step.If ∷ step.Raise 3 ∷ step.End ∷ []) octets (if_then None (raising 3 done)) (plain_octets x)
     (then_numbers (step.Raise 3 ∷ []) (raising 3) (raise_numbers 3))
     (numbers_first (o.LocalGet x) by_page (λ k. op (o.Const (const.I32 page)) (op (o.Binary I32 Mul) (op (o.LocalSet x) k)))
     (numbers_first (o.Const (const.I32 page)) multiplied (λ k. op (o.Binary I32 Mul) (op (o.LocalSet x) k))
@@ -158,28 +159,28 @@ while_numbers xs ys f g one two =
     (loop_numbers turn (λ k. g (f (br_if 0 k)))
     (numbers_then ys (xs ++ step.Again ∷ []) g (λ k. f (br_if 0 k)) two (numbers_then xs (step.Again ∷ []) f (br_if 0) one again_numbers)))))
 
-statement_numbers : (s : Statement) → Numbers (steps_of s) (statement_code s)
+statement_numbers : (s : Statement) → Numbers (steps_of s) (plain_code s)
 statement_numbers skip = λ n. record { next = n; numbers = λ k. refl; writes = λ rest waiting. refl; labels = refl }
-statement_numbers (seq a b) = numbers_then (steps_of a) (steps_of b) (statement_code a) (statement_code b) (statement_numbers a) (statement_numbers b)
+statement_numbers (seq a b) = numbers_then (steps_of a) (steps_of b) (plain_code a) (plain_code b) (statement_numbers a) (statement_numbers b)
 statement_numbers (assign x e) = numbers_operator (expression_steps e) (expression_code e) (o.LocalSet x) (expression_numbers e)
 statement_numbers (load x l offset a) = numbers_then (expression_steps a) (step.Op (o.Load l (unaligned offset)) ∷ step.Op (o.LocalSet x) ∷ []) (expression_code a) (λ k. op (o.Load l (unaligned offset)) (op (o.LocalSet x) k))
     (expression_numbers a) (numbers_first (o.Load l (unaligned offset)) (step.Op (o.LocalSet x) ∷ []) (op (o.LocalSet x)) (numbers_op (o.LocalSet x)))
 statement_numbers (store st offset a e) = numbers_binary (expression_steps a) (expression_steps e) (expression_code a) (expression_code e) (o.Store st (unaligned offset)) (expression_numbers a) (expression_numbers e)
-statement_numbers (conditional e a b) = numbers_then (expression_steps e) (step.If ∷ (steps_of a ++ (step.Else ∷ (steps_of b ++ step.End ∷ [])))) (expression_code e) (if_else None (statement_code a done) (statement_code b done))
-    (expression_numbers e) (choice_numbers (steps_of a) (steps_of b) (statement_code a) (statement_code b) (statement_numbers a) (statement_numbers b))
-statement_numbers (while e a) = while_numbers (expression_steps e) (steps_of a) (expression_code e) (statement_code a) (expression_numbers e) (statement_numbers a)
-statement_numbers (request e x) = numbers_then (expression_steps e) (request_steps x) (expression_code e) (λ k. op o.MemoryGrow (on_answer x k)) (expression_numbers e) (request_numbers x)
+statement_numbers (conditional e a b) = numbers_then (expression_steps e) (step.If ∷ (steps_of a ++ (step.Else ∷ (steps_of b ++ step.End ∷ [])))) (expression_code e) (if_else None (plain_code a done) (plain_code b done))
+    (expression_numbers e) (choice_numbers (steps_of a) (steps_of b) (plain_code a) (plain_code b) (statement_numbers a) (statement_numbers b))
+statement_numbers (while e a) = while_numbers (expression_steps e) (steps_of a) (expression_code e) (plain_code a) (expression_numbers e) (statement_numbers a)
+statement_numbers (request e x) = numbers_then (expression_steps e) (request_steps x) (expression_code e) (λ k. op o.MemoryGrow (plain_answer x k)) (expression_numbers e) (request_numbers x)
 statement_numbers (raise code) = raise_numbers code
 statement_numbers exit = exit_numbers
 
 -- ---- the whole pass
-pub written_in_order : (s : Statement) (code : List LowStep) → code ≡ steps_of s → (w : Writing) → w ≡ all_written code start → (bodies : List (List Instr)) → bodies ≡ w.finished ++ w.current ∷ [] →
-    code_of (unlabelled bodies) ≡ statement_code s done → IsInOrder (unlabelled bodies)
-written_in_order s code code_is w w_is bodies bodies_are coded =
+pub plain_in_order : (s : Statement) (code : List LowStep) → code ≡ steps_of s → code_of (unlabelled (bodies_in (all_written appended code start))) ≡ plain_code s done →
+    IsInOrder (unlabelled (bodies_in (all_written appended code start)))
+plain_in_order s code code_is coded =
     let run = statement_numbers s at_start in
-    let w_at : w ≡ writing run.next.ended run.next.now [] = w_is ∙ ap (λ (steps : List LowStep). all_written steps start) (code_is ∙ sym (append-nil (steps_of s))) ∙ run.writes [] [] in
-    let all_are : bodies ≡ run.next.ended ++ run.next.now ∷ [] = bodies_are ∙ ap (λ (x : Writing). x.finished ++ x.current ∷ []) w_at in
-    let number : numbering (statement_code s done) at_start ≡ run.next = run.numbers done in
+    let all_are : bodies_in (all_written appended code start) ≡ run.next.ended ++ run.next.now ∷ [] =
+    ap (λ (steps : List LowStep). bodies_in (all_written appended steps start)) (code_is ∙ sym (append-nil (steps_of s))) ∙ ap bodies_in (run.writes [] []) in
+    let number : numbering (plain_code s done) at_start ≡ run.next = run.numbers done in
     let sequences_are : unlabelled (run.next.ended ++ run.next.now ∷ []) ≡ record { each = run.next.ended ++ run.next.now ∷ []; labels = run.next.labels } =
     ap (λ (labels : List ℕ). let s : Sequences = record { each = run.next.ended ++ run.next.now ∷ []; labels = labels } in s) (sym run.labels) in
     ap unlabelled all_are ∙ sequences_are

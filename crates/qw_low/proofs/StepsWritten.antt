@@ -1,8 +1,8 @@
--- One pass over the steps of a statement writes its code.
-use Rattle.std.proofs.Common.{◌≡◌, ℕ, zero, suc, ◌+◌, ◌-◌, ◌<◌, ◌≤◌, List, [], ◌∷◌, ◌++◌, length, length-append, drop, get_or, drop-cons, Some, None, refl, sym, ap, ◌∙◌, subst, ⊎_elim, arith}
+-- One pass over the steps of a statement writes its code, with each set and each get by itself.
+use Rattle.std.proofs.Common.{◌≡◌, ℕ, zero, suc, ◌+◌, ◌-◌, ◌<◌, ◌≤◌, List, [], ◌∷◌, ◌++◌, length, length-append, Some, None, refl, sym, ap, ◌∙◌, subst, ⊎_elim, arith}
 use Rattle.std.specs.List.{AllByRecursion}
 use Rattle.std.proofs.lemmas.Bool.{cases_lt}
-use Rattle.std.proofs.lemmas.List.{append_assoc, append-nil, at_drop_all}
+use Rattle.std.proofs.lemmas.List.{append_assoc, append-nil}
 use Rattle.qw_module.specs.declared.instruction.ValType.TheVariants.{I32}
 use Rattle.qw_module.specs.declared.instruction.Binary.TheVariants.{Add, Sub, Mul}
 use Rattle.qw_module.specs.declared.instruction.Relation.TheVariants.{Eq}
@@ -21,9 +21,10 @@ use Rattle.qw_low.specs.declared.step.LowStep.TheVariants as step
 use Rattle.qw_low.specs.declared.body.Opened.{Opened}
 use Rattle.qw_low.specs.declared.body.Opened.TheVariants as opened
 use Rattle.qw_low.specs.Syntax.{Expression, constant_of, local, unop, binop, divop, is_zero, relop, cvtop, advance, retreat, Statement, skip, seq, assign, load, store, conditional, while, request, raise, exit}
-use Rattle.qw_low.specs.Translation.{expression_code, statement_code, unaligned, raising, to_octets, on_answer}
+use Rattle.qw_low.specs.Translation.{expression_code, unaligned, raising}
 use Rattle.qw_low.specs.Steps.{expression_steps, request_steps, steps_of}
-use Rattle.qw_low.specs.Inner.Writing.{Writing, writing, written, all_written, start, unlabelled, AreLower, Emits}
+use Rattle.qw_low.specs.Inner.Tees.{plain_answer, plain_code, plain_octets}
+use Rattle.qw_low.specs.Inner.Writing.{writing, all_written, appended, bodies_in, start, unlabelled, AreLower, Emits}
 
 -- ---- what numbers name, in sequences to which more are added
 nested_pointwise : (f g : ℕ → Code) (sequence : List Instr) → ((k : ℕ) → f k ≡ g k) → nested [] f sequence ≡ nested [] g sequence
@@ -150,7 +151,7 @@ emits-choice b0 b1 b2 current a b f g one two =
 -- the steps, before more
 abbrev Writes : List LowStep → (Code → Code) → Type 0
 Writes steps code = (rest : List LowStep) (finished : List (List Instr)) (current : List Instr) (waiting : List (List Instr × Opened)) →
-    (after : List (List Instr)) × (new : List Instr) × (all_written (steps ++ rest) (writing finished current waiting) ≡ all_written rest (writing after new waiting)) × Emits finished after current new code
+    (after : List (List Instr)) × (new : List Instr) × (all_written appended (steps ++ rest) (writing finished current waiting) ≡ all_written appended rest (writing after new waiting)) × Emits finished after current new code
 
 writes-then : (xs ys : List LowStep) (f g : Code → Code) → Writes xs f → Writes ys g → Writes (xs ++ ys) (λ k. f (g k))
 writes-then xs ys f g one two rest finished current waiting =
@@ -158,7 +159,7 @@ writes-then xs ys f g one two rest finished current waiting =
     let second = two rest first.0 first.1 waiting in (
       second.0,
       second.1,
-      ap (λ (steps : List LowStep). all_written steps (writing finished current waiting)) (append_assoc xs ys rest) ∙ first.2 ∙ second.2,
+      ap (λ (steps : List LowStep). all_written appended steps (writing finished current waiting)) (append_assoc xs ys rest) ∙ first.2 ∙ second.2,
       emits-then finished first.0 second.0 current first.1 second.1 f g first.3 second.3,
     )
 
@@ -193,8 +194,8 @@ choice_writes xs ys f g one two rest finished current waiting =
     let second = two (step.End ∷ [] ++ rest) middle [] ((current, opened.Else (length first.0)) ∷ waiting) in (
       second.0 ++ second.1 ∷ [],
       current ++ i.If None (length first.0) (Some (length second.0)) ∷ [],
-      ap (λ (steps : List LowStep). all_written steps (writing finished [] ((current, opened.If) ∷ waiting))) (append_assoc xs (step.Else ∷ (ys ++ step.End ∷ [])) rest)
-          ∙ first.2 ∙ ap (λ (steps : List LowStep). all_written steps (writing middle [] ((current, opened.Else (length first.0)) ∷ waiting))) (append_assoc ys (step.End ∷ []) rest)
+      ap (λ (steps : List LowStep). all_written appended steps (writing finished [] ((current, opened.If) ∷ waiting))) (append_assoc xs (step.Else ∷ (ys ++ step.End ∷ [])) rest)
+          ∙ first.2 ∙ ap (λ (steps : List LowStep). all_written appended steps (writing middle [] ((current, opened.Else (length first.0)) ∷ waiting))) (append_assoc ys (step.End ∷ []) rest)
           ∙ second.2,
       emits-choice finished first.0 second.0 current first.1 second.1 f g first.3 second.3,
     )
@@ -205,7 +206,7 @@ then_writes xs f one rest finished current waiting =
     let first = one (step.End ∷ [] ++ rest) finished [] ((current, opened.If) ∷ waiting) in (
       first.0 ++ first.1 ∷ [],
       current ++ i.If None (length first.0) None ∷ [],
-      ap (λ (steps : List LowStep). all_written steps (writing finished [] ((current, opened.If) ∷ waiting))) (append_assoc xs (step.End ∷ []) rest) ∙ first.2,
+      ap (λ (steps : List LowStep). all_written appended steps (writing finished [] ((current, opened.If) ∷ waiting))) (append_assoc xs (step.End ∷ []) rest) ∙ first.2,
       emits-inner finished first.0 current first.1 f (λ n. i.If None n None) (if_then None) (λ names n more. refl) (λ n m h. h) first.3,
     )
 
@@ -214,7 +215,7 @@ loop_writes xs f one rest finished current waiting =
     let first = one (step.End ∷ [] ++ rest) finished [] ((current, opened.Loop) ∷ waiting) in (
       first.0 ++ first.1 ∷ [],
       current ++ i.Loop None (length first.0) ∷ [],
-      ap (λ (steps : List LowStep). all_written steps (writing finished [] ((current, opened.Loop) ∷ waiting))) (append_assoc xs (step.End ∷ []) rest) ∙ first.2,
+      ap (λ (steps : List LowStep). all_written appended steps (writing finished [] ((current, opened.Loop) ∷ waiting))) (append_assoc xs (step.End ∷ []) rest) ∙ first.2,
       emits-inner finished first.0 current first.1 f (λ n. i.Loop None n) (loop None) (λ names n more. refl) (λ n m h. h) first.3,
     )
 
@@ -228,7 +229,7 @@ raise_writes : (code : ℕ) → Writes (step.Raise code ∷ []) (raising code)
 raise_writes code rest finished current waiting = (
   finished,
   (current ++ i.Op (o.Const (const.I32 code)) ∷ []) ++ i.Call 0 ∷ [],
-  ap (λ (c : List Instr). all_written rest (writing finished c waiting)) (sym (append_assoc current (i.Op (o.Const (const.I32 code)) ∷ []) (i.Call 0 ∷ []))),
+  refl,
   emits-then finished finished finished current (current ++ i.Op (o.Const (const.I32 code)) ∷ []) _ (op (o.Const (const.I32 code))) (call 0)
       (emits-one finished current (i.Op (o.Const (const.I32 code))) (op (o.Const (const.I32 code))) (λ names more. refl) (λ n. tt))
       (emits-one finished (current ++ i.Op (o.Const (const.I32 code)) ∷ []) (i.Call 0) (call 0) (λ names more. refl) (λ n. tt)),
@@ -242,7 +243,7 @@ writes-same xs ys f same one = subst (λ (steps : List LowStep). Writes steps f)
 writes-first : (operator : Op) (ys : List LowStep) (g : Code → Code) → Writes ys g → Writes (step.Op operator ∷ ys) (λ k. op operator (g k))
 writes-first operator ys g two = writes-then (step.Op operator ∷ []) ys (op operator) g (writes-op operator) two
 
-request_writes : (x : ℕ) → Writes (request_steps x) (λ k. op o.MemoryGrow (on_answer x k))
+request_writes : (x : ℕ) → Writes (request_steps x) (λ k. op o.MemoryGrow (plain_answer x k))
 request_writes x =
     let set : List LowStep = step.Op (o.LocalSet x) ∷ [] in
     let multiplied : List LowStep = step.Op (o.Binary I32 Mul) ∷ set in
@@ -251,11 +252,11 @@ request_writes x =
     let chosen : List LowStep = step.If ∷ step.Raise 3 ∷ step.End ∷ octets in
     let compared : List LowStep = step.Op (o.Relation I32 Eq) ∷ chosen in
     let with_refusal : List LowStep = step.Op (o.Const (const.I32 refusal)) ∷ compared in
-    writes-first o.MemoryGrow (step.Op (o.LocalTee x) ∷ with_refusal) (on_answer x)
-    (writes-first (o.LocalTee x) with_refusal (λ k. op (o.Const (const.I32 refusal)) (op (o.Relation I32 Eq) (if_then None (raising 3 done) (to_octets x k))))
-    (writes-first (o.Const (const.I32 refusal)) compared (λ k. op (o.Relation I32 Eq) (if_then None (raising 3 done) (to_octets x k)))
-    (writes-first (o.Relation I32 Eq) chosen (λ k. if_then None (raising 3 done) (to_octets x k))
-    (writes-then (step.If ∷ step.Raise 3 ∷ step.End ∷ []) octets (if_then None (raising 3 done)) (to_octets x)
+    writes-first o.MemoryGrow (step.Op (o.LocalTee x) ∷ with_refusal) (plain_answer x)
+    (writes-first (o.LocalTee x) with_refusal (λ k. op (o.Const (const.I32 refusal)) (op (o.Relation I32 Eq) (if_then None (raising 3 done) (plain_octets x k))))
+    (writes-first (o.Const (const.I32 refusal)) compared (λ k. op (o.Relation I32 Eq) (if_then None (raising 3 done) (plain_octets x k)))
+    (writes-first (o.Relation I32 Eq) chosen (λ k. if_then None (raising 3 done) (plain_octets x k))
+    (writes-then (step.If ∷ step.Raise 3 ∷ step.End ∷ []) octets (if_then None (raising 3 done)) (plain_octets x)
     (then_writes (step.Raise 3 ∷ []) (raising 3) (raise_writes 3))
     (writes-first (o.LocalGet x) by_page (λ k. op (o.Const (const.I32 page)) (op (o.Binary I32 Mul) (op (o.LocalSet x) k)))
     (writes-first (o.Const (const.I32 page)) multiplied (λ k. op (o.Binary I32 Mul) (op (o.LocalSet x) k))
@@ -272,47 +273,35 @@ while_writes xs ys f g one two =
     (loop_writes turn (λ k. g (f (br_if 0 k)))
     (writes-then ys (xs ++ step.Again ∷ []) g (λ k. f (br_if 0 k)) two (writes-then xs (step.Again ∷ []) f (br_if 0) one again_writes)))))
 
-pub statement_writes : (s : Statement) → Writes (steps_of s) (statement_code s)
+pub statement_writes : (s : Statement) → Writes (steps_of s) (plain_code s)
 statement_writes skip = λ rest finished current waiting. (finished, current, refl, emits-none finished current)
-statement_writes (seq a b) = writes-then (steps_of a) (steps_of b) (statement_code a) (statement_code b) (statement_writes a) (statement_writes b)
+statement_writes (seq a b) = writes-then (steps_of a) (steps_of b) (plain_code a) (plain_code b) (statement_writes a) (statement_writes b)
 statement_writes (assign x e) = writes-operator (expression_steps e) (expression_code e) (o.LocalSet x) (expression_writes e)
 statement_writes (load x l offset a) = writes-then (expression_steps a) (step.Op (o.Load l (unaligned offset)) ∷ step.Op (o.LocalSet x) ∷ []) (expression_code a) (λ k. op (o.Load l (unaligned offset)) (op (o.LocalSet x) k))
     (expression_writes a) (writes-first (o.Load l (unaligned offset)) (step.Op (o.LocalSet x) ∷ []) (op (o.LocalSet x)) (writes-op (o.LocalSet x)))
 statement_writes (store st offset a e) = writes-binary (expression_steps a) (expression_steps e) (expression_code a) (expression_code e) (o.Store st (unaligned offset)) (expression_writes a) (expression_writes e)
-statement_writes (conditional e a b) = writes-then (expression_steps e) (step.If ∷ (steps_of a ++ (step.Else ∷ (steps_of b ++ step.End ∷ [])))) (expression_code e) (if_else None (statement_code a done) (statement_code b done))
-    (expression_writes e) (choice_writes (steps_of a) (steps_of b) (statement_code a) (statement_code b) (statement_writes a) (statement_writes b))
-statement_writes (while e a) = while_writes (expression_steps e) (steps_of a) (expression_code e) (statement_code a) (expression_writes e) (statement_writes a)
-statement_writes (request e x) = writes-then (expression_steps e) (request_steps x) (expression_code e) (λ k. op o.MemoryGrow (on_answer x k)) (expression_writes e) (request_writes x)
+statement_writes (conditional e a b) = writes-then (expression_steps e) (step.If ∷ (steps_of a ++ (step.Else ∷ (steps_of b ++ step.End ∷ [])))) (expression_code e) (if_else None (plain_code a done) (plain_code b done))
+    (expression_writes e) (choice_writes (steps_of a) (steps_of b) (plain_code a) (plain_code b) (statement_writes a) (statement_writes b))
+statement_writes (while e a) = while_writes (expression_steps e) (steps_of a) (expression_code e) (plain_code a) (expression_writes e) (statement_writes a)
+statement_writes (request e x) = writes-then (expression_steps e) (request_steps x) (expression_code e) (λ k. op o.MemoryGrow (plain_answer x k)) (expression_writes e) (request_writes x)
 statement_writes (raise code) = raise_writes code
 statement_writes exit = exit_writes
 
--- ---- the loop over all steps
-pub step-left : (code : List LowStep) (n : ℕ) (d : LowStep) (w w' total : Writing) → n < length code → all_written (drop n code) w ≡ total → w' ≡ written (get_or code n d) w →
-    all_written (drop (n + 1) code) w' ≡ total
-step-left code n d w w' total below left is =
-    let more : n + 1 ≡ suc n = omega arith in
-    rw (more, is) (rw (drop-cons code n d below) at left)
-
-pub none-left : (code : List LowStep) (n : ℕ) (w total : Writing) → length code ≤ n → all_written (drop n code) w ≡ total → w ≡ total
-none-left code n w total all left = sym (at_drop_all (λ (steps : List LowStep). all_written steps w) code n all) ∙ left
-
-module _ (s : Statement) (code : List LowStep) (code_is : code ≡ steps_of s) (w : Writing) (w_is : w ≡ all_written code start) (bodies : List (List Instr)) (bodies_are : bodies ≡ w.finished ++ w.current ∷ []) where
-  run : (after : List (List Instr)) × (new : List Instr) × (all_written (steps_of s ++ []) start ≡ all_written [] (writing after new [])) × Emits [] after [] new (statement_code s)
+-- ---- the whole pass
+module _ (s : Statement) (code : List LowStep) (code_is : code ≡ steps_of s) where
+  run : (after : List (List Instr)) × (new : List Instr) × (all_written appended (steps_of s ++ []) start ≡ all_written appended [] (writing after new [])) × Emits [] after [] new (plain_code s)
   run = statement_writes s [] [] [] []
 
-  w_at : w ≡ writing run.0 run.1 []
-  w_at = w_is ∙ ap (λ (steps : List LowStep). all_written steps start) (code_is ∙ sym (append-nil (steps_of s))) ∙ run.2
+  all_are : bodies_in (all_written appended code start) ≡ run.0 ++ run.1 ∷ []
+  all_are = ap (λ (steps : List LowStep). bodies_in (all_written appended steps start)) (code_is ∙ sym (append-nil (steps_of s))) ∙ ap bodies_in run.2
 
-  all_are : bodies ≡ run.0 ++ run.1 ∷ []
-  all_are = bodies_are ∙ ap (λ (x : Writing). x.finished ++ x.current ∷ []) w_at
-
-  pub written_code : code_of (unlabelled bodies) ≡ statement_code s done
-  written_code =
+  pub plain_written : code_of (unlabelled (bodies_in (all_written appended code start))) ≡ plain_code s done
+  plain_written =
       let last : length (run.0 ++ run.1 ∷ []) - 1 ≡ length run.0 = omega (arith, length-append run.0 (run.1 ∷ [])) in
-      ap (λ (b : List (List Instr)). code_of (unlabelled b)) all_are ∙ ap (named (unlabelled (run.0 ++ run.1 ∷ []))) last ∙ finished-names [] run.0 run.1 (statement_code s) run.3
+      ap (λ (b : List (List Instr)). code_of (unlabelled b)) all_are ∙ ap (named (unlabelled (run.0 ++ run.1 ∷ []))) last ∙ finished-names [] run.0 run.1 (plain_code s) run.3
 
-  pub written_numbered : IsNumbered (unlabelled bodies)
-  written_numbered = subst (λ (b : List (List Instr)). IsNumbered (unlabelled b)) (sym all_are) (record {
+  pub plain_numbered : IsNumbered (unlabelled (bodies_in (all_written appended code start)))
+  plain_numbered = subst (λ (b : List (List Instr)). IsNumbered (unlabelled b)) (sym all_are) (record {
     some = omega (arith, length-append run.0 (run.1 ∷ []));
-    lower = finished-lower [] run.0 run.1 (statement_code s) run.3 (λ n below. absurd (omega arith));
+    lower = finished-lower [] run.0 run.1 (plain_code s) run.3 (λ n below. absurd (omega arith));
   })

@@ -1,6 +1,7 @@
--- What Low means: the value of an expression, and what a statement does to a state, with the exact number of instructions that
--- it executes. It goes wrong where something is not what it is used as, where an access leaves its part, where a store is in a
--- column, where a division traps, and where a request would lead past the most pages stated.
+-- What Low means: the value of an expression, and what a statement does to a state, with the number of instructions that it executes.
+-- Where a local is set and the code that follows gets it at once, that counts as two, though one `local.tee` does both. It goes wrong
+-- where something is not what it is used as, where an access leaves its part, where a store is in a column, where a division traps,
+-- and where a request would lead past the most pages stated.
 use Rattle.std.specs.Prelude.{ℕ, zero, suc, ◌+◌, ◌-◌, ◌==◌, nat_le, nat_lt, ◌&&◌, if◌then◌else◌, length, Option, Some, None, Result, Ok, Err, slice_get, slice_set}
 use Rattle.std.specs.Option.{option_and_then}
 use Rattle.qw_module.specs.declared.instruction.ValType.{ValType}

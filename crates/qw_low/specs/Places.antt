@@ -68,12 +68,20 @@ pub record EndsAfter (n pages : ℕ) (P : Moment → Type 0) (a : Moment) : Type
   pub behaves : BehavesWithin n pages n P a
   pub exactly : (k : ℕ) (b : Moment) → OpenRun k a b → IsOver b.state → k ≡ n
 
--- What an outcome says of the open runs from a moment on: they come to it after exactly its count. Of what is wrong or unfinished
--- nothing is said.
+-- The same after one number of instructions, where n counts two for each `local.tee` that sets a local and gets it: so it is at most n,
+-- and at least half of it.
+pub record EndsCounted (n pages : ℕ) (P : Moment → Type 0) (a : Moment) : Type 0 where
+  pub count : ℕ
+  pub most : count ≤ n
+  pub least : n ≤ 2 * count
+  pub ends : EndsAfter count pages P a
+
+-- What an outcome says of the open runs from a moment on: they come to it after as many instructions as its count says. Of what is
+-- wrong or unfinished nothing is said.
 abbrev pub RunsAs : Outcome → (pages : ℕ) → Moment → Type 0
-RunsAs (Completed n s) pages a = EndsAfter n pages (IsOutcome (Completed n s)) a
-RunsAs (Exited n s) pages a = EndsAfter n pages (IsOutcome (Exited n s)) a
-RunsAs (Stopped code n s) pages a = EndsAfter n pages (IsOutcome (Stopped code n s)) a
+RunsAs (Completed n s) pages a = EndsCounted n pages (IsOutcome (Completed n s)) a
+RunsAs (Exited n s) pages a = EndsCounted n pages (IsOutcome (Exited n s)) a
+RunsAs (Stopped code n s) pages a = EndsCounted n pages (IsOutcome (Stopped code n s)) a
 RunsAs Wrong pages a = Unit {0}
 RunsAs Unfinished pages a = Unit {0}
 

@@ -1,5 +1,5 @@
 -- The code of Low in WebAssembly, before the code that follows.
-use Rattle.std.specs.Prelude.{ℕ, None}
+use Rattle.std.specs.Prelude.{ℕ, None, ◌==◌, if◌then◌else◌}
 use Rattle.qw_module.specs.declared.instruction.ValType.TheVariants.{I32}
 use Rattle.qw_module.specs.declared.instruction.Const.TheVariants as const
 use Rattle.qw_module.specs.declared.instruction.Binary.TheVariants.{Add, Sub, Mul}
@@ -31,9 +31,14 @@ unaligned offset = record { align = 0; offset = offset }
 abbrev pub raising : ℕ → Code → Code
 raising code k = op (o.Const (const.I32 code)) (call 0 k)
 
+-- A value is set into a local. Where the code that follows begins by getting that local, both are one `local.tee` (4.4.3).
+abbrev pub setting : ℕ → Code → Code
+setting x (op (o.LocalGet y) k) = if x == y then op (o.LocalTee x) k else op (o.LocalSet x) (op (o.LocalGet y) k)
+setting x k = op (o.LocalSet x) k
+
 -- the octets of so many pages: where pages that were granted begin
 abbrev pub to_octets : ℕ → Code → Code
-to_octets x k = op (o.LocalGet x) (op (o.Const (const.I32 page)) (op (o.Binary I32 Mul) (op (o.LocalSet x) k)))
+to_octets x k = op (o.LocalGet x) (op (o.Const (const.I32 page)) (op (o.Binary I32 Mul) (setting x k)))
 
 -- what is done with the answer to a request
 abbrev pub on_answer : ℕ → Code → Code
@@ -43,8 +48,8 @@ on_answer x k =
 abbrev pub statement_code : Statement → Code → Code
 statement_code skip k = k
 statement_code (seq a b) k = statement_code a (statement_code b k)
-statement_code (assign x e) k = expression_code e (op (o.LocalSet x) k)
-statement_code (load x l offset a) k = expression_code a (op (o.Load l (unaligned offset)) (op (o.LocalSet x) k))
+statement_code (assign x e) k = expression_code e (setting x k)
+statement_code (load x l offset a) k = expression_code a (op (o.Load l (unaligned offset)) (setting x k))
 statement_code (store st offset a e) k = expression_code a (expression_code e (op (o.Store st (unaligned offset)) k))
 statement_code (conditional e a b) k = expression_code e (if_else None (statement_code a done) (statement_code b done) k)
 statement_code (while e a) k = expression_code e (if_then None (loop None (statement_code a (expression_code e (br_if 0 done))) done) k)

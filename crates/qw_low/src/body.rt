@@ -6,12 +6,14 @@ ghost use Rattle.qw_module.specs.Syntax.{done, IsNumbered};
 ghost use Rattle.qw_module.specs.Validity.{CallsBelow, code_of_body, items_of, sequences_of};
 ghost use Rattle.qw_module.specs.Numbering.{IsInOrder};
 ghost use Rattle.qw_module.specs.Offsets.{FitOffsets};
+ghost use Rattle.qw_low.specs.Inner.Tees.{pushed};
 ghost use Rattle.qw_low.specs.Inner.Writing.{writing_of, adds, opens, finishes, all_written, written};
 ghost use Rattle.qw_low.specs.Steps.{FitsStep, steps_of};
 ghost use Rattle.qw_low.specs.Syntax.{Statement};
 ghost use Rattle.qw_low.specs.Translation.{statement_code};
 
 use crate::step::LowStep;
+use crate::tee;
 use qw_module::instruction::{Const, Instr, Op};
 use qw_module::module::Body;
 use qw_types::NoMemory;
@@ -43,10 +45,9 @@ struct Writer {
 
 impl Writer {
     fn add(&mut self, instruction: Instr) -> Result<(), NoMemory>
-        ensures { OnOk result (writing_of self.new ≡ adds (instruction ∷ []) (writing_of self.old)) }
+        ensures { OnOk result (writing_of self.new ≡ adds pushed instruction (writing_of self.old)) }
     {
-        self.current.push(instruction)?;
-        Ok(())
+        tee::push(&mut self.current, instruction)
     }
 
     fn open(&mut self, alloc: Global, opened: Opened) -> Result<(), NoMemory>
@@ -69,7 +70,7 @@ impl Writer {
     }
 
     fn turn(&mut self, alloc: Global) -> Result<(), NoMemory>
-        ensures { OnOk result (writing_of self.new ≡ written LowStep.Else (writing_of self.old)) }
+        ensures { OnOk result (writing_of self.new ≡ written pushed LowStep.Else (writing_of self.old)) }
     {
         if let Some(outer) = self.waiting.pop() {
             let first = self.finish(alloc)?;
@@ -82,7 +83,7 @@ impl Writer {
     }
 
     fn end(&mut self, alloc: Global) -> Result<(), NoMemory>
-        ensures { OnOk result (writing_of self.new ≡ written LowStep.End (writing_of self.old)) }
+        ensures { OnOk result (writing_of self.new ≡ written pushed LowStep.End (writing_of self.old)) }
     {
         if let Some(outer) = self.waiting.pop() {
             let number = self.finish(alloc)?;
@@ -109,7 +110,7 @@ impl Writer {
     }
 
     fn write(&mut self, alloc: Global, step: LowStep) -> Result<(), NoMemory>
-        ensures { OnOk result (writing_of self.new ≡ written step (writing_of self.old)) }
+        ensures { OnOk result (writing_of self.new ≡ written pushed step (writing_of self.old)) }
     {
         match step {
             LowStep::Op(op) => self.add(Instr::Op(op))?,

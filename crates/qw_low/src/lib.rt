@@ -3,8 +3,9 @@
 //! - [`block`]: blocks of steps, and how each statement is composed of its parts.
 //! - [`body`]: from steps to a numbered body, in one pass.
 //! - [`step`]: the flat steps.
+//! - `tee`: where a local is set and then got, one instruction does both.
 //! - [`cell`]: the locals of a value.
-//! - [`run_laws`]: each open run of the code is the run that Low means, with its count.
+//! - [`run_laws`]: each open run of the code is the run that Low means, in as many instructions as its count says.
 //! - [`begin_laws`]: what is known where a run begins.
 //! - [`typing_laws`]: the code is typed by the standard's rules.
 //! - [`size_laws`]: how many instructions the code has.
@@ -24,5 +25,6 @@ pub mod cell;
 pub mod run_laws;
 pub mod size_laws;
 pub mod step;
+mod tee;
 pub mod typing_laws;
 pub mod worked_laws;

@@ -4,14 +4,15 @@ ghost use Rattle.std.specs.Prelude.{◌≡◌, ℕ, List, [], ◌∷◌, length,
 ghost use Rattle.qw_module.specs.declared.instruction.ValType.TheVariants.{I32, I64};
 ghost use Rattle.qw_module.specs.declared.instruction.Sign.TheVariants.{Unsigned};
 ghost use Rattle.qw_module.specs.declared.instruction.Const.TheVariants as const;
-ghost use Rattle.qw_module.specs.declared.instruction.Binary.TheVariants.{Add, Sub};
+ghost use Rattle.qw_module.specs.declared.instruction.Binary.TheVariants.{Add, Sub, Mul};
+ghost use Rattle.qw_module.specs.declared.instruction.Relation.TheVariants.{Eq};
 ghost use Rattle.qw_module.specs.declared.instruction.Division.TheVariants.{Div};
 ghost use Rattle.qw_module.specs.declared.instruction.Op.TheVariants as o;
 ghost use Rattle.qw_module.specs.declared.instruction.Load.TheVariants as loads;
 ghost use Rattle.qw_module.specs.declared.instruction.Store.TheVariants as stores;
 ghost use Rattle.qw_linear.specs.Memory.{number_at, AreOctets};
 ghost use Rattle.qw_module.specs.Execution.{Store};
-ghost use Rattle.qw_module.specs.Syntax.{done, op, loop, if_then, br_if, return};
+ghost use Rattle.qw_module.specs.Syntax.{done, op, loop, if_then, br_if, return, call};
 ghost use Rattle.qw_map.specs.Areas.{World};
 ghost use Rattle.qw_map.specs.Runs.{Moment, OpenRun};
 ghost use Rattle.qw_map.specs.Seen.{seen};
@@ -42,7 +43,8 @@ pub fn values_of_addresses()
     ensures missing { value state (local 3) ≡ None }
 {}
 
-/// A countdown from 2 executes 7 instructions a turn and 2 for its last test; with two turns allowed it is unfinished.
+/// A countdown from 2 counts 7 instructions a turn, of which a `local.tee` is two, and 2 for its last test; with two turns allowed it is
+/// unfinished.
 pub fn counts_of_a_loop()
     ensures three_turns { meaning 128 3 (while (local 2) (assign 2 (binop I32 Sub (local 2) (i32 1)))) state
         ≡ Completed 16 (record state { locals = Address (Own 0) 0 ∷ Address (Column 0) 0 ∷ Number 0 ∷ [] }) }
@@ -99,6 +101,25 @@ pub fn code_of_a_loop()
         ≡ op (o.LocalGet 0) (if_then None (loop None (op (o.Const (const.I32 5)) (op (o.LocalSet 1) (return (op (o.LocalGet 0) (br_if 0 done))))) done) done) }
 {}
 
+/// A local that is set and got next is both in one `local.tee`, whatever set it, also where a loop's condition gets it. Where another local is
+/// got next, or none, it is set alone.
+pub fn code_of_tees()
+    ensures assigned { statement_code (seq (assign 2 (i32 5)) (assign 1 (local 2))) done
+        ≡ op (o.Const (const.I32 5)) (op (o.LocalTee 2) (op (o.LocalSet 1) done)) }
+    ensures loaded { statement_code (seq (load 2 (loads.Full I32) 8 (local 0)) (assign 1 (local 2))) done
+        ≡ op (o.LocalGet 0) (op (o.Load (loads.Full I32) (record { align = 0; offset = 8 })) (op (o.LocalTee 2) (op (o.LocalSet 1) done))) }
+    ensures requested { statement_code (seq (request (i32 1) 2) (assign 1 (local 2))) done
+        ≡ op (o.Const (const.I32 1)) (op o.MemoryGrow (op (o.LocalTee 2) (op (o.Const (const.I32 4294967295)) (op (o.Relation I32 Eq)
+        (if_then None (op (o.Const (const.I32 3)) (call 0 done))
+        (op (o.LocalGet 2) (op (o.Const (const.I32 65536)) (op (o.Binary I32 Mul) (op (o.LocalTee 2) (op (o.LocalSet 1) done)))))))))) }
+    ensures in_a_loop { statement_code (while (local 2) (assign 2 (i32 0))) done
+        ≡ op (o.LocalGet 2) (if_then None (loop None (op (o.Const (const.I32 0)) (op (o.LocalTee 2) (br_if 0 done))) done) done) }
+    ensures another { statement_code (seq (assign 2 (i32 5)) (assign 1 (local 0))) done
+        ≡ op (o.Const (const.I32 5)) (op (o.LocalSet 2) (op (o.LocalGet 0) (op (o.LocalSet 1) done))) }
+    ensures later { statement_code (seq (assign 2 (i32 5)) (assign 1 (binop I32 Add (i32 1) (local 2)))) done
+        ≡ op (o.Const (const.I32 5)) (op (o.LocalSet 2) (op (o.Const (const.I32 1)) (op (o.LocalGet 2) (op (o.Binary I32 Add) (op (o.LocalSet 1) done))))) }
+{}
+
 /// The words of addresses in a world whose column begins at 64, and whose page at 65,536.
 pub fn words_of_addresses()
     ensures page { Means world (Address (Own 0) 8) 65544 }
@@ -142,6 +163,26 @@ pub fn memories_that_stand()
 pub fn open_runs_of_a_choice()
     ensures { (store : Store) (memory locals : List ℕ) → HasRaise store → StandsFor world state memory → AreMeant world state.locals locals →
         EndsAfter 4 128 (IsOutcome (Stopped 1 4 state)) (beginning store world (conditional (local 0) (raise 1) skip) locals memory) }
+{}
+
+/// A local that is set and got next costs its run one instruction fewer than it counts: each open run of two assignments has ended after 3
+/// instructions where the count is 4, of the countdown from 2 after 14 where it is 16, and of a request that is granted and an assignment after
+/// 11 where it is 12. Where another local is got next it ends after 4.
+pub fn open_runs_of_tees()
+    ensures teed { (store : Store) (memory locals : List ℕ) → HasRaise store → StandsFor world state memory → AreMeant world state.locals locals →
+        EndsAfter 3 128 (IsOutcome (Completed 4 (record state { locals = Address (Own 0) 0 ∷ Number 5 ∷ Number 5 ∷ [] })))
+        (beginning store world (seq (assign 2 (i32 5)) (assign 1 (local 2))) locals memory) }
+    ensures counted { meaning 128 0 (seq (assign 2 (i32 5)) (assign 1 (local 2))) state
+        ≡ Completed 4 (record state { locals = Address (Own 0) 0 ∷ Number 5 ∷ Number 5 ∷ [] }) }
+    ensures countdown { (store : Store) (memory locals : List ℕ) → HasRaise store → StandsFor world state memory → AreMeant world state.locals locals →
+        EndsAfter 14 128 (IsOutcome (Completed 16 (record state { locals = Address (Own 0) 0 ∷ Address (Column 0) 0 ∷ Number 0 ∷ [] })))
+        (beginning store world (while (local 2) (assign 2 (binop I32 Sub (local 2) (i32 1)))) locals memory) }
+    ensures requested { (store : Store) (w : World) (memory locals : List ℕ) → HasRaise store → StandsFor w nearly_full memory → AreMeant w nearly_full.locals locals →
+        EndsAfter 11 200 (IsOutcome (Completed 12 (record (with_pages nearly_full 1) { locals = Address (Own 0) 0 ∷ Address (Own 1) 0 ∷ Address (Own 1) 0 ∷ [] })))
+        (beginning store w (seq (request (i32 1) 2) (assign 1 (local 2))) locals memory) }
+    ensures another { (store : Store) (memory locals : List ℕ) → HasRaise store → StandsFor world state memory → AreMeant world state.locals locals →
+        EndsAfter 4 128 (IsOutcome (Completed 4 (record state { locals = Address (Own 0) 0 ∷ Address (Own 0) 0 ∷ Number 5 ∷ [] })))
+        (beginning store world (seq (assign 2 (i32 5)) (assign 1 (local 0))) locals memory) }
 {}
 
 /// With 127 of 128 pages held, each open run of a request for one page holds 128 after its second instruction, and has ended after 10. One of two

@@ -1,6 +1,7 @@
 -- How a call of a module's own function begins, and how many instructions it has.
 use Rattle.std.specs.Prelude.{ℕ, zero, suc, ◌+◌, ◌==◌, if◌then◌else◌, List, [], ◌∷◌, ◌++◌, length, map, replicate, Option, Some, None, slice_get}
 use Rattle.std.specs.List.{filter_map}
+use Rattle.qw_module.specs.declared.instruction.Op.{Op}
 use Rattle.qw_module.specs.declared.instruction.Op.TheVariants as o
 use Rattle.qw_module.specs.declared.module.Import.{Import}
 use Rattle.qw_module.specs.declared.module.Import.TheVariants as import
@@ -63,10 +64,15 @@ begun m number argument =
     settled (first_store m) (label done 0 [] done ∷ []) (code_of (body_of m number)) []
     (argument ∷ replicate (locals_of_function (slice_get m.functions.items number)) 0)
 
+-- A `local.tee` is a `local.set` with the `local.get` of the same local behind it (4.4.3), and counts as both: one more than any other.
+abbrev pub besides_one : Op → ℕ
+besides_one (o.LocalTee x) = 1
+besides_one _ = 0
+
 -- How many instructions a code has with those of the functions that it calls, of which `called` tells how many they have.
 abbrev pub weight_with : (called : ℕ → ℕ) → Code → ℕ
 weight_with called done = 0
-weight_with called (op o rest) = 1 + weight_with called rest
+weight_with called (op operator rest) = 1 + besides_one operator + weight_with called rest
 weight_with called (unreachable rest) = 1 + weight_with called rest
 weight_with called (block result inner rest) = 1 + weight_with called inner + weight_with called rest
 weight_with called (loop result inner rest) = 1 + weight_with called inner + weight_with called rest
@@ -78,7 +84,7 @@ weight_with called (br_table labels default rest) = 1 + weight_with called rest
 weight_with called (return rest) = 1 + weight_with called rest
 weight_with called (call index rest) = 1 + called index + weight_with called rest
 
--- how many instructions a code has of its own
+-- how many instructions a code has of its own, a `local.tee` counted as two
 abbrev pub weight : Code → ℕ
 weight code = weight_with (λ index. 0) code
 

@@ -55,8 +55,10 @@ pub fn bound_of_three_rows()
 {}
 
 /// A numbered body counts as the code that it stands for: a block around a loop of two instructions, and a branch, are 5; a
-/// choice whose arms are one sequence of two instructions counts it twice.
+/// choice whose arms are one sequence of two instructions counts it twice. A `local.tee` between two instructions counts as two, so
+/// that they are 4.
 pub fn weights_of_bodies()
+    ensures tee { weight (op (o.LocalGet 0) (op (o.LocalTee 1) (op (o.LocalSet 0) done))) ≡ 4 }
     ensures around { (m : Module) (f : Function) → m.functions.items ≡ f ∷ [] →
         sequences_of f.body ≡ record {
           each = (i.Op (o.LocalGet 0) ∷ i.BrIf 0 ∷ []) ∷ (i.Loop None 0 ∷ []) ∷ (i.Block None 1 ∷ i.Br 0 ∷ []) ∷ [];

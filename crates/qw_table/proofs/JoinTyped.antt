@@ -99,15 +99,15 @@ module _ (directory : ℕ) (key cells : List Field) (free : ℕ) (a : Statement)
         (room_typed types free_is left_is n small, (cells_typed types free_is left_is cells 24 cells_are, enter_typed types free_is left_is n directory (free + 3) (free + 4) small d_is (own 3 I32 refl) (own 4 I32 refl))),
       ))
 
-  pub builds_short : size a ≤ 50 + 96 * length key + 11 * length cells
+  pub builds_short : size a ≤ 51 + 96 * length key + 11 * length cells
   builds_short =
       let fill : Statement = cells_block 24 (sources_of cells) in
       let body : Statement = seq builds.find (insert_block (entry_size 0 (length cells) 0) directory (free + 3) (free + 4) fill) in
       let guard = guarded_size key body in
       let few = builds.finds.short in
       let some = cells_size cells 24 in
-      let whole : size body ≡ size builds.find + (18 + (size fill + 21)) = omega arith in
-      subst (λ (b : Statement). size b ≤ 50 + 96 * length key + 11 * length cells) (sym builds.is) (omega (arith, guard, few, some, whole, sure_many key))
+      let whole : size body ≡ size builds.find + (19 + (size fill + 21)) = omega arith in
+      subst (λ (b : Statement). size b ≤ 51 + 96 * length key + 11 * length cells) (sym builds.is) (omega (arith, guard, few, some, whole, sure_many key))
 
 -- the locals that a lookup has of its own
 module _ (free : ℕ) where

@@ -1,4 +1,4 @@
--- Steps become numbered sequences, in one pass from the left: it mirrors `body::Writer`.
+-- Steps become numbered sequences, in one pass from the left: it mirrors `body::Writer`, where `push` is `Tees.pushed`.
 use Rattle.std.specs.Prelude.{◌≡◌, ℕ, ◌<◌, List, [], ◌∷◌, ◌++◌, length, map, reverse, Some, None}
 use Rattle.std.specs.List.{AllByRecursion}
 use Rattle.std.specs.Global.{Vec}
@@ -24,8 +24,13 @@ pub record Writing : Type 0 where
 abbrev pub writing : List (List Instr) → List Instr → List (List Instr × Opened) → Writing
 writing finished current waiting = record { finished = finished; current = current; waiting = waiting }
 
-abbrev pub adds : List Instr → Writing → Writing
-adds more w = writing w.finished (w.current ++ more) w.waiting
+-- one more instruction of the current sequence, where `push` tells how one is added
+abbrev pub adds : (push : List Instr → Instr → List Instr) → Instr → Writing → Writing
+adds push next w = writing w.finished (push w.current next) w.waiting
+
+-- behind the others, as it is
+abbrev pub appended : List Instr → Instr → List Instr
+appended sequence next = sequence ++ next ∷ []
 
 abbrev pub opens : Opened → Writing → Writing
 opens what w = writing w.finished [] ((w.current, what) ∷ w.waiting)
@@ -49,22 +54,26 @@ abbrev pub closed : List (List Instr) → List Instr → List (List Instr × Ope
 closed finished current [] = writing finished current []
 closed finished current (w ∷ waiting) = writing (finished ++ current ∷ []) (w.0 ++ closing w.1 (length finished) ∷ []) waiting
 
-abbrev pub written : LowStep → Writing → Writing
-written (step.Op operator) w = adds (i.Op operator ∷ []) w
-written step.If w = opens opened.If w
-written step.Else w = turned w.finished w.current w.waiting
-written step.Loop w = opens opened.Loop w
-written step.Again w = adds (i.BrIf 0 ∷ []) w
-written step.End w = closed w.finished w.current w.waiting
-written (step.Raise code) w = adds (i.Op (o.Const (const.I32 code)) ∷ i.Call 0 ∷ []) w
-written step.Exit w = adds (i.Return ∷ []) w
+abbrev pub written : (push : List Instr → Instr → List Instr) → LowStep → Writing → Writing
+written push (step.Op operator) w = adds push (i.Op operator) w
+written push step.If w = opens opened.If w
+written push step.Else w = turned w.finished w.current w.waiting
+written push step.Loop w = opens opened.Loop w
+written push step.Again w = adds push (i.BrIf 0) w
+written push step.End w = closed w.finished w.current w.waiting
+written push (step.Raise code) w = adds push (i.Call 0) (adds push (i.Op (o.Const (const.I32 code))) w)
+written push step.Exit w = adds push i.Return w
 
-abbrev pub all_written : List LowStep → Writing → Writing
-all_written [] w = w
-all_written (x ∷ xs) w = all_written xs (written x w)
+abbrev pub all_written : (push : List Instr → Instr → List Instr) → List LowStep → Writing → Writing
+all_written push [] w = w
+all_written push (x ∷ xs) w = all_written push xs (written push x w)
 
 abbrev pub start : Writing
 start = writing [] [] []
+
+-- the sequences in the end
+abbrev pub bodies_in : Writing → List (List Instr)
+bodies_in w = w.finished ++ w.current ∷ []
 
 -- ---- what the code's values stand for
 abbrev pub waiting_of : Waiting → List Instr × Opened

@@ -2,11 +2,9 @@ use Rattle.std.proofs.Common.{◌≡◌, ℕ, List, arith, refl, sym, ap, subst}
 use Rattle.qw_module.specs.Syntax.{done, code_of, IsNumbered}
 use Rattle.qw_low.specs.Translation.{statement_code}
 use Rattle.qw_low.specs.Inner.Writing.{Writing, sequences, writing_of}
-use Rattle.qw_low.proofs.Calls.{calls_written}
 use Rattle.qw_module.specs.Numbering.{IsInOrder}
 use Rattle.qw_low.proofs.StepsFit.{code_fits, fits-all, fits-more}
-use Rattle.qw_low.proofs.StepsNumbered.{written_in_order}
-use Rattle.qw_low.proofs.StepsWritten.{step-left, none-left, written_code, written_numbered}
+use Rattle.qw_low.proofs.TeesWritten.{step-left, none-left, calls_written, written_code, written_in_order, written_numbered}
 use Rattle.qw_low.proofs.body.body_of.Goals as goal
 
 pub loop-step-init : goal.loop-step-init
@@ -21,16 +19,16 @@ loop-step-preserved c = record {
 pub returns-clause-code : goal.returns-clause-code
 returns-clause-code c = λ s code_is.
     subst (λ (labels : List ℕ). code_of (record { each = sequences c.finish.new.self.finished.items; labels = labels }) ≡ statement_code s done) (sym c.new-4.ensures.items)
-    (written_code s c.args.code.now code_is (writing_of c.loop-step.writer)
+    (written_code c.args.code.now (writing_of c.loop-step.writer)
     (none-left c.args.code.now c.loop-step.step-index (writing_of c.loop-step.writer) _ (omega arith) c.loop-step.invariant.written) _
-    (ap (λ (w : Writing). w.finished) c.in_ok-finish.ensures.finished))
+    (ap (λ (w : Writing). w.finished) c.in_ok-finish.ensures.finished) s code_is)
 
 pub returns-clause-numbered : goal.returns-clause-numbered
 returns-clause-numbered c = λ s code_is.
     subst (λ (labels : List ℕ). IsNumbered (record { each = sequences c.finish.new.self.finished.items; labels = labels })) (sym c.new-4.ensures.items)
-    (written_numbered s c.args.code.now code_is (writing_of c.loop-step.writer)
+    (written_numbered c.args.code.now (writing_of c.loop-step.writer)
     (none-left c.args.code.now c.loop-step.step-index (writing_of c.loop-step.writer) _ (omega arith) c.loop-step.invariant.written) _
-    (ap (λ (w : Writing). w.finished) c.in_ok-finish.ensures.finished))
+    (ap (λ (w : Writing). w.finished) c.in_ok-finish.ensures.finished) s code_is)
 
 pub returns-clause-calls : goal.returns-clause-calls
 returns-clause-calls c =
@@ -41,12 +39,9 @@ returns-clause-calls c =
 pub returns-clause-order : goal.returns-clause-order
 returns-clause-order c = λ s code_is.
     subst (λ (labels : List ℕ). IsInOrder (record { each = sequences c.finish.new.self.finished.items; labels = labels })) (sym c.new-4.ensures.items)
-    (written_in_order s c.args.code.now code_is (writing_of c.loop-step.writer)
+    (written_in_order c.args.code.now (writing_of c.loop-step.writer)
     (none-left c.args.code.now c.loop-step.step-index (writing_of c.loop-step.writer) _ (omega arith) c.loop-step.invariant.written) _
-    (ap (λ (w : Writing). w.finished) c.in_ok-finish.ensures.finished)
-    (written_code s c.args.code.now code_is (writing_of c.loop-step.writer)
-    (none-left c.args.code.now c.loop-step.step-index (writing_of c.loop-step.writer) _ (omega arith) c.loop-step.invariant.written) _
-    (ap (λ (w : Writing). w.finished) c.in_ok-finish.ensures.finished)))
+    (ap (λ (w : Writing). w.finished) c.in_ok-finish.ensures.finished) s code_is)
 
 pub returns-clause-offsets : goal.returns-clause-offsets
 returns-clause-offsets c = λ s code_is.
