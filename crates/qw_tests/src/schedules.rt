@@ -9,7 +9,7 @@ use std::test::Fail;
 const STORED: [i32; 3] = [4, 1, 7];
 
 // How many instructions a run over the stored table takes, as docs/THEOREMS.md counts them by hand.
-const STEPS: u64 = 117;
+const STEPS: u64 = 108;
 
 // The first octets of the stored table's memory after the run, by the addresses where they begin: the column, the
 // descriptor and the one result row. Eight octets a line.

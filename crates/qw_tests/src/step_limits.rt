@@ -6,7 +6,7 @@ use std::alloc::Global;
 use std::test::Fail;
 
 // How many instructions a run over (4), (1), (7) takes, as docs/THEOREMS.md counts them by hand.
-const STEPS: u64 = 117;
+const STEPS: u64 = 108;
 
 // A bench over (4), (1), (7) whose instance may run so many instructions, before its first turn.
 fn limited(alloc: Global, steps: u64) -> Result<Bench, Fail> {
@@ -22,21 +22,21 @@ fn end_at(alloc: Global, limit: u64) -> Result<(Option<Ended>, u64), Fail> {
 }
 
 #[test]
-fn a_run_of_117_instructions_needs_a_limit_of_117(rt: HostRuntime) -> Result<(), Fail> {
+fn a_run_of_108_instructions_needs_a_limit_of_108(rt: HostRuntime) -> Result<(), Fail> {
     let alloc = rt.alloc();
-    assert_eq!(rt; end_at(alloc, STEPS)?, (Some(Ended::Done), 117));
+    assert_eq!(rt; end_at(alloc, STEPS)?, (Some(Ended::Done), 108));
     assert_eq!(rt;
         end_at(alloc, STEPS - 1)?,
-        (Some(Ended::Steps { limit: 116 }), 116)
+        (Some(Ended::Steps { limit: 107 }), 107)
     );
     Ok(())
 }
 
 // The quanta of one turn after another, how many instructions each ran, and after it the end and the count of all.
 const TURNS: [(u64, u64, Option<Ended>, u64); 3] = [
-    (116, 116, None, 116),
-    (10_000, 1, Some(Ended::Done), 117),
-    (10_000, 0, Some(Ended::Done), 117),
+    (107, 107, None, 107),
+    (10_000, 1, Some(Ended::Done), 108),
+    (10_000, 0, Some(Ended::Done), 108),
 ];
 
 // How many instructions a turn of the one instance ran.
