@@ -131,12 +131,12 @@ def public_files(crate):
 
 
 def clauses(path, only=None):
-    """The clauses of a file's public functions, and the values of its models."""
+    """The clauses of a file's public functions, of a program's root those of all, and the values of its models."""
     text = open(path, encoding="utf-8").read()
-    is_trait = re.search(r"^pub trait ", text, flags=re.M)
+    is_open = re.search(r"^pub trait ", text, flags=re.M) or os.path.basename(path) == "main.rt"
     heads = list(re.finditer(r"^ *(pub )?(?:pub\([a-z]+\) )?(?:const )?fn ([a-z_0-9]+)", text, flags=re.M))
     for head, after in zip(heads, heads[1:] + [None]):
-        if not (head.group(1) or is_trait) or (only and head.group(2) not in only):
+        if not (head.group(1) or is_open) or (only and head.group(2) not in only):
             continue
         part = text[head.end() : after.start() if after else len(text)]
         for clause in re.finditer(r"^\s*(?:requires|ensures)\b[^{]*\{", part, flags=re.M):

@@ -338,7 +338,7 @@ pub data IsNaming : Option (List ℕ) → List Lexeme → List Lexeme → Type 0
 pub data IsItem (Inner : Clause → List Lexeme → List Lexeme → Type 0) : SelectItem → List Lexeme → List Lexeme → Type 0 where
   item : (e : Expression) (name : Option (List ℕ)) (ts us rest : List Lexeme) → Inner (expression e) ts us → IsNaming name us rest → IsItem Inner (record { value = e; name = name }) ts rest
 
--- a set quantifier or nothing (7.9): whether it is DISTINCT; ALL and nothing are one
+-- a set quantifier or nothing (6.5, 7.9): whether it is DISTINCT; ALL and nothing are one
 pub data IsQuantifier : Bool → List Lexeme → List Lexeme → Type 0 where
   no_quantifier : (rest : List Lexeme) → IsQuantifier false rest rest
   all_rows : (t : Lexeme) (rest : List Lexeme) → IsTrue (is_word (codes "ALL") t) → IsQuantifier false (t ∷ rest) rest

@@ -111,7 +111,7 @@ pub record SortSpecification : Type 0 where
 
 -- SELECT .. FROM .. WHERE .. GROUP BY .. HAVING .. ORDER BY .. (7.9, 7.4, 7.6, 7.7, 7.8, 13.1)
 pub record Select : Type 0 where
-  -- whether DISTINCT stands behind SELECT (7.9 "set quantifier")
+  -- whether DISTINCT stands behind SELECT (7.9; 6.5 "set quantifier")
   pub distinct : Bool
   pub selected : Selected
   pub sources : List Source

@@ -3,7 +3,7 @@ use Rattle.std.specs.Prelude.{◌≡◌, ℕ, ◌+◌, ◌<◌, ◌≤◌, ◌^�
 use Rattle.std.specs.Int.{w64, cast_signed}
 use Rattle.qw_low.specs.State.{Part, Number, Address, LowState, size_of}
 
--- a number, as a value of 64 bits whose signed reading it is (Core 1.0, 4.3.1)
+-- a number, as a value of 64 bits whose signed reading it is (Core 1.0, 4.3.2)
 abbrev pub HoldsNumber : LowState → (x : ℕ) → ℤ → Type 0
 HoldsNumber s x v = (word : ℕ) × (slice_get s.locals x ≡ Some (Number word)) × (word < 2 ^ 64) × (cast_signed w64 word ≡ v)
 

@@ -68,16 +68,15 @@ pub record EndsAfter (n pages : ℕ) (P : Moment → Type 0) (a : Moment) : Type
   pub behaves : BehavesWithin n pages n P a
   pub exactly : (k : ℕ) (b : Moment) → OpenRun k a b → IsOver b.state → k ≡ n
 
--- The same after one number of instructions, where n counts two for each `local.tee` that sets a local and gets it: so it is at most n,
--- and at least half of it.
+-- The same after one number of instructions, which is at most n and at least half of it: what n counts as two instructions may be one.
 pub record EndsCounted (n pages : ℕ) (P : Moment → Type 0) (a : Moment) : Type 0 where
   pub count : ℕ
   pub most : count ≤ n
   pub least : n ≤ 2 * count
   pub ends : EndsAfter count pages P a
 
--- What an outcome says of the open runs from a moment on: they come to it after as many instructions as its count says. Of what is
--- wrong or unfinished nothing is said.
+-- What an outcome says of the open runs from a moment on: they come to it after one number of instructions, at most its count and at
+-- least half of it. Of what is wrong or unfinished nothing is said.
 abbrev pub RunsAs : Outcome → (pages : ℕ) → Moment → Type 0
 RunsAs (Completed n s) pages a = EndsCounted n pages (IsOutcome (Completed n s)) a
 RunsAs (Exited n s) pages a = EndsCounted n pages (IsOutcome (Exited n s)) a

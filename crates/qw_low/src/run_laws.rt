@@ -11,8 +11,7 @@ ghost use Rattle.qw_low.specs.Meaning.{Unfinished, meaning};
 ghost use Rattle.qw_low.specs.Places.{AreMeant, StandsFor, RunsAs, HasRaise, IsDone, beginning};
 
 /// Every open run of a statement's code, over any memory that stands for a state, is the statement's run of the state. All of them come to its
-/// end after one number of instructions. The run's count, in which a set and the get behind it that are one `local.tee` are two, is at least
-/// this number and at most twice it.
+/// end after one number of instructions, which is at most the run's count and at least half of it.
 pub fn open_runs_are_low_runs()
     ensures { (most fuel : ℕ) (a : Statement) (s : LowState) (store : Store) (w : World) (memory locals : List ℕ) →
         HasRaise store → StandsFor w s memory → AreMeant w s.locals locals →

@@ -34,7 +34,7 @@ fn wrap(ty: ValType, number: u64) -> u64
     }
 }
 
-/// The signed reading of a value (4.3.1, `signed`).
+/// The signed reading of a value (4.3.2, `signed`).
 fn signed(ty: ValType, value: u64) -> i64
     requires { value < values_of ty }
     ensures reading { result ≡ signed ty value }

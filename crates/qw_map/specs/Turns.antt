@@ -9,7 +9,7 @@ use Rattle.qw_linear.specs.Memory.{page, most_pages, AreOctets}
 use Rattle.qw_map.specs.Runs.{Moment, OpenStep, OpenRun}
 
 -- How an instance ended: it returned, it raised an exception's code, it raised 3 after a refused request, it ran as many
--- instructions as its limit says, or it trapped. `Pages` says how many pages it holds at its end, how many more it asked for in
+-- instructions as its limit says without having ended, or it trapped. `Pages` says how many pages it holds at its end, how many more it asked for in
 -- its last request that was refused, and its limit; later requests may have been granted.
 pub data End : Type 0 where
   Done : End

@@ -8,8 +8,7 @@ use Rattle.qw_meaning.specs.Flow.{Flow, each, kept, selected}
 use Rattle.qw_meaning.specs.From.{from_sources}
 use Rattle.qw_meaning.specs.Select.{Specification}
 
--- FROM, WHERE and the select list. GROUP BY with HAVING has its place before the select list, DISTINCT after it; no specification has
--- them yet.
+-- FROM, WHERE and the select list. What GROUP BY with HAVING and DISTINCT make of it stands in qw_grouped.
 abbrev pub flow : Specification → List (List (List Val)) → Flow (List Val)
 flow specification tables = each (selected specification.items) (each (kept specification.conjuncts) (from_sources specification.sources tables))
 

@@ -34,7 +34,7 @@ abbrev pub values_of : ValType → ℕ
 values_of I32 = 2 ^ 32
 values_of I64 = 2 ^ 64
 
--- a value's signed reading, and the value of a signed reading (4.3.1, signed)
+-- a value's signed reading, and the value of a signed reading (4.3.2, signed)
 abbrev pub width_of : ValType → Width
 width_of I32 = w32
 width_of I64 = w64

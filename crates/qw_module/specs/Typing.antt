@@ -28,7 +28,7 @@ pub record Signature : Type 0 where
   pub params : List ValType
   pub results : List ValType
 
--- a global's type, and whether it may be set (2.3.6)
+-- a global's type, and whether it may be set (2.3.7)
 pub record GlobalType : Type 0 where
   pub type : ValType
   pub mutable : Bool

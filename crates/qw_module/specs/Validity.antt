@@ -36,7 +36,7 @@ sequences_of body = record { each = items_of body.sequences.items; labels = body
 abbrev pub code_of_body : Body → Code
 code_of_body body = code_of (sequences_of body)
 
--- the types of a function's locals after its parameters: each run is so many of its type (5.4.6)
+-- the types of a function's locals after its parameters: each run is so many of its type (5.5.13)
 abbrev pub declared_types : List Locals → List ValType
 declared_types [] = []
 declared_types (run ∷ runs) = replicate run.count run.ty ++ declared_types runs

@@ -17,13 +17,13 @@ use Rattle.qw_top.specs.Causes.{AreOne, Cause, line_of_cause, status_of_cause, w
 use Rattle.qw_top.specs.Delivered.{RunLeaves}
 use Rattle.qw_top.specs.Generated.{generated_files, generated_names, told_generated}
 use Rattle.qw_top.specs.Limits.{limits_of, most_module_octets}
-use Rattle.qw_top.specs.Notes.{want_of_memory_line}
+use Rattle.qw_top.specs.Notes.{NotesLine, want_of_memory_line}
 use Rattle.qw_top.specs.Top.{Asked, Files, FilesSettle, IsFault, IsRefusal, IsReported, QueriesAre, RunExplains, SchemaIs}
 use Rattle.qw_top.specs.declared.status.Status.{Status}
 use Rattle.qw_top.specs.declared.status.Status.TheVariants.{Done, WordsRefused, SchemaRefused, TableFileRefused, QueriesRefused, ReadFailed, WriteFailed, Raised, PageLimitMet, NoMemory, StepLimitMet, TotalPages}
 use Rattle.std.proofs.lemmas.Option.{slice_get_within}
 use Rattle.qw_top.specs.Inner.Inputs.{IsNoSchema, IsNoScript}
-use Rattle.qw_top.specs.Inner.Noted.{NotesLine, NotesWords}
+use Rattle.qw_top.specs.Inner.Noted.{NotesWords}
 use Rattle.qw_top.proofs.ContentLemmas.{IsFile-short, IsFile-unique, IsNoSchema-unique, IsNoScript-one, QueriesAre-refused, QueriesAre-unique, SchemaIs-refused, SchemaIs-unique}
 use Rattle.qw_top.proofs.CommandLemmas.{text_cause, text_done}
 use Rattle.qw_top.proofs.SettleLemmas.{asked_settles_none, fault_explains, kind_of_end, one_settled, one_status, refusal_settled, reported_asks, settled_explains}

@@ -12,13 +12,12 @@ use Rattle.qw_top.specs.Causes.{Cause}
 use Rattle.qw_top.specs.Delivered.{CommandNotes, LeavesBench, Reports, RunLeaves, ShowsEnds, ends_below, is_exception, is_pages, is_steps, status_of_ends}
 use Rattle.qw_command_line.specs.Words.{RunOptions}
 use Rattle.qw_top.specs.Limits.{limits_of}
-use Rattle.qw_top.specs.Notes.{want_of_memory_line}
+use Rattle.qw_top.specs.Notes.{NotesLine, want_of_memory_line}
 use Rattle.qw_top.specs.Output.{TookFront, with_text}
 use Rattle.qw_top.specs.Top.{Asked, Files, Names, RunExplains}
 use Rattle.qw_top.specs.declared.status.Status.{Status}
 use Rattle.qw_top.specs.declared.status.Status.TheVariants.{Done, ReadFailed, WriteFailed, Raised, PageLimitMet, StepLimitMet, NoMemory}
 use Rattle.qw_top.specs.Inner.Reports.{AreBlocks}
-use Rattle.qw_top.specs.Inner.Noted.{NotesLine}
 use Rattle.qw_top.specs.Inner.Sinks.{CountsWrite, write_fault_of}
 use Rattle.qw_top.specs.Inner.Stages.{HasAsked, IsReport, Ran, Writes}
 use Rattle.qw_top.proofs.RunLemmas.{exception_raised, many_instances, pages_met, shows_run, some_report, steps_met}

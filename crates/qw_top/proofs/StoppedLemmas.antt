@@ -7,14 +7,14 @@ use Rattle.qw_io.specs.declared.fault.IoFault.{IoFault}
 use Rattle.qw_io.specs.declared.fault.IoFault.TheVariants.{Failed, NoMemory as NoMemoryToWrite}
 use Rattle.qw_top.specs.Causes.{Cause, line_of_cause, status_of_cause, words_refused, number_out_of_range, schema_too_long, schema_refused, table_too_long, table_refused, queries_too_long, queries_refused, queries_mistyped, no_statement, module_too_long, module_refused, total_pages}
 use Rattle.qw_top.specs.Delivered.{CommandNotes, IsLine}
-use Rattle.qw_top.specs.Notes.{read_fault_line, want_of_memory_line}
+use Rattle.qw_top.specs.Notes.{NotesLine, read_fault_line, want_of_memory_line}
 use Rattle.qw_top.specs.Output.{TookFront, with_text}
 use Rattle.qw_top.specs.Top.{IsFault}
 use Rattle.qw_top.specs.declared.status.Status.{Status}
 use Rattle.qw_top.specs.declared.status.Status.TheVariants.{ReadFailed, WriteFailed, NoMemory}
 use Rattle.qw_top.specs.declared.stop.Stop.{Stop}
 use Rattle.qw_top.specs.declared.stop.Stop.TheVariants.{Refused, Unread, NoMemory as NoMemoryLeft}
-use Rattle.qw_top.specs.Inner.Noted.{NotesLine, NotesStop}
+use Rattle.qw_top.specs.Inner.Noted.{NotesStop}
 use Rattle.qw_top.specs.Inner.Shelves.{Counts, Told}
 use Rattle.qw_top.specs.Inner.Sinks.{write_fault_of}
 use Rattle.qw_top.specs.Inner.Stop.{StopsAs, StopsBy, StopsFor, failed_at, octets_of, refusal_status}

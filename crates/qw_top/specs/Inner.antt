@@ -1,4 +1,4 @@
--- What restates code for proofs. No public clause rests on it.
+-- What restates code for proofs. No clause of the call rests on it.
 pub mod Causes
 pub mod Inputs
 pub mod Noted

@@ -5,9 +5,9 @@ ghost use Rattle.qw_io.specs.Faults.{IsCounted};
 ghost use Rattle.qw_top.specs.declared.status.Status.{Status};
 ghost use Rattle.qw_top.specs.declared.stop.Stop.{Stop};
 ghost use Rattle.qw_top.specs.Inner.Sinks.{CountsWrite};
-ghost use Rattle.qw_top.specs.Inner.Noted.{NotesLine, NotesStop, NotesWords};
+ghost use Rattle.qw_top.specs.Inner.Noted.{NotesStop, NotesWords};
 ghost use Rattle.qw_top.specs.Causes.{line_of_cause, number_out_of_range};
-ghost use Rattle.qw_top.specs.Notes.{read_fault_line, want_of_memory_line, words_not_utf8_line};
+ghost use Rattle.qw_top.specs.Notes.{NotesLine, read_fault_line, want_of_memory_line, words_not_utf8_line};
 ghost use Rattle.qw_top.specs.Output.{TookFront, with_text};
 
 use crate::output::{end_of_write, write_whole};

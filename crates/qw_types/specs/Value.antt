@@ -51,7 +51,7 @@ abbrev pub IsOfColumn : Column → Val → Type 0
 IsOfColumn column value = IsOfTypeOrNull column.ty column.not_null value
 
 -- A type of a size that it may have: a DECIMAL's precision is from 1 to 18 and its scale at most that, a VARCHAR's length is
--- from 1 to 1,000 (11.1 leaves the greatest ones to the implementation).
+-- from 1 to 1,000 (6.1 leaves the greatest ones to the implementation).
 abbrev pub IsSized : Ty → Type 0
 IsSized ty.Integer = Unit {0}
 IsSized (ty.Decimal precision scale) = (1 ≤ precision) × (precision ≤ 18) × (scale ≤ precision)

@@ -1,22 +1,54 @@
 -- What a run of the program leaves.
-use Rattle.std.specs.Prelude.{◌≡◌, ℕ, List, Option}
+use Rattle.std.specs.Prelude.{◌≡◌, ◌≢◌, ◌⊎◌, ℕ, List, Option, Bool, IsTrue}
 use Rattle.std.specs.Process.{exit_status}
 use Rattle.std.specs.declared.process.ExitCode.{ExitCode}
 use Rattle.qw_bench.specs.Standing.{Standing}
+use Rattle.qw_io.specs.Faults.{IsCounted}
 use Rattle.qw_top.specs.Call.{Explains, Leaves, Notes}
 use Rattle.qw_top.specs.Complete.{Completes}
+use Rattle.qw_top.specs.Notes.{NotesLine, want_of_memory_line}
+use Rattle.qw_top.specs.Output.{with_text}
 use Rattle.qw_top.specs.Status.{exit_code}
 use Rattle.qw_top.specs.Top.{Files}
 use Rattle.qw_top.specs.declared.status.Status.{Status}
+use Rattle.qw_top.specs.declared.status.Status.TheVariants.{ReadFailed, WriteFailed, NoMemory}
 
--- The program ended with the number of a status that the words and the files explain, and that the queries mean where nothing cut the run short;
--- and with the report and the notes of a run with that status. Of the files a last fault has this name, where it is told; the sinks had taken the first and have
--- taken the second.
-pub record HasEnded (files : Files) (words : List (List ℕ)) (fault_name : Option (List ℕ)) (code : ExitCode) (out_before out_after notes_before notes_after : Option (List ℕ)) : Type 0 where
+-- What the outside tells of itself: how many faults the files, the report's sink and the notes' sink have counted; the name of the last
+-- file at fault; and what the sinks have taken.
+pub record Outside : Type 0 where
+  pub file_faults : ℕ
+  pub fault_name : Option (List ℕ)
+  pub out_faults : ℕ
+  pub taken : Option (List ℕ)
+  pub note_faults : ℕ
+  pub noted : Option (List ℕ)
+
+abbrev pub outside : (file_faults : ℕ) (fault_name : Option (List ℕ)) (out_faults : ℕ) (taken : Option (List ℕ)) (note_faults : ℕ) (noted : Option (List ℕ)) → Outside
+outside file_faults fault_name out_faults taken note_faults noted =
+    record { file_faults = file_faults; fault_name = fault_name; out_faults = out_faults; taken = taken; note_faults = note_faults; noted = noted }
+
+-- The program ended with the number of a status that the words and the files explain, and that the queries mean where nothing cut the run
+-- short; and with the report and the notes of a run with that status. It is that of a read or of a write that failed exactly where one was
+-- counted, but that after a read nothing may be said of another fault; and where the notes' sink takes no memory, want of memory is noted whole.
+pub record HasEnded (files : Files) (words : List (List ℕ)) (notes_take_memory : Bool) (before after : Outside) (code : ExitCode) : Type 0 where
   pub status : Status
   pub number : exit_status code ≡ exit_code status
   pub kept : Option Standing
   pub explained : Explains files words kept status
-  pub complete : Completes files words kept status out_before out_after
-  pub left : Leaves files words status kept out_before out_after
-  pub noted : Notes files words fault_name status notes_before notes_after
+  pub complete : Completes files words kept status before.taken after.taken
+  pub left : Leaves files words status kept before.taken after.taken
+  pub noted : Notes files words after.fault_name status before.noted after.noted
+  pub noted_whole : (IsTrue notes_take_memory → ⊥) → status ≡ NoMemory → after.noted ≡ with_text before.noted want_of_memory_line
+  pub read_fault : status ≡ ReadFailed → IsCounted before.file_faults after.file_faults
+  pub no_read_fault : status ≢ ReadFailed → status ≢ WriteFailed → status ≢ NoMemory → after.file_faults ≡ before.file_faults
+  pub write_fault : status ≡ WriteFailed → IsCounted before.out_faults after.out_faults ⊎ IsCounted before.note_faults after.note_faults
+  pub no_write_fault : status ≢ WriteFailed → (after.out_faults ≡ before.out_faults) × (after.note_faults ≡ before.note_faults)
+
+-- The program ended with the number of a status where the words could not be had, of which a line says why: it is this status, or that of
+-- what kept the line from being written.
+pub record HasEndedWithout (line : List ℕ) (would : Status) (faults_before faults_after : ℕ) (noted_before noted_after : Option (List ℕ)) (code : ExitCode) : Type 0 where
+  pub status : Status
+  pub number : exit_status code ≡ exit_code status
+  pub noted : NotesLine line would status noted_before noted_after
+  pub write_fault : status ≡ WriteFailed → IsCounted faults_before faults_after
+  pub no_write_fault : status ≢ WriteFailed → faults_after ≡ faults_before

@@ -19,23 +19,21 @@
 //!
 //! - a run loads each table of the schema, whichever the queries name: 0.35 s of processor time and 80 MB, 1.7 times the text, with a query
 //!   that keeps no row. Twice the records take twice the time. So a schema should have the tables that are wanted, and no more;
-//! - ten queries over one such table took 0.97 s, its loading included: a script loads once, and ten runs would load ten times;
+//! - ten queries over one such table took 1.22 s, its loading included: a script loads once, and ten runs would load ten times;
 //! - a query reads only the columns that it names, and those that a conjunct is the first to name only at rows that reach it: write the
 //!   conjunct first that few rows pass;
-//! - a result row holds 8 octets and 16 for each cell until the report is written, at most 128 pages of 65,536 octets a query, and takes some
+//! - a result row holds 8 octets and 16 for each cell until the report is written, within the pages that a query may hold (`--pages`), and takes some
 //!   300 native instructions to print where it has one INTEGER cell;
 //! - `compile` reads no table's file; `check` reads a module's octets once.
 #![tactic(auto)]
 
-ghost use Rattle.std.specs.Prelude.{◌≡◌, ◌≢◌, ◌⊎◌, ℕ, List, Option, map, IfErr, IfOk, Some};
+ghost use Rattle.std.specs.Prelude.{◌≡◌, ◌≢◌, map, IfErr, IfOk};
 ghost use Rattle.std.specs.IoError.{error_kind};
-ghost use Rattle.std.specs.Process.{exit_status};
 ghost use Rattle.std.specs.String.{string_bytes};
-ghost use Rattle.qw_top.specs.Inner.Noted.{NotesLine};
-ghost use Rattle.qw_top.specs.Notes.{want_of_memory_line, words_not_utf8_line};
-ghost use Rattle.qw_top.specs.Status.{exit_code};
+ghost use Rattle.qw_io.specs.Faults.{IsCounted};
+ghost use Rattle.qw_top.specs.Notes.{NotesLine, want_of_memory_line, words_not_utf8_line};
 ghost use Rattle.qw_top.specs.declared.status.Status.{Status};
-ghost use Rattle.qwasm.specs.Program.{HasEnded};
+ghost use Rattle.qwasm.specs.Program.{HasEnded, HasEndedWithout, outside};
 
 use qw_io::{FileShelf, Shelf, Sink, StdSink};
 use qw_top::notes::{note_want_of_memory, note_words_not_utf8};
@@ -62,6 +60,7 @@ fn end_without_words<E: Sink>(error: &io::Error, notes: &mut E) -> Status
         → NotesLine want_of_memory_line Status.NoMemory result (E.taken notes.old) (E.taken notes.new) }
     ensures refused { error_kind error.now ≢ ErrorKind.OutOfMemory
         → NotesLine words_not_utf8_line Status.WordsRefused result (E.taken notes.old) (E.taken notes.new) }
+    ensures fault { result ≡ Status.WriteFailed → IsCounted (E.faults notes.old) (E.faults notes.new) }
     ensures no_fault { result ≢ Status.WriteFailed → E.faults notes.new ≡ E.faults notes.old }
 {
     if error.kind() == ErrorKind::OutOfMemory {
@@ -79,16 +78,14 @@ fn end<F: Shelf, O: Sink, E: Sink>(
     out: &mut O,
     notes: &mut E,
 ) -> ExitCode
-    ensures run { IfOk words (λ words. HasEnded (F.files files.old) (map string_bytes words.items) (F.fault_name files.new) result
-        (O.taken out.old) (O.taken out.new) (E.taken notes.old) (E.taken notes.new)) }
-    ensures wanted { IfErr words (λ error. error_kind error ≡ ErrorKind.OutOfMemory → (status : Status)
-        × (exit_status result ≡ exit_code status)
-        × (status ≢ Status.WriteFailed → E.faults notes.new ≡ E.faults notes.old)
-        × NotesLine want_of_memory_line Status.NoMemory status (E.taken notes.old) (E.taken notes.new)) }
-    ensures refused { IfErr words (λ error. error_kind error ≢ ErrorKind.OutOfMemory → (status : Status)
-        × (exit_status result ≡ exit_code status)
-        × (status ≢ Status.WriteFailed → E.faults notes.new ≡ E.faults notes.old)
-        × NotesLine words_not_utf8_line Status.WordsRefused status (E.taken notes.old) (E.taken notes.new)) }
+    ensures run { IfOk words (λ words. HasEnded (F.files files.old) (map string_bytes words.items) E.takes_memory
+        (outside (F.faults files.old) (F.fault_name files.old) (O.faults out.old) (O.taken out.old) (E.faults notes.old) (E.taken notes.old))
+        (outside (F.faults files.new) (F.fault_name files.new) (O.faults out.new) (O.taken out.new) (E.faults notes.new) (E.taken notes.new)) result) }
+    ensures wanted { IfErr words (λ error. error_kind error ≡ ErrorKind.OutOfMemory
+        → HasEndedWithout want_of_memory_line Status.NoMemory (E.faults notes.old) (E.faults notes.new) (E.taken notes.old) (E.taken notes.new) result) }
+    ensures refused { IfErr words (λ error. error_kind error ≢ ErrorKind.OutOfMemory
+        → HasEndedWithout words_not_utf8_line Status.WordsRefused (E.faults notes.old) (E.faults notes.new) (E.taken notes.old) (E.taken notes.new) result) }
+    ensures without { IfErr words (λ error. (F.faults files.new ≡ F.faults files.old) × (O.faults out.new ≡ O.faults out.old) × (O.taken out.new ≡ O.taken out.old)) }
 {
     match words {
         Ok(words) => {

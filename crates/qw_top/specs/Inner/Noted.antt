@@ -1,4 +1,4 @@
--- What the noting of a line leaves.
+-- What the noting of a stop and of words leaves.
 use Rattle.std.specs.Prelude.{◌≡◌, ◌⊎◌, ℕ, List, Option}
 use Rattle.std.specs.String.{string_bytes}
 use Rattle.qw_io.specs.Faults.{IsCounted}
@@ -9,16 +9,9 @@ use Rattle.qw_top.specs.declared.stop.Stop.TheVariants.{Refused, Unread, NoMemor
 use Rattle.qw_command_line.specs.declared.command.WordsFault.{WordsFault}
 use Rattle.qw_command_line.specs.declared.command.WordsFault.TheVariants as words
 use Rattle.qw_top.specs.Causes.{line_of_cause, number_out_of_range}
-use Rattle.qw_top.specs.Notes.{read_fault_line, want_of_memory_line}
+use Rattle.qw_top.specs.Notes.{NotesLine, read_fault_line, want_of_memory_line}
 use Rattle.qw_top.specs.Output.{TookFront, with_text}
 use Rattle.qw_top.specs.Inner.Stop.{octets_of, refusal_status}
-
--- The line was taken, and the run ends as it would; or a front of it was, and the run ends with what kept the rest from
--- being written.
-abbrev pub NotesLine : List ℕ → (status result : Status) → (old new : Option (List ℕ)) → Type 0
-NotesLine line status result old new =
-    ((result ≡ status) × (new ≡ with_text old line))
-    ⊎ (((result ≡ WriteFailed) ⊎ (result ≡ NoMemory)) × TookFront old new line)
 
 -- what is noted of a stop, and how the run ends then
 abbrev pub NotesStop : Stop → (result : Status) → (old new : Option (List ℕ)) → Type 0

@@ -12,4 +12,9 @@ returns-in-Ok-clause-run g c =
       complete = rw (← c.as_slice.ensures.value) c.qwasm-status.ensures.complete;
       left = rw (← c.as_slice.ensures.value) c.qwasm-status.ensures.left;
       noted = rw (← c.as_slice.ensures.value) c.qwasm-status.ensures.noted;
+      noted_whole = c.qwasm-status.ensures.noted_whole;
+      read_fault = c.qwasm-status.ensures.read_fault;
+      no_read_fault = c.qwasm-status.ensures.no_read_fault;
+      write_fault = c.qwasm-status.ensures.write_fault;
+      no_write_fault = c.qwasm-status.ensures.no_write_fault;
     })
