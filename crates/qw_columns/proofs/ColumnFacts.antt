@@ -19,6 +19,7 @@ use Rattle.qw_types.specs.declared.value.Ty.{Ty}
 use Rattle.qw_types.specs.declared.value.Ty.TheVariants as ty
 use Rattle.qw_types.specs.declared.value.Val.{Val}
 use Rattle.qw_types.specs.declared.value.Val.TheVariants as val
+use Rattle.qw_csv.specs.Cells.{number_in, octets_in}
 use Rattle.qw_linear.specs.Memory.{SameBelow, number_at}
 use Rattle.qw_linear.proofs.MemoryFacts.{number_at-same}
 use Rattle.qw_map.specs.Areas.{Area}
@@ -26,7 +27,7 @@ use Rattle.qw_map.specs.Columns.{HasOffsets, HoldsColumn, areas_of, blank, colum
 use Rattle.qw_map.specs.declared.layout.Placed.{Placed}
 use Rattle.qw_map.proofs.AreaLemmas.{all-weaker}
 use Rattle.qw_map.proofs.ColumnLemmas.{placed-between}
-use Rattle.qw_columns.specs.Inner.Writing.{HasNulls, HasNumbers, HasStarts, HasTexts, HasValues, bit_of, flags_from, is_null, number_in, octets_in}
+use Rattle.qw_columns.specs.Inner.Writing.{HasNulls, HasNumbers, HasStarts, HasTexts, HasValues, bit_of, flags_from, is_null}
 use Rattle.qw_columns.proofs.RoomLemmas.{column_typed, length-column_values, sized_at, text_octets-more}
 use Rattle.qw_columns.proofs.WriteLemmas.{bit-below, slice_kept, text_inside}
 

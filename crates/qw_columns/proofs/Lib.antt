@@ -1,3 +1,4 @@
+mod CellPlaces
 mod ColumnFacts
 mod PlaceLemmas
 mod ReadLemmas

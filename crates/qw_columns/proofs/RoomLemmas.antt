@@ -12,8 +12,8 @@ use Rattle.qw_types.specs.declared.value.Ty.TheVariants as ty
 use Rattle.qw_types.specs.declared.value.Val.{Val}
 use Rattle.qw_types.specs.declared.value.Val.TheVariants as val
 use Rattle.qw_types.proofs.TextLaws.{texts_short}
+use Rattle.qw_csv.specs.Cells.{octets_in}
 use Rattle.qw_map.specs.Columns.{column_values, values_size}
-use Rattle.qw_columns.specs.Inner.Writing.{octets_in}
 
 -- ---- the values of a column
 

@@ -1,18 +1,22 @@
 -- What stands in a part of a column after one more of its values was written.
-use Rattle.std.proofs.Common.{◌≡◌, ◌≤◌, ◌<◌, ◌+◌, ◌*◌, ◌%◌, ◌^◌, ◌∙◌, refl, sym, ⊎_elim, inl, ℕ, zero, suc, List, ◌++◌, length, take, drop, get_or, Some, arith, append_assoc, get_or-drop, get_or-take, length-append, length-drop, mul-le-mul_left, mul-suc, pow-suc, Bool, true, false}
-use Rattle.std.specs.Prelude.{slice_get}
+use Rattle.std.proofs.Common.{◌≡◌, ◌≤◌, ◌<◌, ◌+◌, ◌*◌, ◌%◌, ◌^◌, ◌∙◌, refl, sym, ap, ⊎_elim, inl, ℕ, ℤ, zero, suc, List, map, ◌++◌, length, take, drop, get_or, Some, arith, append_assoc, get_or-drop, get_or-take, length-append, length-drop, mul-le-mul_left, mul-suc, pow-suc, Bool, true, false}
+use Rattle.std.specs.Prelude.{option_map, slice_get}
 use Rattle.std.specs.Int.{cast_unsigned, w64}
 use Rattle.std.proofs.lemmas.Bool.{cases_lt}
-use Rattle.std.proofs.lemmas.List.{ext_get_or, get_or_append_left, length-take-le, take-take}
+use Rattle.std.proofs.lemmas.List.{drop-take, ext_get_or, get_or_append_left, length-map, length-take-le, take-take}
+use Rattle.std.proofs.lemmas.Option.{slice_get-map}
 use Rattle.std.proofs.lemmas.List.Elements.{All-append, All-drop, All-take}
 use Rattle.std.proofs.Math.Seq.{drop-append_seam, take-append_seam}
 use Rattle.qw_types.specs.Value.{text_octets}
 use Rattle.qw_types.specs.declared.value.Val.{Val}
+use Rattle.qw_types.specs.declared.value.Val.TheVariants as val
 use mir.Val.{bool_byte}
+use Rattle.qw_csv.specs.Cells.{AreTexts, number_in, octets_in, octets_together}
+use Rattle.qw_csv.proofs.CellFacts.{drop_further, text_among, together_long}
 use Rattle.qw_linear.specs.Linear.{Octets}
 use Rattle.qw_linear.specs.Memory.{AreOctets, SameBelow, number_at, with_number}
 use Rattle.qw_linear.proofs.MemoryFacts.{AreOctets-with_number, length-with_number, number_at-apart, number_at-with_number, with_number-below}
-use Rattle.qw_columns.specs.Inner.Writing.{HasNulls, HasNumbers, HasStarts, HasTexts, KeepsBelow, bit_of, flags_from, is_null, number_in, octets_in}
+use Rattle.qw_columns.specs.Inner.Writing.{HasNulls, HasNumbers, HasStarts, HasTexts, KeepsBelow, bit_of, flags_from, is_null}
 use Rattle.qw_map.proofs.ColumnLemmas.{text_octets-taken}
 use Rattle.qw_columns.proofs.RoomLemmas.{text_octets-more}
 
@@ -86,7 +90,7 @@ slice_kept before after from size limit same inside room long = ext_get_or 0 (ta
 pub numbers_none : (memory : List ℕ) (at width : ℕ) (values : List Val) → HasNumbers memory at width values 0
 numbers_none memory at width values = record { each = λ row value lt is. absurd (omega arith) }
 
-pub numbers_more : (memory : List ℕ) (at width : ℕ) (values : List Val) (count : ℕ) (value : Val) → slice_get values count ≡ Some value
+numbers_more : (memory : List ℕ) (at width : ℕ) (values : List Val) (count : ℕ) (value : Val) → slice_get values count ≡ Some value
     → at + width * count + width ≤ length memory → HasNumbers memory at width values count
     → HasNumbers (with_number memory (at + width * count) width (cast_unsigned w64 (number_in value))) at width values (suc count)
 numbers_more memory at width values count value is room first = record { each = each }
@@ -108,10 +112,10 @@ numbers_more memory at width values count value is room first = record { each = 
         (λ (past : count ≤ row). last row v (omega arith) there)
         (cases_lt row count)
 
-pub starts_none : (memory : List ℕ) (at : ℕ) (values : List Val) → HasStarts memory at values 0
+starts_none : (memory : List ℕ) (at : ℕ) (values : List Val) → HasStarts memory at values 0
 starts_none memory at values = record { each = λ row lt. absurd (omega arith) }
 
-pub starts_more : (memory : List ℕ) (at : ℕ) (values : List Val) (count : ℕ) → text_octets (take count values) < 2 ^ 32 → at + 4 * count + 4 ≤ length memory
+starts_more : (memory : List ℕ) (at : ℕ) (values : List Val) (count : ℕ) → text_octets (take count values) < 2 ^ 32 → at + 4 * count + 4 ≤ length memory
     → HasStarts memory at values count → HasStarts (with_number memory (at + 4 * count) 4 (text_octets (take count values))) at values (suc count)
 starts_more memory at values count small room first = record { each = each }
   where
@@ -130,38 +134,55 @@ starts_more memory at values count small room first = record { each = each }
         (λ (past : count ≤ row). last row (omega arith))
         (cases_lt row count)
 
-pub texts_none : (memory : List ℕ) (at : ℕ) (values : List Val) → HasTexts memory at values 0
-texts_none memory at values = record { each = λ row value lt is. absurd (omega arith) }
+-- a text ends where all texts do, at most
+pub text_inside : (values : List Val) (row : ℕ) (value : Val) → slice_get values row ≡ Some value → text_octets (take row values) + length (octets_in value) ≤ text_octets values
+text_inside values row value is = omega (arith, text_octets-more values row value is, text_octets-taken values (suc row))
 
--- texts before a row end where its own begins
-pub texts_before : (values : List Val) (row later : ℕ) (value : Val) → slice_get values row ≡ Some value → row < later
-    → text_octets (take row values) + length (octets_in value) ≤ text_octets (take later values)
-texts_before values row later value is lt =
-    let shorter : take (suc row) (take later values) ≡ take (suc row) values = take-take (suc row) later values (omega arith) in
-    let less : text_octets (take (suc row) values) ≤ text_octets (take later values) = rw shorter at (text_octets-taken (take later values) (suc row)) in
-    omega (arith, text_octets-more values row value is, less)
+-- numbers behind numbers
+pub number_next : (memory : List ℕ) (at width : ℕ) (numbers : List ℤ) (row : ℕ) (number : ℤ) → slice_get numbers row ≡ Some number
+    → at + width * row + width ≤ length memory → HasNumbers memory at width (map val.Num numbers) row
+    → HasNumbers (with_number memory (at + width * row) width (cast_unsigned w64 number)) at width (map val.Num numbers) (suc row)
+number_next memory at width numbers row number is room first =
+    numbers_more memory at width (map val.Num numbers) row (val.Num number) (slice_get-map val.Num numbers row ∙ ap (option_map val.Num) is) room first
 
-pub texts_more : (memory : List ℕ) (at : ℕ) (values : List Val) (count place : ℕ) (value : Val) → slice_get values count ≡ Some value
-    → place ≡ at + text_octets (take count values) → place + length (octets_in value) ≤ length memory → HasTexts memory at values count
-    → HasTexts ((take place memory ++ octets_in value) ++ drop (place + length (octets_in value)) memory) at values (suc count)
-texts_more memory at values count place value is here room first = record { each = each }
-  where
-    after : List ℕ
-    after = (take place memory ++ octets_in value) ++ drop (place + length (octets_in value)) memory
+pub numbers_of : (memory : List ℕ) (at width : ℕ) (numbers : List ℤ) (values : List Val) → numbers ≡ map number_in values
+    → HasNumbers memory at width (map val.Num numbers) (length numbers) → HasNumbers memory at width values (length values)
+numbers_of memory at width numbers values are has = record {
+  each = λ row value lt is.
+      let there : slice_get numbers row ≡ Some (number_in value) = rw are (slice_get-map number_in values row ∙ ap (option_map number_in) is) in
+      let long : length numbers ≡ length values = rw are (length-map values number_in) in
+      has.each row (val.Num (number_in value)) (omega (arith, lt, long)) (slice_get-map val.Num numbers row ∙ ap (option_map val.Num) there);
+}
 
-    last : (row : ℕ) (v : Val) → row ≡ count → slice_get values row ≡ Some v → take (length (octets_in v)) (drop (at + text_octets (take row values)) after) ≡ octets_in v
-    last row v same there =
-        let this : value ≡ v = cc (is, same, there) in
-        rw (same, ← this, ← here) (put-there memory place (octets_in value) room)
+-- offsets behind offsets: a text begins where the one before ends
+pub start_first : (memory : List ℕ) (at : ℕ) (values : List Val) → at + 4 ≤ length memory → HasStarts (with_number memory at 4 0) at values 1
+start_first memory at values room =
+    let place : at + 4 * 0 ≡ at = omega arith in
+    rw place at (starts_more memory at values 0 (omega arith) (omega arith) (starts_none memory at values))
 
-    each : (row : ℕ) (v : Val) → row < suc count → slice_get values row ≡ Some v → take (length (octets_in v)) (drop (at + text_octets (take row values)) after) ≡ octets_in v
-    each row v lt there = ⊎_elim
-        (λ (before : row < count).
-        let ends = texts_before values row count v there before in
-        slice_kept memory after (at + text_octets (take row values)) (length (octets_in v)) place (λ k below. put-below memory place (octets_in value) room k below)
-        (omega arith) (omega arith) (length-put memory place (octets_in value) room) ∙ first.each row v before there)
-        (λ (past : count ≤ row). last row v (omega arith) there)
-        (cases_lt row count)
+pub start_next : (memory : List ℕ) (at : ℕ) (ends octets : List ℕ) (values : List Val) (row place end : ℕ) → AreTexts ends octets values → slice_get ends row ≡ Some end
+    → place ≡ at + 4 * row + 4 → end < 2 ^ 32 → place + 4 ≤ length memory → HasStarts memory at values (suc row)
+    → HasStarts (with_number memory place 4 end) at values (suc (suc row))
+start_next memory at ends octets values row place end are is here small room first =
+    let one : row + 1 ≡ suc row = omega arith in
+    let last : end ≡ text_octets (take (suc row) values) = rw one at (are.each row end is) in
+    let next : place ≡ at + 4 * suc row = omega (arith, here) in
+    rw (next, last) (starts_more memory at values (suc row) (omega (arith, small, last)) (omega (arith, room, next)) first)
+
+-- ---- texts, copied all at once
+
+pub texts_whole : (memory : List ℕ) (at : ℕ) (values : List Val) → take (length (octets_together values)) (drop at memory) ≡ octets_together values
+    → HasTexts memory at values (length values)
+texts_whole memory at values there = record {
+  each = λ row value lt is.
+      let start = text_octets (take row values) in
+      let size = length (octets_in value) in
+      let inside : start + size ≤ length (octets_together values) = omega (arith, text_inside values row value is, together_long values) in
+      let part : take (start + size) (drop at memory) ≡ take (start + size) (octets_together values) =
+      sym (take-take (start + size) (length (octets_together values)) (drop at memory) inside) ∙ ap (take (start + size)) there in
+      ap (take size) (sym (drop_further at start memory)) ∙ sym (drop-take start size (drop at memory)) ∙ ap (drop start) part
+      ∙ drop-take start size (octets_together values) ∙ text_among values row value is;
+}
 
 -- ---- null bits
 
@@ -211,7 +232,3 @@ flags_more values row next count octet flag follows rest first = rw (rest, first
 pub byte_of_flag : (b : Bool) → bool_byte b ≡ bit_of b
 byte_of_flag true = refl
 byte_of_flag false = refl
-
--- a text ends where all texts do, at most
-pub text_inside : (values : List Val) (row : ℕ) (value : Val) → slice_get values row ≡ Some value → text_octets (take row values) + length (octets_in value) ≤ text_octets values
-text_inside values row value is = omega (arith, text_octets-more values row value is, text_octets-taken values (suc row))

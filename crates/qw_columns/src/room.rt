@@ -7,10 +7,8 @@ ghost use Rattle.qw_types.specs.Limits.{most_rows, most_tables};
 ghost use Rattle.qw_types.specs.Value.{text_octets};
 ghost use Rattle.qw_types.specs.declared.schema.ColumnType.{ColumnType};
 ghost use Rattle.qw_map.specs.Columns as columns;
-ghost use Rattle.qw_columns.specs.Inner.Writing.{octets_in};
-ghost use Rattle.qw_csv.specs.Field.{val_of};
 
-use qw_csv::{Cell, Loaded};
+use qw_csv::{ColumnCells, Loaded};
 use qw_linear::linear::PAGE;
 use qw_map::layout::{COLUMN_ALIGNMENT, COLUMNS_START, Placed};
 use qw_types::{ColumnType, Ty};
@@ -111,32 +109,9 @@ fn text_octets(loaded: &Loaded, column: usize) -> u64
     ensures octets { result ≡ text_octets (columns.column_values loaded.now.rows column) }
     ensures limit { result ≤ 4_000 * most_rows }
 {
-    match column_type(loaded, column).ty {
-        Ty::Varchar { .. } => lengths_of_texts(loaded, column),
+    match loaded.cells(column) {
+        ColumnCells::Texts { octets, .. } => octets.len() as u64,
         _ => 0,
-    }
-}
-
-/// How many octets the texts of a column have together, added up row by row.
-fn lengths_of_texts(loaded: &Loaded, column: usize) -> u64
-    requires { column < length loaded.now.columns }
-    ensures octets { result ≡ text_octets (columns.column_values loaded.now.rows column) }
-    ensures limit { result ≤ 4_000 * most_rows }
-{
-    let mut octets = 0;
-    for row in 0..loaded.len() {
-        octets += text_of(loaded.cell(row, column)).len() as u64;
-    }
-    octets
-}
-
-/// The octets of a text; of other values none.
-pub(crate) fn text_of<'a>(cell: Cell<'a>) -> &'a [u8]
-    ensures { result.now ≡ octets_in (val_of cell.entry) }
-{
-    match cell {
-        Cell::Text(octets) => octets,
-        Cell::Null | Cell::Num(_) | Cell::Date(_) => &[],
     }
 }
 

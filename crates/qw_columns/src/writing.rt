@@ -1,20 +1,20 @@
 //! Columns, written part by part. Each function leaves what stands below its part as it was.
 
-ghost use Rattle.std.specs.Prelude.{◌≡◌, ◌≤◌, ◌<◌, ◌+◌, ◌*◌, ◌/◌, ◌^◌, ◌⊎◌, ◌++◌, take, drop, ℕ, Some, length, slice_get};
+ghost use Rattle.std.specs.Prelude.{◌≡◌, ◌≤◌, ◌<◌, ◌+◌, ◌*◌, ◌/◌, ◌^◌, ◌++◌, take, drop, ℕ, List, Some, length, map, slice_get};
 ghost use Rattle.qw_types.specs.Contents.{AreLoaded};
-ghost use Rattle.qw_types.specs.Value.{text_octets};
 ghost use Rattle.qw_types.specs.declared.schema.ColumnType.{ColumnType};
-ghost use Rattle.qw_csv.specs.Field.{val_of};
-ghost use Rattle.qw_linear.specs.Memory.{AreOctets, with_number};
-ghost use Rattle.std.specs.Int.{cast_unsigned, w64};
+ghost use Rattle.qw_types.specs.declared.value.Val.{Val};
+ghost use Rattle.qw_types.specs.declared.value.Val.TheVariants.{Num};
+ghost use Rattle.qw_csv.specs.Cells.{AreTexts};
+ghost use Rattle.qw_linear.specs.Memory.{AreOctets};
 ghost use Rattle.qw_map.specs.Columns.{HoldsColumn, HoldsTable, column_end, column_values, columns_end, placed_at, placed_columns};
-ghost use Rattle.qw_columns.specs.Inner.Writing.{HasNulls, HasNumbers, HasStarts, HasTexts, HasValues, KeepsBelow, flags_from, is_null, number_in, width_of};
+ghost use Rattle.qw_columns.specs.Inner.Writing.{HasNulls, HasNumbers, HasStarts, HasValues, KeepsBelow, flags_from, is_null};
 
-use crate::room::{column_type, text_of};
-use qw_csv::{Cell, Loaded};
+use crate::room::column_type;
+use qw_csv::{Cell, ColumnCells, Loaded};
 use qw_linear::linear::Linear;
 use qw_map::layout::Placed;
-use qw_types::Ty;
+use qw_types::ColumnType;
 
 /// Writes the columns of a table where the map says.
 pub(crate) fn write_table(loaded: &Loaded, placed: &[Placed], memory: &mut Linear)
@@ -43,125 +43,88 @@ fn write_column(loaded: &Loaded, column: usize, placed: &Placed, memory: &mut Li
     ensures keeps { KeepsBelow memory.old memory.new placed.now.values }
 {
     let column_type = column_type(loaded, column);
-    write_values(loaded, column, column_type.ty, placed, memory);
+    write_values(loaded, column, column_type, placed, memory);
     if !column_type.not_null {
         write_nulls(loaded, column, placed.nulls, memory);
     }
 }
 
 /// Writes the values of a column, or the offsets of its texts and their octets.
-fn write_values(loaded: &Loaded, column: usize, ty: Ty, placed: &Placed, memory: &mut Linear)
-    requires column { column < length loaded.now.columns }
-    requires placed { placed.now ≡ placed_at placed.now.values ty (column_values loaded.now.rows column) }
+fn write_values(
+    loaded: &Loaded,
+    column: usize,
+    column_type: ColumnType,
+    placed: &Placed,
+    memory: &mut Linear,
+)
+    requires column_type { slice_get loaded.now.columns column ≡ Some column_type }
+    requires placed { placed.now ≡ placed_at placed.now.values column_type.ty (column_values loaded.now.rows column) }
     requires room { placed.now.nulls ≤ length memory.old.octets }
     requires small { length memory.old.octets < 2 ^ 32 }
-    ensures values { HasValues memory.new.octets ty placed.now (column_values loaded.now.rows column) }
+    ensures values { HasValues memory.new.octets column_type.ty placed.now (column_values loaded.now.rows column) }
     ensures keeps { KeepsBelow memory.old memory.new placed.now.values }
 {
-    match ty {
-        Ty::Varchar { .. } => {
-            write_offsets(loaded, column, placed.values, memory);
-            write_texts(loaded, column, placed.octets, memory);
+    match loaded.cells(column) {
+        ColumnCells::Short(numbers) => write_short(numbers, placed.values, memory),
+        ColumnCells::Long(numbers) => write_long(numbers, placed.values, memory),
+        ColumnCells::Texts { ends, octets } => {
+            write_offsets(ends, placed.values, memory);
+            copy_octets(memory, placed.octets, octets);
         }
-        Ty::Integer | Ty::Decimal { .. } | Ty::Date => {
-            write_numbers(loaded, column, ty, placed.values, memory);
-        }
     }
 }
 
-/// Writes the numbers of a column from an address on, of its type's width; 0 in the place of a null.
-fn write_numbers(loaded: &Loaded, column: usize, ty: Ty, at: u64, memory: &mut Linear)
-    requires column { column < length loaded.now.columns }
-    requires room { at + width_of ty * length loaded.now.rows ≤ length memory.old.octets }
+/// Writes numbers of four octets from an address on.
+fn write_short(numbers: &[i32], at: u64, memory: &mut Linear)
+    requires room { at + 4 * length numbers.now ≤ length memory.old.octets }
     requires small { length memory.old.octets < 2 ^ 32 }
-    ensures numbers { HasNumbers memory.new.octets at (width_of ty) (column_values loaded.now.rows column) (length loaded.now.rows) }
+    ensures numbers { HasNumbers memory.new.octets at 4 (map Num numbers.now) (length numbers.now) }
     ensures keeps { KeepsBelow memory.old memory.new at }
 {
-    let width = width_of(ty);
-    let rows = loaded.len();
-    for row in 0..rows {
-        let number = number_of(loaded.cell(row, column));
-        store_number(memory, at + width * row as u64, width, number);
+    for row in 0..numbers.len() {
+        let number = i64::from(numbers[row]);
+        memory
+            .store32(at + 4 * row as u64, number.cast_unsigned())
+            .unwrap();
     }
 }
 
-/// How many octets a number of a type has.
-fn width_of(ty: Ty) -> u64
-    ensures { result ≡ width_of ty }
-{
-    match ty {
-        Ty::Decimal { .. } => 8,
-        Ty::Integer | Ty::Date | Ty::Varchar { .. } => 4,
-    }
-}
-
-/// The number of a value; 0 of a null and of a text.
-fn number_of(cell: Cell<'_>) -> i64
-    ensures { result ≡ number_in (val_of cell.entry) }
-{
-    match cell {
-        Cell::Num(number) => number,
-        Cell::Date(date) => i64::from(date),
-        Cell::Null | Cell::Text(_) => 0,
-    }
-}
-
-/// Writes a number in eight octets, or else in four.
-fn store_number(memory: &mut Linear, at: u64, width: u64, number: i64)
-    requires width { width ≡ 4 ⊎ width ≡ 8 }
-    requires room { at + width ≤ length memory.old.octets }
-    ensures stored { memory.new ≡ record { octets = with_number memory.old.octets at width (cast_unsigned w64 number); reserved = memory.old.reserved } }
-{
-    let number = number.cast_unsigned();
-    if width == 8 {
-        memory.store64(at, number).unwrap();
-    } else {
-        memory.store32(at, number).unwrap();
-    }
-}
-
-/// Writes where the texts of a column begin, from 0 on, and behind the last of these offsets where the last text ends.
-fn write_offsets(loaded: &Loaded, column: usize, at: u64, memory: &mut Linear)
-    requires column { column < length loaded.now.columns }
-    requires room { at + 4 * length loaded.now.rows + 4 ≤ length memory.old.octets }
+/// Writes numbers of eight octets from an address on.
+fn write_long(numbers: &[i64], at: u64, memory: &mut Linear)
+    requires room { at + 8 * length numbers.now ≤ length memory.old.octets }
     requires small { length memory.old.octets < 2 ^ 32 }
-    requires texts { text_octets (column_values loaded.now.rows column) < 2 ^ 32 }
-    ensures starts { HasStarts memory.new.octets at (column_values loaded.now.rows column) (length loaded.now.rows + 1) }
+    ensures numbers { HasNumbers memory.new.octets at 8 (map Num numbers.now) (length numbers.now) }
     ensures keeps { KeepsBelow memory.old memory.new at }
 {
-    let mut offset = 0;
-    for row in 0..loaded.len() {
-        memory.store32(at + 4 * row as u64, offset).unwrap();
-        offset += text_of(loaded.cell(row, column)).len() as u64;
+    for row in 0..numbers.len() {
+        let number = numbers[row];
+        memory
+            .store64(at + 8 * row as u64, number.cast_unsigned())
+            .unwrap();
     }
-    memory
-        .store32(at + 4 * loaded.len() as u64, offset)
-        .unwrap();
 }
 
-/// Writes the octets of the texts of a column from an address on, one text after another.
-fn write_texts(loaded: &Loaded, column: usize, at: u64, memory: &mut Linear)
-    requires column { column < length loaded.now.columns }
-    requires room { at + text_octets (column_values loaded.now.rows column) ≤ length memory.old.octets }
+/// Writes where texts begin that end there, from 0 on, and behind the last of these offsets where the last text ends.
+fn write_offsets(ends: &[u32], at: u64, memory: &mut Linear)
+    requires room { at + 4 * length ends.now + 4 ≤ length memory.old.octets }
     requires small { length memory.old.octets < 2 ^ 32 }
-    ensures texts { HasTexts memory.new.octets at (column_values loaded.now.rows column) (length loaded.now.rows) }
+    ensures starts { (octets : List ℕ) (values : List Val) → AreTexts ends.now octets values → HasStarts memory.new.octets at values (length ends.now + 1) }
     ensures keeps { KeepsBelow memory.old memory.new at }
 {
-    let mut end = at;
-    for row in 0..loaded.len() {
-        let text = text_of(loaded.cell(row, column));
-        copy_text(memory, end, text);
-        end += text.len() as u64;
+    memory.store32(at, 0).unwrap();
+    for row in 0..ends.len() {
+        let end = u64::from(ends[row]);
+        memory.store32(at + 4 * row as u64 + 4, end).unwrap();
     }
 }
 
-/// Copies the octets of a text to an address.
-fn copy_text(memory: &mut Linear, at: u64, text: &[u8])
-    requires { at + length text.now ≤ length memory.old.octets }
-    ensures copied { memory.new ≡ record { octets = take at memory.old.octets ++ text.now ++ drop (at + length text.now) memory.old.octets; reserved = memory.old.reserved } }
-    ensures octets { AreOctets text.now }
+/// Copies the octets of texts to an address.
+fn copy_octets(memory: &mut Linear, at: u64, octets: &[u8])
+    requires { at + length octets.now ≤ length memory.old.octets }
+    ensures copied { memory.new ≡ record { octets = take at memory.old.octets ++ octets.now ++ drop (at + length octets.now) memory.old.octets; reserved = memory.old.reserved } }
+    ensures octets { AreOctets octets.now }
 {
-    memory.copy_in(at, text).unwrap();
+    memory.copy_in(at, octets).unwrap();
 }
 
 /// Writes the null bits of a column from an address on.

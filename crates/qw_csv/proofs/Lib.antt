@@ -1,4 +1,6 @@
 pub mod ColumnLaws
+pub mod CellFacts
+mod CellLemmas
 mod CsvReaderLemmas
 mod FileLemmas
 pub mod LoadingLaws

@@ -1,9 +1,11 @@
 -- Values that are pushed behind those of a column.
 use Rattle.std.proofs.Common.{◌≡◌, ◌≤◌, ◌<◌, ◌+◌, ◌-◌, ◌∙◌, ℕ, zero, suc, Bool, true, false, List, [], ◌∷◌, ◌++◌, length, map, take, drop, refl, sym, ap, arith, take_all, length-append, ℤ, Vec, Global, Some, get_or, not}
-use Rattle.std.specs.Prelude.{if◌then◌else◌, slice_get}
+use Rattle.std.specs.Prelude.{Err, IsTrue, IsUtf8, MatchResult, Ok, Result, chars, if◌then◌else◌, slice_get}
+use Rattle.std.specs.Result.{is_ok}
 use Rattle.std.specs.List.{AllByRecursion}
 use Rattle.std.proofs.lemmas.Bool.{false≢true}
 use Rattle.std.proofs.lemmas.List.{take-append-le}
+use Rattle.std.proofs.lemmas.Str.{encodes-chars, length-le-encodes}
 use Rattle.qw_types.specs.declared.value.Val.{Val}
 use Rattle.qw_types.specs.declared.value.Val.TheVariants as val
 use Rattle.qw_types.specs.DateText.{ShowsDate}
@@ -21,7 +23,7 @@ use Rattle.qw_types.specs.declared.schema.ColumnType.{ColumnType}
 use Rattle.qw_csv.specs.declared.storage.Values.{Values}
 use Rattle.qw_types.specs.Contents.{column_type}
 use Rattle.qw_csv.specs.Contents.{integer_column}
-use Rattle.qw_csv.specs.Inner.Storage.{AreCellsOf, AreEnds, AreKept, IsLiteralOf, is_null, placed, plain_values, texts_from, values_in, with_nulls}
+use Rattle.qw_csv.specs.Inner.Storage.{AreCellsOf, AreEnds, AreKept, IsLiteralOf, IsWrittenText, is_null, placed, plain_values, texts_from, values_in, with_nulls}
 
 -- octets behind a slice play no part in it
 slice_front : (start count : ℕ) (xs ys : List ℕ) → start + count ≤ length xs → take count (drop start (xs ++ ys)) ≡ take count (drop start xs)
@@ -84,6 +86,11 @@ pub all_push : {X : Type 0} (P : X → Type 0) (xs : List X) (x : X) → AllByRe
 all_push P [] x all h = (h, tt)
 all_push P (y ∷ xs) x all h = (all.0, all_push P xs x all.1 h)
 
+-- what stands in the places of values, and of one more
+blank_push : (type : Ty) (plain more values all : List Val) (value : Val) → plain ≡ map (placed type) values → more ≡ plain ++ placed type value ∷ []
+    → all ≡ values ++ value ∷ [] → more ≡ map (placed type) all
+blank_push type plain more values all value before put pushed = rw (put, pushed, before, map-append (placed type) values (value ∷ [])) refl
+
 -- a value of the type behind those of a column that may be null
 pub kept_with_null : (type : ColumnType) (before after : Values) (value : Val) → type.not_null ≡ false → AreKept type before → IsOfTypeOrNull type.ty type.not_null value
     → AreCellsOf type.ty after.cells → plain_values after.cells ≡ plain_values before.cells ++ placed type.ty value ∷ []
@@ -96,6 +103,7 @@ kept_with_null type before after value nullable kept of form cells flags =
         form = form;
         flags = rw (nullable, cells, flags, length-append before.nulls.items (is_null value ∷ []), length-append (plain_values before.cells) (placed type.ty value ∷ [])) (ap (λ (n : ℕ). n + 1) many);
         typed = rw pushed (all_push (IsOfTypeOrNull type.ty type.not_null) (values_in before) value kept.typed of);
+        blank = blank_push type.ty (plain_values before.cells) (plain_values after.cells) (values_in before) (values_in after) value kept.blank cells pushed;
       },
       pushed,
     )
@@ -112,6 +120,7 @@ kept_not_null type before after value never kept of form cells flags =
         form = form;
         flags = rw (never, flags) none;
         typed = rw pushed (all_push (IsOfTypeOrNull type.ty type.not_null) (values_in before) value kept.typed of);
+        blank = blank_push type.ty (plain_values before.cells) (plain_values after.cells) (values_in before) (values_in after) value kept.blank cells pushed;
       },
       pushed,
     )
@@ -239,23 +248,45 @@ date_field : (column : Column) (field : List ℕ) (number : ℤ) → column.ty �
 date_field column [] number is h = absurd (omega (arith, h.form.long))
 date_field column (octet ∷ octets) number is h = rw is h
 
+text_field : (column : Column) (field octets : List ℕ) → IsWrittenText column.ty field octets → IsFieldOf column field (val.Text octets)
+text_field column [] octets h = absurd (none column.ty h)
+  where
+    none : (type : Ty) → IsWrittenText type [] octets → ⊥
+    none ty.Integer these = these
+    none (ty.Decimal precision scale) these = these
+    none ty.Date these = these
+    none (ty.Varchar limit) these = omega (arith, these.1)
+text_field column (octet ∷ rest) octets h = of_type column.ty h
+  where
+    of_type : (type : Ty) → IsWrittenText type (octet ∷ rest) octets → IsTypedFieldOf type (octet ∷ rest) (val.Text octets)
+    of_type ty.Integer these = absurd these
+    of_type (ty.Decimal precision scale) these = absurd these
+    of_type ty.Date these = absurd these
+    of_type (ty.Varchar limit) these = (these.0, these.2)
+
+text_typed : (type : Ty) (not_null : Bool) (field octets : List ℕ) → IsWrittenText type field octets → IsOfTypeOrNull type not_null (val.Text octets)
+text_typed ty.Integer not_null field octets h = absurd h
+text_typed (ty.Decimal precision scale) not_null field octets h = absurd h
+text_typed ty.Date not_null field octets h = absurd h
+text_typed (ty.Varchar limit) not_null field octets h = h.2
+
 pub literal_field : (column : Column) (field : List ℕ) (value : Val) → IsLiteralOf column.ty field value → IsFieldOf column field value
 literal_field column field val.Null h = absurd h
 literal_field column field (val.Num number) h = number_field column field number h
 literal_field column field (val.Date number) h = date_field column field number h.0 h.1
-literal_field column field (val.Text octets) h = absurd h
+literal_field column field (val.Text octets) h = text_field column field octets h
 
 pub literal_typed : (type : Ty) (not_null : Bool) (field : List ℕ) (value : Val) → IsLiteralOf type field value → IsOfTypeOrNull type not_null value
 literal_typed type not_null field val.Null h = absurd h
 literal_typed type not_null field (val.Num number) h = h.range
 literal_typed type not_null field (val.Date number) h = rw h.0 (record { year = _; month = _; day = _; there = h.1.there; packed_is = h.1.packed_is })
-literal_typed type not_null field (val.Text octets) h = absurd h
+literal_typed type not_null field (val.Text octets) h = text_typed type not_null field octets h
 
 pub literal_placed : (type : Ty) (field : List ℕ) (value : Val) → IsLiteralOf type field value → (value ≡ placed type value) × (false ≡ is_null value)
 literal_placed type field val.Null h = absurd h
 literal_placed type field (val.Num number) h = (refl, refl)
 literal_placed type field (val.Date number) h = (refl, refl)
-literal_placed type field (val.Text octets) h = absurd h
+literal_placed type field (val.Text octets) h = (refl, refl)
 
 -- what a number or a date is put behind
 pub record Put (type : Ty) (field : List ℕ) (before after : Cells) : Type 0 where
@@ -307,6 +338,33 @@ date_put type field before numbers after number form is of pushed =
     date_type (ty.Decimal precision scale) f = absurd f
     date_type ty.Date f = refl
     date_type (ty.Varchar limit) f = absurd f
+
+pub text_put : (type : Ty) (field : List ℕ) (before : Cells) (texts after : Texts) → AreCellsOf type before → before ≡ cells.Texts texts → IsWrittenText type field field
+    → AreEnds 0 after.ends.items (length after.octets.items)
+    → texts_from 0 after.ends.items after.octets.items ≡ texts_from 0 texts.ends.items texts.octets.items ++ field ∷ [] → Put type field before (cells.Texts after)
+text_put type field before texts after form is of ends pushed = rw is (record {
+  value = val.Text field;
+  of = of;
+  form = of_type type (rw is at form);
+  pushed = rw (pushed, map-append val.Text (texts_from 0 texts.ends.items texts.octets.items) (field ∷ [])) refl;
+})
+  where
+    of_type : (t : Ty) → AreCellsOf t (cells.Texts texts) → AreCellsOf t (cells.Texts after)
+    of_type ty.Integer f = absurd f
+    of_type (ty.Decimal precision scale) f = absurd f
+    of_type ty.Date f = absurd f
+    of_type (ty.Varchar limit) f = ends
+
+-- what is so of a result that is there
+pub text_read : {A E : Type 0} (P : A → Type 0) (Q : E → Type 0) (read : Result A E) → MatchResult read P Q → IsTrue (is_ok read) → (a : A) × P a
+text_read P Q (Ok a) is there = (a, is)
+text_read P Q (Err e) is there = absurd (false≢true there)
+
+-- a text in its octets, of which there are no more than characters may be
+pub short_text : (limit : ℕ) (field : List ℕ) → IsUtf8 field → 1 ≤ length field → length field ≤ limit → IsWrittenText (ty.Varchar limit) field field
+short_text limit field utf8 some few =
+    let most : length (chars field) ≤ length field = rw (encodes-chars field utf8) at (length-le-encodes (chars field)) in
+    (refl, some, record { utf8 = utf8; short = omega (arith, few, most) })
 
 -- a number or a date behind the values of a column
 abbrev pub Literal : (column : Column) (field : List ℕ) (before after : Cells) → Type 0

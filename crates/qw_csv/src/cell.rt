@@ -4,6 +4,7 @@ ghost use Rattle.std.specs.Prelude.{◌≡◌, ◌<◌, ◌↔◌, IsTrue, Match
 ghost use Rattle.qw_types.specs.Value.{IsSized};
 ghost use Rattle.qw_types.specs.declared.value.Ty.TheVariants.{Varchar};
 ghost use Rattle.qw_csv.specs.Field.{IsFieldFault, IsFieldOf, IsTypedFault, IsTypedFieldOf, val_of};
+ghost use Rattle.qw_csv.specs.Inner.Storage.{IsWrittenText};
 
 use qw_types::date_text::read_date;
 use qw_types::numeral::read_number;
@@ -69,6 +70,20 @@ fn typed_cell<'a>(ty: &Ty, field: &'a [u8]) -> Result<Cell<'a>, CellFault>
             Err(fault) => Err(CellFault::Form(fault)),
         },
     }
+}
+
+/// Whether a field that isn't empty is a text of a type, and has no more octets than the type allows characters, so that these
+/// need not be counted.
+pub(crate) fn is_short_text(ty: &Ty, field: &[u8]) -> bool
+    ensures { IsTrue result → IsWrittenText ty.now field.now field.now }
+{
+    let Ty::Varchar { length } = ty else {
+        return false;
+    };
+    if field.is_empty() || field.len() > usize::from(*length) {
+        return false;
+    }
+    std::str::from_utf8(field).is_ok()
 }
 
 /// The text of so many characters at most that a field is.

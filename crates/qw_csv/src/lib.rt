@@ -3,13 +3,16 @@
 //! - [`loading::load`]: the rows that the octets stand for, or the first fault of the file.
 //! - [`loaded::Loaded`]: rows in memory, their values by row and column.
 //! - [`cell::Cell`]: a value, its text lent; [`cell::CellFault`]: why a field stands for none.
+//! - [`column_cells::ColumnCells`]: all values of a column, lent as they are kept.
 #![tactic(auto)]
 
 pub mod cell;
+pub mod column_cells;
 pub mod loaded;
 pub mod loading;
 mod storage;
 
 pub use cell::{Cell, CellFault};
+pub use column_cells::ColumnCells;
 pub use loaded::Loaded;
 pub use qw_types::ColumnType;

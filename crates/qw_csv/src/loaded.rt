@@ -6,16 +6,19 @@ ghost use Rattle.qw_types.specs.Kind.{IsRowOf, type_kind};
 ghost use Rattle.qw_types.specs.Schema.{AreColumns};
 ghost use Rattle.qw_types.specs.Value.{value_of};
 ghost use Rattle.qw_types.specs.declared.schema.Column.{Column};
+ghost use Rattle.qw_types.specs.declared.schema.ColumnType.{ColumnType};
 ghost use Rattle.qw_types.specs.declared.schema.Table.{Table};
 ghost use Rattle.qw_types.specs.declared.value.Val.{Val};
 ghost use Rattle.qw_types.specs.declared.value.Val.TheVariants.{Num};
 ghost use Rattle.qw_types.specs.Contents.{AreLoaded, Contents, IsOfColumnType, column_type};
+ghost use Rattle.qw_csv.specs.Cells.{AreCellsFor, values_of};
 ghost use Rattle.qw_csv.specs.Contents.{integer_column};
 ghost use Rattle.qw_csv.specs.Field.{val_of};
 ghost use Rattle.qw_csv.specs.Loading.{Loads};
 ghost use Rattle.qw_csv.specs.Inner.Rows.{AreStored, rows_in};
 
 use crate::cell::Cell;
+use crate::column_cells::ColumnCells;
 use crate::storage::Values;
 use qw_types::ColumnType;
 use std::marker::Model;
@@ -93,6 +96,15 @@ impl Loaded {
         ensures { value_of self.now.rows row column ≡ Some (val_of result) }
     {
         self.values[column].get(row)
+    }
+
+    /// The values of a column, counted from 0, as they are kept. Which of them are null, [`Loaded::cell`] tells.
+    pub fn cells(&self, column: usize) -> ColumnCells<'_>
+        requires { column < length self.now.columns }
+        ensures { (type : ColumnType) → slice_get self.now.columns column ≡ Some type
+            → AreCellsFor type.ty result (values_of self.now.rows column) }
+    {
+        self.values[column].cells()
     }
 
     /// The value of an INTEGER NOT NULL column in a row, both counted from 0.

@@ -214,16 +214,15 @@ fn read_record(reader: &mut Reader<&[u8]>, row: &mut ByteRecord) -> Result<bool,
 }
 
 /// Reads the next record, if there is one. What stops the reader counts as want of memory.
-fn next_record(reader: &mut Reader<&[u8]>, row: &mut ByteRecord) -> Result<bool, LoadFault>
+fn next_record(reader: &mut Reader<&[u8]>, row: &mut ByteRecord) -> Result<bool, NoMemory>
     ensures read { IfOk result (λ found. (text : List ℕ) (records : List (List (List ℕ)))
         → HasRead reader.old text records
         → MatchBool found (HasRead reader.new text (records ++ fields_of row.new ∷ []))
         (AreRecords default_config StartRecord text records)) }
-    ensures memory { IfErr result (λ e. e ≡ LoadFault.NoMemory) }
 {
     match read_record(reader, row) {
         Ok(found) => Ok(found),
-        Err(_) => Err(LoadFault::NoMemory),
+        Err(_) => Err(NoMemory),
     }
 }
 

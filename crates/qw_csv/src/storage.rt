@@ -1,5 +1,5 @@
 //! The values of one column, as they are kept: an INTEGER or a DATE takes four octets, a DECIMAL eight, a text its octets
-//! and eight more, and a column that may be null an octet a row beside.
+//! and four more, and a column that may be null an octet a row beside.
 
 ghost use Rattle.std.specs.Prelude.{◌≡◌, ◌≤◌, ◌-◌, ◌++◌, ◌<◌, ℕ, suc, take, drop, Bool, true, ◌↔◌, IsTrue, [], ◌∷◌, length, Some, IfOk, MatchResult, OnOk, slice_get};
 ghost use Rattle.std.specs.Bool.{MatchBool};
@@ -11,12 +11,14 @@ ghost use Rattle.qw_types.specs.declared.value.Val.{Val};
 ghost use Rattle.qw_types.specs.declared.value.Val.TheVariants as val;
 ghost use Rattle.qw_types.specs.declared.value.Val.TheVariants.{Num};
 ghost use Rattle.qw_types.specs.Contents.{column_type};
+ghost use Rattle.qw_csv.specs.Cells.{AreCellsFor};
 ghost use Rattle.qw_csv.specs.Contents.{integer_column};
 ghost use Rattle.qw_types.specs.declared.schema.ColumnType.{ColumnType};
 ghost use Rattle.qw_csv.specs.Field.{IsFieldFault, IsFieldOf, val_of};
 ghost use Rattle.qw_csv.specs.Inner.Storage.{AreCellsOf, AreEnds, AreKept, IsLiteralOf, is_null, placed, plain_values, texts_from, values_in};
 
-use crate::cell::{Cell, CellFault, cell_of};
+use crate::cell::{Cell, CellFault, cell_of, is_short_text};
+use crate::column_cells::ColumnCells;
 use qw_types::date_text::read_date;
 use qw_types::numeral::{read_integer, read_number};
 use qw_types::{Column, ColumnType, NoMemory, Ty};
@@ -53,12 +55,13 @@ enum Cells {
 #[derive(Debug, Drop)]
 struct Texts {
     /// Where each one ends in the octets.
-    ends: Vec<usize>,
+    ends: Vec<u32>,
     octets: Vec<u8>,
 }
 
 impl Texts {
-    /// Puts a text behind the others.
+    /// Puts a text behind the others. Want of memory, too, where all together had 2^32 octets: a million texts of 4,000 octets have
+    /// fewer.
     fn push(&mut self, text: &[u8]) -> Result<(), NoMemory>
         requires { AreEnds 0 self.old.ends.items (length self.old.octets.items) }
         ensures texts { OnOk result (texts_from 0 self.new.ends.items self.new.octets.items
@@ -66,7 +69,10 @@ impl Texts {
         ensures ends { OnOk result (AreEnds 0 self.new.ends.items (length self.new.octets.items)) }
     {
         self.octets.extend_from_slice(text)?;
-        self.ends.push(self.octets.len())?;
+        let Ok(end) = u32::try_from(self.octets.len()) else {
+            return Err(NoMemory);
+        };
+        self.ends.push(end)?;
         Ok(())
     }
 }
@@ -80,7 +86,7 @@ impl Texts {
     {
         let octets = self.octets.as_slice();
         let start = self.start(row);
-        let end = self.ends[row];
+        let end = self.ends[row] as usize;
         part(octets, start, end)
     }
 
@@ -93,7 +99,7 @@ impl Texts {
         if row == 0 {
             return 0;
         }
-        self.ends[row - 1]
+        self.ends[row - 1] as usize
     }
 }
 
@@ -132,8 +138,8 @@ impl Cells {
 }
 
 impl Cells {
-    /// Puts the number or date that a field of the column shows behind the others. Where it shows none, or the column is one of
-    /// texts, nothing is put, and the answer is false.
+    /// Puts the number or date that a field of the column shows behind the others, or the short text that it is. Where it is none of
+    /// these, nothing is put, and the answer is false.
     fn push_literal(&mut self, column: &Column, field: &[u8]) -> Result<bool, NoMemory>
         requires form { AreCellsOf column.now.ty self.old }
         requires sized { IsSized column.now.ty }
@@ -154,6 +160,7 @@ impl Cells {
                 Ok(date) => dates.push(date)?,
                 Err(_) => return Ok(false),
             },
+            Cells::Texts(texts) if is_short_text(&column.ty, field) => texts.push(field)?,
             Cells::Texts(_) => return Ok(false),
         }
         Ok(true)
@@ -191,6 +198,23 @@ impl Values {
 }
 
 impl Values {
+    /// All values, as they are kept.
+    pub(crate) fn cells(&self) -> ColumnCells<'_>
+        ensures { (type : ColumnType) → AreKept type self.now → AreCellsFor type.ty result (values_in self.now) }
+    {
+        match &self.cells {
+            Cells::Integers(numbers) => ColumnCells::Short(numbers.as_slice()),
+            Cells::Decimals(numbers) => ColumnCells::Long(numbers.as_slice()),
+            Cells::Dates(dates) => ColumnCells::Short(dates.as_slice()),
+            Cells::Texts(texts) => ColumnCells::Texts {
+                ends: texts.ends.as_slice(),
+                octets: texts.octets.as_slice(),
+            },
+        }
+    }
+}
+
+impl Values {
     /// No values.
     pub(crate) fn new(alloc: Global, column: ColumnType) -> Self
         ensures kept { AreKept column result }
@@ -218,8 +242,8 @@ impl Values {
 }
 
 impl Values {
-    /// Puts the number or date that a field of the column shows behind the others. Where it shows none, or the column is one of
-    /// texts, nothing is put, and the answer is false.
+    /// Puts the number or date that a field of the column shows behind the others, or the short text that it is. Where it is none of
+    /// these, nothing is put, and the answer is false.
     fn push_literal(&mut self, column: &Column, field: &[u8]) -> Result<bool, NoMemory>
         requires kept { AreKept (column_type column.now) self.old }
         requires sized { IsSized column.now.ty }
@@ -253,6 +277,23 @@ impl Values {
         if self.push_literal(column, field)? {
             return Ok(Ok(()));
         }
+        self.push_other(column, field)
+    }
+
+    /// As [`Values::push_field`], of a field in any form.
+    #[cold]
+    #[inline(never)]
+    fn push_other(
+        &mut self,
+        column: &Column,
+        field: &[u8],
+    ) -> Result<Result<(), CellFault>, NoMemory>
+        requires kept { AreKept (column_type column.now) self.old }
+        requires sized { IsSized column.now.ty }
+        ensures { IfOk result (λ put. MatchResult put
+            (λ _. (value : Val) × IsFieldOf column.now field.now value × AreKept (column_type column.now) self.new × (values_in self.new ≡ values_in self.old ++ value ∷ []))
+            (IsFieldFault column.now field.now)) }
+    {
         match cell_of(column, field) {
             Ok(cell) => {
                 self.push(column_type(column), cell)?;

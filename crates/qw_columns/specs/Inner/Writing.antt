@@ -1,11 +1,12 @@
 -- Mirrors what the functions of `writing` leave in the memory.
-use Rattle.std.specs.Prelude.{◌≡◌, ℕ, zero, suc, ◌+◌, ◌*◌, ◌%◌, ◌^◌, ◌<◌, ℤ, pos, List, [], length, take, drop, Option, Some, None, Bool, true, false, slice_get}
+use Rattle.std.specs.Prelude.{◌≡◌, ℕ, zero, suc, ◌+◌, ◌*◌, ◌%◌, ◌^◌, ◌<◌, List, length, take, drop, Option, Some, None, Bool, true, false, slice_get}
 use Rattle.std.specs.Int.{cast_unsigned, w64}
 use Rattle.qw_types.specs.Value.{text_octets}
 use Rattle.qw_types.specs.declared.value.Ty.{Ty}
 use Rattle.qw_types.specs.declared.value.Ty.TheVariants as ty
 use Rattle.qw_types.specs.declared.value.Val.{Val}
 use Rattle.qw_types.specs.declared.value.Val.TheVariants as val
+use Rattle.qw_csv.specs.Cells.{number_in, octets_in}
 use Rattle.qw_linear.specs.Linear.{Octets}
 use Rattle.qw_linear.specs.Memory.{AreOctets, SameBelow, number_at}
 use Rattle.qw_map.specs.declared.layout.Placed.{Placed}
@@ -18,26 +19,6 @@ pub record KeepsBelow (before after : Octets) (at : ℕ) : Type 0 where
   pub reserved : after.reserved ≡ before.reserved
 
 -- ---- of one value
-
--- the number that is written of a value, and the octets of its text
-abbrev pub number_in : Val → ℤ
-number_in val.Null = pos 0
-number_in (val.Num number) = number
-number_in (val.Date number) = number
-number_in (val.Text octets) = pos 0
-
-abbrev pub octets_in : Val → List ℕ
-octets_in val.Null = []
-octets_in (val.Num number) = []
-octets_in (val.Date number) = []
-octets_in (val.Text octets) = octets
-
--- how many octets a number of a type has
-abbrev pub width_of : Ty → ℕ
-width_of ty.Integer = 4
-width_of (ty.Decimal precision scale) = 8
-width_of ty.Date = 4
-width_of (ty.Varchar limit) = 4
 
 -- whether a row has a null, and as a bit
 abbrev pub is_null : Option Val → Bool

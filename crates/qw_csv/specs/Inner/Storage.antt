@@ -3,6 +3,7 @@ use Rattle.std.specs.Prelude.{◌≡◌, ◌≤◌, ◌-◌, ℕ, pos, List, [],
 use Rattle.std.specs.List.{AllByRecursion}
 use Rattle.qw_types.specs.DateText.{ShowsDate}
 use Rattle.qw_types.specs.Numeral.{IsNumberOf}
+use Rattle.qw_types.specs.Value.{IsTextOf}
 use Rattle.qw_types.specs.declared.value.Ty.{Ty}
 use Rattle.qw_types.specs.declared.value.Ty.TheVariants as ty
 use Rattle.qw_types.specs.declared.value.Val.{Val}
@@ -40,11 +41,17 @@ plain_values (cells.Decimals numbers) = map val.Num numbers.items
 plain_values (cells.Dates numbers) = map val.Date numbers.items
 plain_values (cells.Texts texts) = map val.Text (texts_from 0 texts.ends.items texts.octets.items)
 
--- a number or a date that a field shows
+-- a text that isn't empty, in the octets of a field
+abbrev pub IsWrittenText : Ty → List ℕ → List ℕ → Type 0
+IsWrittenText (ty.Varchar limit) field octets = (octets ≡ field) × (1 ≤ length field) × IsTextOf limit octets
+IsWrittenText _ field octets = ⊥
+
+-- a number or a date that a field shows, or a text that it is
 abbrev pub IsLiteralOf : Ty → List ℕ → Val → Type 0
+IsLiteralOf type field val.Null = ⊥
 IsLiteralOf type field (val.Num number) = IsNumberOf type field number
 IsLiteralOf type field (val.Date number) = (type ≡ ty.Date) × ShowsDate field number
-IsLiteralOf type field _ = ⊥
+IsLiteralOf type field (val.Text octets) = IsWrittenText type field octets
 
 -- cells of a type
 abbrev pub AreCellsOf : Ty → Cells → Type 0
@@ -81,3 +88,4 @@ pub record AreKept (type : ColumnType) (kept : Values) : Type 0 where
   pub form : AreCellsOf type.ty kept.cells
   pub flags : AreFlags type.not_null (length (plain_values kept.cells)) kept.nulls.items
   pub typed : AllByRecursion (IsOfColumnType type) (values_in kept)
+  pub blank : plain_values kept.cells ≡ map (placed type.ty) (values_in kept)

@@ -1,57 +1,34 @@
-use Rattle.std.proofs.Common.{◌≡◌, ◌≤◌, ◌<◌, ◌+◌, ◌*◌, ◌^◌, Some, add-one, arith, length, sym, take}
-use Rattle.std.specs.Prelude.{slice_get}
-use Rattle.qw_csv.specs.Field.{val_of}
-use Rattle.qw_types.specs.Value.{text_octets}
+use Rattle.std.proofs.Common.{◌≡◌, ◌≤◌, ◌<◌, ◌+◌, ◌*◌, ◌^◌, add-one, arith, get_or, length}
+use Rattle.std.proofs.lemmas.Option.{slice_get-get_or}
 use Rattle.qw_linear.proofs.AccessFacts.{stored-inside}
-use Rattle.qw_map.specs.Columns.{column_values}
-use Rattle.qw_map.proofs.ColumnLemmas.{text_octets-taken}
-use Rattle.qw_columns.proofs.RoomLemmas.{in_column, text_octets-more}
-use Rattle.qw_columns.proofs.WriteLemmas.{keeps_number, keeps_then, starts_more, text_inside}
+use Rattle.qw_columns.proofs.WriteLemmas.{keeps_number, keeps_then, start_first, start_next}
 use Rattle.qw_columns.proofs.writing.write_offsets.Goals as goal
 
-found : (c : goal.After-text_of) → slice_get (column_values c.args.loaded.now.rows c.args.column) c.loop-row.row ≡ Some (val_of c.cell.result)
-found c = in_column c.args.loaded.now.rows c.loop-row.row c.args.column (val_of c.cell.result) c.cell.ensures
-
-pub overflow_add-offset : goal.overflow_add-offset
-overflow_add-offset c =
-    let inside = text_inside (column_values c.args.loaded.now.rows c.args.column) c.loop-row.row (val_of c.cell.result) (found c) in
-    rw (c.text_of.ensures) (omega (arith, inside, c.loop-row.invariant.offset, c.requires.texts))
+pub loop-row-init : goal.loop-row-init
+loop-row-init c =
+    let memory = c.args.memory.now in
+    let room : c.args.at + 4 ≤ length memory.octets = omega (arith, c.requires.room) in
+    rw (c.store32.ensures.stored, stored-inside memory.octets c.args.at 4 0 room) (record {
+      starts = λ octets values are. start_first memory.octets c.args.at values room;
+      keeps = keeps_number memory c.args.at 4 0;
+    })
 
 pub loop-row-preserved : goal.loop-row-preserved
 loop-row-preserved c =
     let memory = c.loop-row.memory in
     let row = c.loop-row.row in
-    let values = column_values c.args.loaded.now.rows c.args.column in
-    let small : text_octets (take row values) < 2 ^ 32 = omega (arith, text_octets-taken values row, c.requires.texts) in
-    let room : c.args.at + 4 * row + 4 ≤ length memory.octets = omega (arith, c.requires.room, c.loop-row.invariant.keeps.len, c.loop-row-test.true, c.len-row-end.ensures.rows) in
-    rw (c.store32.ensures.stored, stored-inside memory.octets (c.args.at + 4 * row) 4 c.loop-row.offset room, c.loop-row.invariant.offset, c.text_of.ensures, add-one) (record {
-      starts = starts_more memory.octets c.args.at values row small room c.loop-row.invariant.starts;
-      offset = sym (text_octets-more values row (val_of c.cell.result) (found c));
-      keeps = keeps_then c.args.memory.now memory _ c.args.at (c.args.at + 4 * row) (omega arith) c.loop-row.invariant.keeps
-          (keeps_number memory (c.args.at + 4 * row) 4 (text_octets (take row values)));
+    let end = get_or c.args.ends.now row 0 in
+    let place = c.args.at + 4 * row + 4 in
+    let room : place + 4 ≤ length memory.octets = omega (arith, c.requires.room, c.loop-row-test.true, c.loop-row.invariant.keeps.len) in
+    let small : end < 2 ^ 32 = omega (arith, c.type_inv.ends row) in
+    rw (c.store32-in-loop-row.ensures.stored, stored-inside memory.octets place 4 c.from-end.result room, c.from-end.ensures, add-one) (record {
+      starts = λ octets values are.
+          start_next memory.octets c.args.at c.args.ends.now octets values row place end are (slice_get-get_or c.args.ends.now row 0 c.loop-row-test.true) (omega arith) small room
+          (c.loop-row.invariant.starts octets values are);
+      keeps = keeps_then c.args.memory.now memory _ c.args.at place (omega arith) c.loop-row.invariant.keeps (keeps_number memory place 4 end);
     })
 
 pub returns-clause-starts : goal.returns-clause-starts
-returns-clause-starts c =
-    let memory = c.loop-row.memory in
-    let row = c.loop-row.row in
-    let values = column_values c.args.loaded.now.rows c.args.column in
-    let last : c.len.result ≡ row = omega (arith, c.loop-row-test.false, c.loop-row.auto.row-end, c.len-row-end.ensures.rows, c.len.ensures.rows) in
-    let count : length c.args.loaded.now.rows ≡ row = omega (arith, last, c.len.ensures.rows) in
-    let small : text_octets (take row values) < 2 ^ 32 = omega (arith, text_octets-taken values row, c.requires.texts) in
-    let room : c.args.at + 4 * row + 4 ≤ length memory.octets = omega (arith, count, c.requires.room, c.loop-row.invariant.keeps.len) in
-    let put = rw (last, c.loop-row.invariant.offset) at c.store32-2.ensures.stored in
-    rw (put, stored-inside memory.octets (c.args.at + 4 * row) 4 (text_octets (take row values)) room, count, add-one)
-    (starts_more memory.octets c.args.at values row small room c.loop-row.invariant.starts)
-
-pub returns-clause-keeps : goal.returns-clause-keeps
-returns-clause-keeps c =
-    let memory = c.loop-row.memory in
-    let row = c.loop-row.row in
-    let values = column_values c.args.loaded.now.rows c.args.column in
-    let last : c.len.result ≡ row = omega (arith, c.loop-row-test.false, c.loop-row.auto.row-end, c.len-row-end.ensures.rows, c.len.ensures.rows) in
-    let room : c.args.at + 4 * row + 4 ≤ length memory.octets = omega (arith, last, c.len.ensures.rows, c.requires.room, c.loop-row.invariant.keeps.len) in
-    let put = rw (last) at c.store32-2.ensures.stored in
-    rw (put, stored-inside memory.octets (c.args.at + 4 * row) 4 c.loop-row.offset room)
-    (keeps_then c.args.memory.now memory _ c.args.at (c.args.at + 4 * row) (omega arith) c.loop-row.invariant.keeps
-    (keeps_number memory (c.args.at + 4 * row) 4 c.loop-row.offset))
+returns-clause-starts c octets values are =
+    let last : c.loop-row.row ≡ length c.args.ends.now = omega (arith, c.loop-row-test.false, c.loop-row.auto.row-end) in
+    rw (add-one, ← last) (c.loop-row.invariant.starts octets values are)

@@ -1,0 +1,10 @@
+use Rattle.std.proofs.Common.{map}
+use Rattle.qw_types.specs.declared.value.Val.TheVariants.{Num}
+use Rattle.qw_columns.specs.Inner.Writing.{HasNumbers, KeepsBelow}
+use Rattle.qw_columns.proofs.writing.write_long.Given as goal
+
+abbrev pub invariant-loop-row : goal.invariant-loop-row
+invariant-loop-row l = record {
+  numbers : HasNumbers l.memory.octets l.at 8 (map Num l.numbers) l.row;
+  keeps : KeepsBelow l.fn.memory l.memory l.at;
+}
