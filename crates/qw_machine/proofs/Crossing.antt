@@ -1,5 +1,5 @@
 -- Blocks that are entered and left where what a point holds is held apart from it.
-use Rattle.std.proofs.Common.{◌≡◌, ◌≢◌, ℕ, ◌+◌, ◌-◌, ◌<◌, ◌≤◌, Bool, false, List, ◌∷◌, length, drop, Option, None, Some, is_some, slice_get, get_or, Vec, vec_len, Global, refl, sym, ap, subst, ◌∙◌, arith}
+use Rattle.std.proofs.Common.{◌≡◌, ◌≢◌, ℕ, ◌+◌, ◌-◌, ◌^◌, ◌<◌, ◌≤◌, Bool, true, false, List, [], ◌∷◌, length, drop, Option, None, Some, is_some, slice_get, get_or, Vec, vec_len, Global, refl, sym, ap, subst, ◌∙◌, arith}
 use Rattle.qw_module.specs.declared.instruction.ValType.{ValType}
 use Rattle.qw_module.specs.declared.instruction.Instr.{Instr}
 use Rattle.qw_module.specs.declared.instruction.Instr.TheVariants as i
@@ -19,7 +19,7 @@ use Rattle.qw_module.specs.Start.{body_of}
 use Rattle.qw_module.specs.Step.{op_wants}
 use Rattle.qw_module.specs.Syntax.{Sequences, sequence_at}
 use Rattle.qw_module.specs.Validity.{sequences_of}
-use Rattle.qw_machine.specs.Inner.Activities.{IsAtHand, IsDoneAt, IsHalted, IsPlaced, IsRun}
+use Rattle.qw_machine.specs.Inner.Activities.{IsAtHand, IsDoneAt, IsHalted, IsPlaced, IsRun, has_no_else}
 use Rattle.qw_machine.specs.Inner.Ended.{answer_of}
 use Rattle.qw_machine.specs.Inner.Operated.{CanOperate, Held, IsDone}
 use Rattle.qw_machine.specs.Inner.Placed.{IsExecuted, IsPoint, IsRunning}
@@ -30,8 +30,9 @@ use Rattle.qw_machine.proofs.Arrays.{instruction-there}
 use Rattle.qw_machine.proofs.Controlled.{executed-block, executed-loop, br_if-operand, executed-br_if-not, if-operand, executed-if, executed-else, executed-without}
 use Rattle.qw_machine.proofs.Followed.{held-ready, held-done, held-own}
 use Rattle.qw_machine.proofs.Leaving.{left-label}
-use Rattle.qw_machine.proofs.Reading.{array-there, array-read}
-use Rattle.qw_machine.proofs.Runs.{run-after, run-operator}
+use Rattle.qw_machine.proofs.Passed.{executed-passed}
+use Rattle.qw_machine.proofs.Reading.{array-there, array-read, sequence-small}
+use Rattle.qw_machine.proofs.Runs.{run-after, run-operator, run-within}
 
 -- with a further label around
 abbrev pub labelled : Stacked Awaiting → (base : ℕ) (takes : Bool) (sequence target after : ℕ) → Stacked Awaiting
@@ -128,6 +129,27 @@ module _ {m : Module} {rooms : Rooms} {p : Point} {awaiting : Stacked Awaiting} 
           (found (i.If result inner other) read ∙ ap (λ (x : Option ℕ). Some (i.If result inner x)) there) left.values
           (placed p (labelled awaiting (length left.values) (is_some result) number (index + 1) (index + 1)) body 0 left globals locals) memory popped refl)
 
+    -- so the sequence that is chosen is one of the body
+    abbrev inside : ℕ → (left : Stacked ℕ) → Point
+    inside body left = placed p (labelled awaiting (length left.values) (is_some result) number (index + 1) (index + 1)) body 0 left globals locals
+
+    pub point-if : (body n : ℕ) (left : Stacked ℕ) → operands.values ≡ n ∷ left.values → n ≢ 0 → body ≡ inner → IsPoint m rooms (inside body left)
+    point-if body n left popped other_than chosen =
+        (placed-if body (length left.values) (is_some result) (labelled awaiting (length left.values) (is_some result) number (index + 1) (index + 1))
+        (record { number = body; index = 0; done = Ran }) left [] refl refl (record { labelled_is = refl; begins = refl }) n popped other_than chosen).0
+
+    pub point-else : (body : ℕ) (left : Stacked ℕ) → operands.values ≡ 0 ∷ left.values → other ≡ Some body → IsPoint m rooms (inside body left)
+    point-else body left popped there =
+        (placed-else body (length left.values) (is_some result) (labelled awaiting (length left.values) (is_some result) number (index + 1) (index + 1))
+        (record { number = body; index = 0; done = Ran }) left [] refl refl (record { labelled_is = refl; begins = refl }) popped there).0
+
+    -- nothing is chosen: it only takes its operand
+    pub placed-passed : (left : Stacked ℕ) (memory : List ℕ) → operands.values ≡ 0 ∷ left.values → (sequences : Sequences) → sequences ≡ body_of m p.function →
+        has_no_else sequences other ≡ true → IsDoneAt m rooms spare here memory Ran (placed p awaiting number (index + 1) left globals locals) memory
+    placed-passed left memory popped sequences same_body passes =
+        executed-passed spare start.executed start.running.point start.running.unfinished result inner other (found (i.If result inner other) read)
+        (subst (λ (s : Sequences). has_no_else s other ≡ true) same_body passes) left.values memory popped
+
 -- ---- labels whose sequences are finished are left
 module _ (m : Module) (rooms : Rooms) (p : Point) (body : Body) (same : sequences_of body ≡ body_of m p.function) (awaiting : List Awaiting) (number index : ℕ)
     (is : IsPoint m rooms (in_sequence p awaiting number index)) where
@@ -140,6 +162,11 @@ module _ (m : Module) (rooms : Rooms) (p : Point) (body : Body) (same : sequence
   pub slice-read : (array : Vec Instr Global) (sequence : List Instr) → array ≡ get_or body.sequences.items number array → sequence ≡ array.items →
       sequence ≡ sequence_at (sequences_of body) number
   slice-read array sequence read sliced = sliced ∙ sym (array-read body number array array-inner read)
+
+  pub index-small : index < 2 ^ 63
+  index-small =
+      let within : index ≤ length (sequence_at (sequences_of body) number) = subst (λ (s : Sequences). index ≤ length (sequence_at s number)) (sym same) is.index_in in
+      omega (arith, within, sequence-small body number)
 
   module _ (sequence : List Instr) (sequence_is : sequence ≡ sequence_at (sequences_of body) number) where
     pub slice-instructions : sequence ≡ instructions_at m p.function number
@@ -205,6 +232,16 @@ module _ (m : Module) (rooms : Rooms) (p : Point) (start : Kept) (begins : IsKep
       (subst (λ (a : Stepped). IsDoneAt m rooms spare (kept p now) now.octets a (kept p after) after.octets) goes.0 crossed)
       (subst (λ (xs : List Instr). after.index < length xs) (goes.2 ∙ ap (λ (s : Sequences). sequence_at s after.number) same) goes.1) refl fits
 
+  -- the same, where what is known of the place is told apart
+  pub kept-decided : (sequences : Sequences) → sequences ≡ body_of m p.function → (sequence : List Instr) (after : Kept) (number index next : ℕ) →
+      IsDoneAt m rooms spare (kept p now) now.octets Ran (kept p after) after.octets → (after.index < length sequence) × (sequence ≡ sequence_at sequences after.number) → steps + 1 ≤ most →
+      next ≡ steps + 1 → after.number ≡ number → after.index ≡ index →
+      IsRun m rooms spare most (kept p start) start.octets (record { steps = next; last = Ran }) (kept p (record after { number = number; index = index })) after.octets
+  kept-decided sequences same sequence after number index next done goes fits counted number_is index_is =
+      let run_of : ℕ → ℕ → ℕ → Type 0 = λ n x s. IsRun m rooms spare most (kept p start) start.octets (record { steps = s; last = Ran }) (kept p (record after { number = n; index = x })) after.octets in
+      let crossed : run_of after.number after.index (steps + 1) = kept-crossed sequences same sequence Ran after done (refl, goes.0, goes.1) fits in
+      subst (λ (n : ℕ). run_of n index next) number_is (subst (λ (x : ℕ). run_of after.number x next) index_is (subst (λ (s : ℕ). run_of after.number after.index s) (sym counted) crossed))
+
 -- what is placed is at hand in its sequence
 pub placed-at-hand : (m : Module) (rooms : Rooms) (p : Point) (k : Kept) → IsKept m rooms p k → (sequences : Sequences) (sequence : List Instr) → sequences ≡ body_of m p.function →
     sequence ≡ instructions_at m p.function k.number →
@@ -235,3 +272,10 @@ pub halted-held : (m : Module) (rooms : Rooms) (p : Point) (globals locals : Lis
 halted-held m rooms p globals locals spare most memory run ended q after globals_are locals_are is =
     let same : with_held p p.index p.operands globals locals ≡ p = rw (globals_are, locals_are) (held-own p) in
     subst (λ (x : Point). IsHalted m rooms spare most x memory run ended q after) same is
+
+-- at most so many steps are at most more
+pub halted-within : (m : Module) (rooms : Rooms) (spare few most : ℕ) (p : Point) (memory : List ℕ) (run : Run) (ended : Option Stepped) (q : Point) (after : List ℕ) → few ≤ most →
+    IsHalted m rooms spare few p memory run ended q after → IsHalted m rooms spare most p memory run ended q after
+halted-within m rooms spare few most p memory run None q after fits is = run-within m rooms spare few most p q memory after run fits is
+halted-within m rooms spare few most p memory run (Some answer) q after fits is =
+    (is.0, is.1, is.2, run-within m rooms spare few most p is.1 memory is.2 run fits is.3, is.4)

@@ -1,5 +1,5 @@
 -- The instructions of a module's functions in the arrays that hold them.
-use Rattle.std.proofs.Common.{◌≡◌, ◌≢◌, ℕ, ◌<◌, ◌≤◌, List, length, get_or, Vec, Global, Some, slice_get, refl, sym, ap, ◌∙◌, subst, arith, vec_len}
+use Rattle.std.proofs.Common.{◌≡◌, ◌≢◌, ℕ, ◌<◌, ◌≤◌, List, ◌^◌, [], length, get_or, Vec, Global, Option, None, Some, option_map, unwrap_or, slice_get, refl, sym, ap, ◌∙◌, subst, arith, vec_len}
 use Rattle.std.proofs.lemmas.List.{length-map}
 use Rattle.std.proofs.lemmas.Option.{slice_get-map, slice_get_read}
 use Rattle.qw_module.specs.declared.instruction.Instr.{Instr}
@@ -31,6 +31,14 @@ array-read body sequence array inner read =
     let arrays : List (Vec Instr Global) = body.sequences.items in
     let there : slice_get arrays sequence ≡ Some array = slice_get_read arrays (length arrays) sequence array refl (array-there body sequence inner) read in
     rw (slice_get-map, there) refl
+
+-- so its length and a number below 2 ^ 63 can be added
+items-small : (array : Option (Vec Instr Global)) → length (unwrap_or (option_map (λ (a : Vec Instr Global). a.items) array) []) < 2 ^ 63
+items-small None = omega arith
+items-small (Some array) = omega (arith, array.ok.0, array.ok.1, array.small)
+
+pub sequence-small : (body : Body) (sequence : ℕ) → length (sequence_at (sequences_of body) sequence) < 2 ^ 63
+sequence-small body sequence = rw slice_get-map (items-small (slice_get body.sequences.items sequence))
 
 -- and so is one of a function that is read
 pub sequence-read : (m : Module) (number sequence : ℕ) (function : Function) (array : Vec Instr Global) → number < length m.functions.items →

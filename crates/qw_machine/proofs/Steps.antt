@@ -5,7 +5,6 @@ use Rattle.qw_module.specs.declared.module.Module.{Module}
 use Rattle.qw_machine.specs.declared.room.Rooms.{Rooms}
 use Rattle.qw_machine.specs.declared.stepped.RunEnd.{RunEnd}
 use Rattle.qw_machine.specs.declared.stepped.Stepped.{Stepped}
-use Rattle.qw_machine.specs.declared.stepped.Stepped.TheVariants as stepped
 use Rattle.qw_module.specs.Execution.{Config, State, Running}
 use Rattle.qw_module.specs.Step.{Next}
 use Rattle.qw_machine.specs.Instance.{Went}

@@ -15,7 +15,7 @@ ghost use Rattle.qw_machine.specs.Inner.Operated.{CanOperate};
 ghost use Rattle.qw_machine.specs.Inner.Placed.{IsExecuted, IsPoint, IsRunning};
 ghost use Rattle.qw_machine.specs.Inner.Activities.{CanJump, CanLeave, IsDoneAt, IsHalted, IsJump, IsLeft, IsReturn, IsRun, IsStepped};
 
-use crate::blocks::{Halted, blocks};
+use crate::blocks::{Halted, at_once, blocks};
 use crate::numbers::value_of;
 use crate::operators::{Operated, operate};
 use crate::room::Rooms;
@@ -434,13 +434,14 @@ impl Activity {
                 done: None,
             };
         }
+        let few = at_once(most);
         // A local variable of its own: as a field, its length would be read and written at each operator.
         let mut operands = self.operands.take();
         let halted = blocks(
             &program.functions[self.function].body,
             self.sequence,
             first,
-            most,
+            few,
             &mut self.awaiting,
             &mut operands,
             self.globals.as_mut_slice(),

@@ -1,6 +1,6 @@
 //! Turns of a loop that begin its body anew (WebAssembly Core Specification 1.0, 4.4.5 and 4.4.6), made where the body runs.
 
-ghost use Rattle.std.specs.Prelude.{◌≡◌, ◌+◌, ◌<◌, ◌≤◌, true, false, length, IfSome, Some, slice_get};
+ghost use Rattle.std.specs.Prelude.{◌≡◌, ◌<◌, ◌≤◌, true, false, length, IfSome, Some, slice_get};
 ghost use Rattle.qw_module.specs.Validity.{sequences_of};
 ghost use Rattle.qw_machine.specs.Inner.Activities.{IsTurn, Repeats};
 
@@ -8,19 +8,6 @@ use crate::activity::Awaiting;
 use crate::stack::Stack;
 use qw_module::instruction::Instr;
 use qw_module::module::Body;
-
-/// The index after at most so many steps from an index, and at most the last one.
-pub(crate) fn last_of(last: usize, index: usize, most: u64) -> usize
-    requires { index ≤ last }
-    ensures inside { result ≤ last }
-    ensures few { result ≤ index + most }
-{
-    if most < (last - index) as u64 {
-        index + most as usize
-    } else {
-        last
-    }
-}
 
 /// How many operands lie below those of the loop whose body is the sequence of this number, where its label is the innermost one
 /// that awaits.

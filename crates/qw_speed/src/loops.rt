@@ -216,6 +216,40 @@ fn choices(alloc: Global, turns: u32) -> Result<Module, AllocError> {
     module(alloc, vec![in alloc; run]?, 1)
 }
 
+/// One of two counters is counted up in each turn, by whether the turn's number is odd: the one or the other sequence of an `if` is
+/// entered and left.
+fn branches(alloc: Global, turns: u32) -> Result<Module, AllocError> {
+    let locals = [Locals {
+        count: 3,
+        ty: ValType::I32,
+    }];
+    let odd = [get(2), i32(1), binary(ValType::I32, Binary::Add), set(2)];
+    let even = [get(3), i32(1), binary(ValType::I32, Binary::Add), set(3)];
+    let turn = [
+        get(1),
+        i32(1),
+        binary(ValType::I32, Binary::And),
+        Instr::If {
+            result: None,
+            then_body: 0,
+            else_body: Some(1),
+        },
+        get(1),
+        i32(1),
+        binary(ValType::I32, Binary::Add),
+        tee(1),
+        i32(turns),
+        less(ValType::I32),
+        Instr::BrIf(0),
+    ];
+    let begin = [Instr::Loop {
+        result: None,
+        body: 2,
+    }];
+    let run = function(alloc, 0, &locals, &[&odd, &even, &turn, &begin])?;
+    module(alloc, vec![in alloc; run]?, 1)
+}
+
 /// The module of the loop of a name with so many turns. `None` where there is none, and for want of memory.
 pub(crate) fn module_of(alloc: Global, name: &str, turns: u32) -> Option<Module> {
     match name {
@@ -223,6 +257,7 @@ pub(crate) fn module_of(alloc: Global, name: &str, turns: u32) -> Option<Module>
         "cells" => cells(alloc, turns).ok(),
         "calls" => calls(alloc, turns).ok(),
         "choices" => choices(alloc, turns).ok(),
+        "branches" => branches(alloc, turns).ok(),
         _ => None,
     }
 }

@@ -58,7 +58,7 @@ fn asked(words: &[String]) -> Option<(&str, u32)> {
 fn main(rt: HostRuntime) -> io::Result<ExitCode> {
     let words = words(&rt)?;
     let Some((name, turns)) = asked(&words) else {
-        eprintln!(rt; "usage: qw_speed sums|cells|calls|choices TURNS")?;
+        eprintln!(rt; "usage: qw_speed sums|cells|calls|choices|branches TURNS")?;
         return Ok(ExitCode::from(2));
     };
     let Some(taken) = run(rt.alloc(), name, turns) else {

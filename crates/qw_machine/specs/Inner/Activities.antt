@@ -1,4 +1,4 @@
--- Mirrors `Activity::execute`, `leave_finished`, `step` and `run`, `following`, `passing`, `turned` and `blocks`: what the machine does at an
+-- Mirrors `Activity::execute`, `leave_finished`, `step` and `run`, `following`, `filled`, `turned` and `blocks`: what the machine does at an
 -- instruction, and what its steps answer.
 use Rattle.std.specs.Prelude.{◌≡◌, ◌≢◌, ◌==◌, ℕ, ◌+◌, ◌≤◌, nat_le, Bool, true, false, List, ◌∷◌, ◌++◌, length, take, drop, Option, None, Some, slice_get, ◌-◌}
 use Rattle.std.specs.Bool.{MatchBool}
@@ -91,18 +91,10 @@ pub record IsFollowed (m : Module) (rooms : Rooms) (sequence : List Instr) (p : 
   pub room_is : rooms.operands ≡ room
   pub running : IsRunning m rooms (with_held p index operands globals locals)
 
--- whether an instruction takes a condition
-abbrev pub takes_condition : Instr → Bool
-takes_condition (i.BrIf index) = true
-takes_condition (i.If result inner other) = true
-takes_condition _ = false
-
--- whether an instruction of a body only takes its operand where that is 0: a `br_if`, or an `if` without an `else` or with an empty one
-abbrev pub passes_on_zero : Sequences → Instr → Bool
-passes_on_zero sequences (i.BrIf index) = true
-passes_on_zero sequences (i.If result inner None) = true
-passes_on_zero sequences (i.If result inner (Some other)) = length (sequence_at sequences other) == 0
-passes_on_zero sequences _ = false
+-- whether an `if` of a body has no `else`, or an empty one, so that it only takes its operand where that is 0
+abbrev pub has_no_else : Sequences → Option ℕ → Bool
+has_no_else sequences None = true
+has_no_else sequences (Some other) = length (sequence_at sequences other) == 0
 
 -- The innermost label is that of a loop whose body is the sequence of this number, on so many operands: a branch to it, and the
 -- `loop` that it goes to, begin the sequence anew.

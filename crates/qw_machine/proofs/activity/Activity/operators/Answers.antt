@@ -3,7 +3,7 @@ use Rattle.std.proofs.lemmas.List.{with_items_is, length-take-le, length-drop}
 use Rattle.qw_machine.specs.Inner.Activities.{IsHalted}
 use Rattle.qw_machine.specs.Inner.Points.{Point, placed, point_of}
 use Rattle.qw_machine.specs.Inner.Rooms.{rooms_of}
-use Rattle.qw_machine.proofs.Crossing.{halted-held, placed-here}
+use Rattle.qw_machine.proofs.Crossing.{halted-held, halted-within, placed-here}
 use Rattle.qw_machine.proofs.ListFacts.{take-end, append-none}
 use Rattle.qw_machine.proofs.Reading.{body-read}
 use Rattle.qw_machine.proofs.Runs.{run-none}
@@ -57,4 +57,4 @@ returns-clause-run c =
     (halted-held m (rooms_of s) p c.as_mut_slice.result.now (take (length deref - first) (drop first deref)) c.args.spare c.args.most
     c.args.memory.now.octets halted.result.run halted.result.done
     (placed p halted.new.awaiting halted.result.number halted.result.index halted.new.operands halted.new.globals halted.new.locals) halted.new.memory.octets
-    c.as_mut_slice.ensures.value values ((rw c.take-operands.ensures.taken at halted.ensures.run) m (rooms_of s) p body start))
+    c.as_mut_slice.ensures.value values (halted-within m (rooms_of s) c.args.spare c.at_once-few.result c.args.most _ _ _ _ _ _ c.at_once-few.ensures.few ((rw c.take-operands.ensures.taken at halted.ensures.run) m (rooms_of s) p body start)))
