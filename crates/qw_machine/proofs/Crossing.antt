@@ -1,5 +1,5 @@
 -- Blocks that are entered and left where what a point holds is held apart from it.
-use Rattle.std.proofs.Common.{◌≡◌, ◌≢◌, ℕ, ◌+◌, ◌-◌, ◌^◌, ◌<◌, ◌≤◌, Bool, true, false, List, [], ◌∷◌, length, drop, Option, None, Some, is_some, slice_get, get_or, Vec, vec_len, Global, refl, sym, ap, subst, ◌∙◌, arith}
+use Rattle.std.proofs.Common.{◌≡◌, ◌≢◌, ℕ, ◌+◌, ◌-◌, ◌^◌, ◌<◌, ◌≤◌, Bool, true, false, List, [], ◌∷◌, length, drop, Option, None, Some, IfSome, is_some, slice_get, get_or, Vec, vec_len, Global, refl, sym, ap, subst, ◌∙◌, arith}
 use Rattle.qw_module.specs.declared.instruction.ValType.{ValType}
 use Rattle.qw_module.specs.declared.instruction.Instr.{Instr}
 use Rattle.qw_module.specs.declared.instruction.Instr.TheVariants as i
@@ -182,6 +182,16 @@ module _ (m : Module) (rooms : Rooms) (p : Point) (body : Body) (same : sequence
         × (state_at m (in_sequence p awaiting number index) ≡ state_at m (in_sequence p rest entry.sequence entry.after))
     label-left ended entry rest popped =
         left-label m rooms (in_sequence p awaiting number index) entry rest (ended ∙ ap length slice-instructions) popped is
+
+-- ---- the sequence of an `else` is there
+module _ {m : Module} {rooms : Rooms} {p : Point} {awaiting : Stacked Awaiting} {number index : ℕ} {operands : Stacked ℕ} {globals locals : List ℕ}
+    (start : IsPlaced m rooms p awaiting number index operands globals locals) (sequence : List Instr) (same : sequence ≡ instructions_at m p.function number)
+    (default : Instr) (result : Option ValType) (inner : ℕ) (body : Body) (same_body : sequences_of body ≡ body_of m p.function)
+    (left : Stacked ℕ) (popped : operands.values ≡ 0 ∷ left.values) where
+  pub else-there : (other : Option ℕ) → get_or sequence index default ≡ i.If result inner other → IfSome other (λ (n : ℕ). n < vec_len body.sequences)
+  else-there None read = tt
+  else-there (Some other) read =
+      in-array m rooms (with_held p 0 left.values globals locals) body same_body _ other 0 (point-else start sequence same 0 default result inner (Some other) read other left popped refl)
 
 -- ---- an instruction executed, and the labels left that it finished
 abbrev pub held : Point → (operands : Stacked ℕ) → (globals locals : List ℕ) → Point

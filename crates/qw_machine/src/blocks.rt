@@ -1,7 +1,7 @@
 //! Blocks that are entered and left where operators are executed (WebAssembly Core Specification 1.0, 4.4.5 and 4.4.6): their labels
 //! are pushed and popped without what an activity holds being put back.
 
-ghost use Rattle.std.specs.Prelude.{◌≡◌, ℕ, List, ◌+◌, ◌*◌, ◌^◌, ◌<◌, ◌≤◌, ◌∷◌, true, false, length, IfSome, None, Some};
+ghost use Rattle.std.specs.Prelude.{◌≡◌, ℕ, List, ◌+◌, ◌*◌, ◌^◌, ◌<◌, ◌≤◌, ◌∷◌, true, false, length, vec_len, IfSome, None, Some};
 ghost use Rattle.qw_linear.specs.Memory.{page};
 ghost use Rattle.qw_module.specs.Syntax.{sequence_at};
 ghost use Rattle.qw_module.specs.Validity.{sequences_of};
@@ -201,13 +201,12 @@ fn move_on(
 
 /// The number of an `else`, where there is one and it isn't empty.
 fn filled(body: &Body, number: Option<usize>) -> Option<usize>
+    requires { IfSome number (λ other. other < vec_len body.now.sequences) }
     ensures there { IfSome result (λ inner. number ≡ Some inner) }
     ensures empty { result ≡ None → has_no_else (sequences_of body.now) number ≡ true }
 {
     let number = number?;
-    let Some(sequence) = body.sequences.get(number) else {
-        return None;
-    };
+    let sequence = body.sequences[number].as_slice();
     if sequence.is_empty() {
         return None;
     }

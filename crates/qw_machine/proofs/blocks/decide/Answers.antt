@@ -1,7 +1,7 @@
 use Rattle.std.proofs.Common.{ℕ, ◌∷◌, ◌∙◌, refl, sym, ap, drop, arith}
 use Rattle.qw_machine.specs.declared.stepped.Stepped.TheVariants.{Ran}
 use Rattle.qw_machine.specs.Inner.Stacked.{Stacked}
-use Rattle.qw_machine.proofs.Crossing.{held, in-array, slice-read, placed-condition, placed-on, placed-operand, placed-if, placed-else, placed-passed, point-if, point-else}
+use Rattle.qw_machine.proofs.Crossing.{held, in-array, slice-read, placed-condition, placed-on, placed-operand, placed-if, placed-else, placed-passed, point-if, point-else, else-there}
 use Rattle.qw_machine.proofs.blocks.decide.Goals as goal
 use Rattle.qw_machine.proofs.blocks.decide.Goals.{then-top-ne0, else-top-ne0}
 
@@ -14,6 +14,13 @@ pub top-requires-in-BrIf : goal.top-requires-in-BrIf
 top-requires-in-BrIf c =
     let at = c.requires.point in
     placed-condition at.7 c.args.sequence.now at.6 0 _ c.in-BrIf.field-0 c.in-BrIf.is
+
+pub filled-chosen-requires : goal.filled-chosen-requires
+filled-chosen-requires c =
+    let at = c.requires.point in
+    let left : Stacked ℕ = record { values = drop 1 c.args.operands.now.values; room = c.args.operands.now.room } in
+    else-there at.7 c.args.sequence.now at.6 _ c.in-If.result c.in-If.then_body c.args.body.now at.5 left
+    (c.top.ensures ∙ ap (λ (n : ℕ). n ∷ left.values) c.if-top-ne0.false) c.in-If.else_body c.in-If.is
 
 pub index-requires : goal.index-requires
 index-requires c =
