@@ -1,5 +1,6 @@
 mod Abbreviations
 pub mod Binary
+mod BoundsStay
 mod Choices
 mod ChoicesEmitted
 mod Comparable
@@ -10,13 +11,17 @@ mod Copies
 pub mod Decisions
 mod Emitted
 mod Extents
+mod GuardedTests
+mod Guards
 pub mod Junctions
 pub mod JunctionsDecide
 mod JunctionsEmitted
+mod Kept
+mod Leaves
 pub mod Literals
 mod Lookups
-mod NullTests
 pub mod Nulls
+mod NullTests
 mod PlainTests
 mod Related
 mod Searches

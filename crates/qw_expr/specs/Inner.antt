@@ -10,3 +10,4 @@ pub mod Made
 pub mod Tests
 pub mod Plain
 pub mod Search
+pub mod Guards

@@ -12,9 +12,11 @@
 #![tactic(auto)]
 
 pub mod arithmetic;
+mod bounds;
 mod choice;
 pub mod compare;
 pub mod emitter;
+mod guard;
 mod junction;
 pub mod known;
 pub mod literal;

@@ -16,9 +16,11 @@ ghost use Rattle.qw_expr.specs.Cells.{IsBelow};
 ghost use Rattle.qw_expr.specs.Computes.{Known, AreBelow};
 ghost use Rattle.qw_expr.specs.Emits.{Emits, EmitsTruth, extent, free_of};
 ghost use Rattle.qw_expr.specs.Tests.{EmitsTest, IsTestBelow, tested};
+ghost use Rattle.qw_expr.specs.Inner.Guards.{IsGuarded};
 ghost use Rattle.qw_expr.specs.Inner.Tests.{is_one_relation};
 
 use crate::emitter::Emitter;
+use crate::guard::{emit_guarded, sure_of};
 use crate::known::Binding;
 use crate::operand::Operand;
 use crate::plain::{one_of, plain, within};
@@ -189,6 +191,7 @@ fn test_between(
     requires served { IsServed (free_of emitter.old) (known_of known.now) }
     ensures emits { IfOk result (λ out. EmitsTest (known_of known.now) (between (expression_of operand.now) (expression_of least.now) (expression_of greatest.now)) emitter.old emitter.new out) }
     ensures short { OnOk result (extent emitter.new ≤ extent emitter.old + 400 * (1 + nodes operand.now + nodes least.now + nodes greatest.now)) }
+    ensures spare { IfOk result (λ out. extent emitter.new + length (expression_steps (tested out)) + 30 ≤ extent emitter.old + 400 * (1 + nodes operand.now + nodes least.now + nodes greatest.now)) }
     ensures few { IfOk result (λ out. length (expression_steps (tested out)) + 1 ≤ 4 * (1 + nodes operand.now + nodes least.now + nodes greatest.now)) }
 {
     let x = emit_expr(emitter, operand, known)?;
@@ -215,6 +218,7 @@ fn test_among(
     requires served { IsServed (free_of emitter.old) (known_of known.now) }
     ensures emits { IfOk result (λ out. EmitsTest (known_of known.now) (among (expression_of operand.now) (expressions_of values.now)) emitter.old emitter.new out) }
     ensures short { OnOk result (extent emitter.new ≤ extent emitter.old + 400 * (1 + nodes operand.now + nodes_of_all values.now)) }
+    ensures spare { IfOk result (λ out. extent emitter.new + length (expression_steps (tested out)) + 30 ≤ extent emitter.old + 400 * (1 + nodes operand.now + nodes_of_all values.now)) }
     ensures few { IfOk result (λ out. length (expression_steps (tested out)) + 1 ≤ 4 * (1 + nodes operand.now + nodes_of_all values.now)) }
 {
     let x = emit_expr(emitter, operand, known)?;
@@ -231,12 +235,8 @@ fn test_among(
     }
 }
 
-/// Adds the block of a condition, and tells the test of whether it is true: every column and every literal of it but NULL is known.
-///
-/// # Errors
-///
-/// [`NoMemory`] where memory does not suffice, or there are too many locals.
-pub fn emit_test(
+/// Adds the block of a condition, and tells the test of whether it is true, with each null word tested where its value is used.
+pub(crate) fn test_of(
     alloc: Global,
     emitter: &mut Emitter,
     cond: &Cond,
@@ -247,6 +247,7 @@ pub fn emit_test(
     requires served { IsServed (free_of emitter.old) (known_of known.now) }
     ensures emits { IfOk result (λ out. EmitsTest (known_of known.now) (condition_of cond.now) emitter.old emitter.new out) }
     ensures short { OnOk result (extent emitter.new ≤ extent emitter.old + 400 * nodes_of cond.now) }
+    ensures spare { IfOk result (λ out. IsGuarded cond.now → extent emitter.new + length (expression_steps (tested out)) + 30 ≤ extent emitter.old + 400 * nodes_of cond.now) }
     ensures few { IfOk result (λ out. length (expression_steps (tested out)) + 1 ≤ 4 * nodes_of cond.now) }
 {
     match cond {
@@ -267,13 +268,48 @@ pub fn emit_test(
             }
         },
         Cond::And(left, right) => match plain(alloc, right, known)? {
-            Some(second) => emit_test(alloc, emitter, left, known)?.both(alloc, second),
+            Some(second) => test_of(alloc, emitter, left, known)?.both(alloc, second),
             None => emitter.test_truth(cond, known),
         },
         Cond::Or(left, right) => match plain(alloc, right, known)? {
-            Some(second) => emit_test(alloc, emitter, left, known)?.either(alloc, second),
+            Some(second) => test_of(alloc, emitter, left, known)?.either(alloc, second),
             None => emitter.test_truth(cond, known),
         },
         Cond::IsNull(_) | Cond::Is(_, _) => emitter.test_truth(cond, known),
+    }
+}
+
+/// So many null words are tested before a condition: more are tested each where its value is used.
+const MOST_NULLS: usize = 8;
+
+/// Adds the block of a condition, and tells the test of whether it is true: every column and every literal of it but NULL is known. Where it
+/// is unknown as soon as a column of its is null, all null words are tested at once.
+///
+/// # Errors
+///
+/// [`NoMemory`] where memory does not suffice, or there are too many locals.
+pub fn emit_test(
+    alloc: Global,
+    emitter: &mut Emitter,
+    cond: &Cond,
+    known: &[Binding],
+) -> Result<Test, NoMemory>
+    requires typed { AreTyped (condition_of cond.now) }
+    requires known { TakeKnown (known_of known.now) (condition_of cond.now) }
+    requires served { IsServed (free_of emitter.old) (known_of known.now) }
+    ensures emits { IfOk result (λ out. EmitsTest (known_of known.now) (condition_of cond.now) emitter.old emitter.new out) }
+    ensures short { OnOk result (extent emitter.new ≤ extent emitter.old + 400 * nodes_of cond.now) }
+    ensures few { IfOk result (λ out. length (expression_steps (tested out)) + 1 ≤ 4 * nodes_of cond.now) }
+{
+    let Some(sure) = sure_of(alloc, cond, known)? else {
+        return test_of(alloc, emitter, cond, known);
+    };
+    let Some((first, rest)) = sure.nulls.split_first() else {
+        return test_of(alloc, emitter, cond, known);
+    };
+    if rest.len() < MOST_NULLS {
+        emit_guarded(alloc, emitter, cond, *first, rest, &sure.leaves)
+    } else {
+        test_of(alloc, emitter, cond, known)
     }
 }
