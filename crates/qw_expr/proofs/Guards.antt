@@ -1,5 +1,5 @@
 -- Expressions that raise nothing, and conditions that are unknown where a null word says that a column of theirs is null.
-use Rattle.std.proofs.Common.{◌≡◌, ℕ, ◌≤◌, neg_ℤ, unsigned_abs, List, ◌++◌, Result, Ok, refl, sym, ap, subst, arith}
+use Rattle.std.proofs.Common.{◌≡◌, ℕ, ◌≤◌, neg_ℤ, unsigned_abs, List, ◌++◌, Result, Ok, refl, sym, ap, ◌∙◌, subst, arith}
 use Rattle.std.proofs.lemmas.Int.{ints}
 use Rattle.qw_types.specs.declared.code.Code.{Code}
 use Rattle.qw_types.specs.declared.truth.Truth.{Truth}
@@ -18,7 +18,7 @@ use Rattle.qw_expr.specs.declared.known.Binding.{Binding}
 use Rattle.qw_expr.specs.Bindings.{known_of}
 use Rattle.qw_expr.specs.Cells.{IsWithin}
 use Rattle.qw_expr.specs.Computes.{Known}
-use Rattle.qw_expr.specs.Inner.Guards.{Calm, Gathers, Stays, Strict, Tells}
+use Rattle.qw_expr.specs.Inner.Guards.{Nulled, Calm, Gathers, Stays, Strict, Tells}
 use Rattle.qw_expr.proofs.Binary.{NumberOrNull, number_of_typed}
 use Rattle.qw_expr.proofs.Trees.{scale_low}
 use Rattle.qw_expr.proofs.Leaves.{are_two, left_in, right_in, takes_more, tells_two}
@@ -98,11 +98,45 @@ negative_calm known a leaves nulls scale most calm = record {
       (negated x.0, rw (x.1) refl, negated_within most x.0 x.2, tells_as leaves nulls row s (x.0 ≡ val.Null) (negated x.0 ≡ val.Null) (λ is. rw is refl) x.3);
 }
 
+-- ---- what is null where a null word is 1
+pub calm_nulled : (known : List Known) (e : Expression) (leaves : List Binding) (nulls : List ℕ) (scale most : ℕ) → Calm known e leaves nulls scale most → Nulled known e leaves nulls
+calm_nulled known e leaves nulls scale most calm = record {
+  are = calm.are;
+  takes = calm.takes;
+  tells = λ row s held columns.
+      let x = calm.tells row s held columns in
+      tells_as leaves nulls row s (x.0 ≡ val.Null) (value_of e (at_row row) ≡ Ok val.Null) (λ null. x.1 ∙ ap (λ (v : Val). let r : Result Val Code = Ok v in r) null) x.3;
+}
+
+combined_right : (operator : Operator) (x : Val) (sa : ℕ) (y : Val) (sb : ℕ) → y ≡ val.Null → combined operator x sa y sb ≡ Ok val.Null
+combined_right operator val.Null sa y sb null = refl
+combined_right operator (val.Num a) sa y sb null = rw null refl
+combined_right operator (val.Date a) sa y sb null = refl
+combined_right operator (val.Text a) sa y sb null = refl
+
+combined_is : (operator : Operator) (a b : Expression) (row : List Val) (x y : Val) → value_of a (at_row row) ≡ Ok x → value_of b (at_row row) ≡ Ok y → combined operator x (scale_of a) y (scale_of b) ≡ Ok val.Null → value_of (arithmetic operator a b) (at_row row) ≡ Ok val.Null
+combined_is operator a b row x y is_x is_y null = rw (is_x, is_y) null
+
+combined_left : (operator : Operator) (x : Val) (sa : ℕ) (y : Val) (sb : ℕ) → x ≡ val.Null → combined operator x sa y sb ≡ Ok val.Null
+combined_left operator x sa y sb null = rw null refl
+
+pub operated_nulled : (known : List Known) (operator : Operator) (a b : Expression) (la lb : List Binding) (na nb : List ℕ) (sa ma sb mb : ℕ) → Calm known a la na sa ma → Calm known b lb nb sb mb → Nulled known (arithmetic operator a b) (la ++ lb) (na ++ nb)
+operated_nulled known operator a b la lb na nb sa ma sb mb one other = record {
+  are = are_two known la lb na nb one.are other.are;
+  takes = (takes_more (known_of la) (known_of (la ++ lb)) a (left_in la lb) one.takes, takes_more (known_of lb) (known_of (la ++ lb)) b (right_in la lb) other.takes);
+  tells = λ row s held columns.
+      let x = one.tells row s held columns.0 in
+      let y = other.tells row s held columns.1 in
+      tells_two la lb na nb row s (x.0 ≡ val.Null) (y.0 ≡ val.Null) (value_of (arithmetic operator a b) (at_row row) ≡ Ok val.Null)
+      (λ null. combined_is operator a b row x.0 y.0 x.1 y.1 (combined_left operator x.0 (scale_of a) y.0 (scale_of b) null))
+      (λ null. combined_is operator a b row x.0 y.0 x.1 y.1 (combined_right operator x.0 (scale_of a) y.0 (scale_of b) null)) x.3 y.3;
+}
+
 -- ---- conditions
 pub compared_left : (o : Comparison) (x : Val) (sa : ℕ) (y : Val) (sb : ℕ) → x ≡ val.Null → compared o x sa y sb ≡ Unknown
 compared_left o x sa y sb is = rw is refl
 
-compared_right : (o : Comparison) (x : Val) (sa : ℕ) (y : Val) (sb : ℕ) → y ≡ val.Null → compared o x sa y sb ≡ Unknown
+pub compared_right : (o : Comparison) (x : Val) (sa : ℕ) (y : Val) (sb : ℕ) → y ≡ val.Null → compared o x sa y sb ≡ Unknown
 compared_right o val.Null sa y sb is = refl
 compared_right o (val.Num a) sa y sb is = rw is refl
 compared_right o (val.Date a) sa y sb is = rw is refl

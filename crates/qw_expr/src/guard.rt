@@ -1,8 +1,9 @@
 //! One test of null words before a condition that is unknown where a column of its is null, and raises nothing then (ISO/IEC 9075:1992, 8.2 to 8.4).
 //!
 //! A comparison is such a condition where no operator of its operands may raise, by the magnitudes of their columns and literals: what is
-//! skipped then raises nothing. BETWEEN and IN are where their first operand is, and the others are columns or literals; NOT of such a
-//! condition is too. AND and OR aren't: false and unknown is false.
+//! skipped then raises nothing. Beside a column or a literal that can't be null an operand's last operator may raise, since that is applied
+//! where neither of its own operands is null. BETWEEN and IN are such conditions where their first operand is such an operand, and the
+//! others are columns or literals; NOT of such a condition is too. AND and OR aren't: false and unknown is false.
 
 ghost use Rattle.std.specs.Prelude.{◌≡◌, ℕ, ◌+◌, ◌*◌, ◌≤◌, ◌++◌, List, [], ◌∷◌, IsTrue, IfOk, IfSome, OnOk, length};
 ghost use Rattle.qw_scalar.specs.declared.comparison.Comparison.{Comparison};
@@ -19,7 +20,7 @@ ghost use Rattle.qw_expr.specs.Bindings.{IsAmong, IsServed, TakeKnown, TakesKnow
 ghost use Rattle.qw_expr.specs.Computes.{Known};
 ghost use Rattle.qw_expr.specs.Emits.{extent, free_of};
 ghost use Rattle.qw_expr.specs.Tests.{EmitsTest, tested};
-ghost use Rattle.qw_expr.specs.Inner.Guards.{AreKept, Calm, Gathers, IsGuarded, Keeps, Strict, any_of, null_words, sure_operand};
+ghost use Rattle.qw_expr.specs.Inner.Guards.{AreKept, Calm, Gathers, IsGuarded, Keeps, Nulled, Strict, any_of, null_words, sure_operand};
 
 use crate::bounds::Bounds;
 use crate::emitter::Emitter;
@@ -68,6 +69,16 @@ fn leaf_of(expr: &Expr, known: &[Binding]) -> Option<Binding>
         | Expr::Match(_, _)
         | Expr::Coalesce(_)
         | Expr::NullIf(_, _) => None,
+    }
+}
+
+/// Whether an expression is a column, a number or a date that can't be null.
+fn is_sure(expr: &Expr, known: &[Binding]) -> bool
+    requires known { TakesKnown (known_of known.now) (expression_of expr.now) }
+{
+    match leaf_of(expr, known) {
+        Some(leaf) => leaf.operand.cell.null.is_none(),
+        None => false,
     }
 }
 
@@ -167,6 +178,48 @@ impl Sure {
         Ok(true)
     }
 
+    /// Adds the columns and the literals of an expression, and tells whether it is null where one is null, and raises nothing then. Its last
+    /// operator may raise, since it is applied where neither operand is null.
+    fn gather_nulled(&mut self, expr: &Expr, known: &[Binding]) -> Result<bool, NoMemory>
+        requires typed { IsTyped (expression_of expr.now) }
+        requires known { TakesKnown (known_of known.now) (expression_of expr.now) }
+        requires served { (n : ℕ) × IsServed n (known_of known.now) }
+        ensures gathers { IfOk result (λ nulled. IsTrue nulled → Gathers self.old self.new (Nulled (known_of known.now) (expression_of expr.now))) }
+    {
+        if let Expr::Arithmetic(_, left, right) = expr {
+            let Some(_) = self.gather(left, known)? else {
+                return Ok(false);
+            };
+            let Some(_) = self.gather(right, known)? else {
+                return Ok(false);
+            };
+            return Ok(true);
+        }
+        let Some(_) = self.gather(expr, known)? else {
+            return Ok(false);
+        };
+        Ok(true)
+    }
+
+    /// Adds the columns and the literals of an expression, and beside it a column or a literal with which it is compared, on either side.
+    fn gather_beside(
+        &mut self,
+        expr: &Expr,
+        leaf: &Expr,
+        known: &[Binding],
+    ) -> Result<bool, NoMemory>
+        requires typed { IsTyped (expression_of expr.now) }
+        requires known { TakesKnown (known_of known.now) (expression_of expr.now) × TakesKnown (known_of known.now) (expression_of leaf.now) }
+        requires served { (n : ℕ) × IsServed n (known_of known.now) }
+        ensures gathers { IfOk result (λ strict. IsTrue strict → ((operator : Comparison) → Gathers self.old self.new (Strict (known_of known.now) (comparison operator (expression_of expr.now) (expression_of leaf.now)))
+            × Gathers self.old self.new (Strict (known_of known.now) (comparison operator (expression_of leaf.now) (expression_of expr.now))))) }
+    {
+        if !self.gather_nulled(expr, known)? {
+            return Ok(false);
+        }
+        self.keep(leaf, known)
+    }
+
     /// Adds the columns and the literals of a comparison, and tells whether it is unknown where one is null.
     fn gather_comparison(
         &mut self,
@@ -179,6 +232,12 @@ impl Sure {
         requires served { (n : ℕ) × IsServed n (known_of known.now) }
         ensures gathers { IfOk result (λ strict. IsTrue strict → ((operator : Comparison) → Gathers self.old self.new (Strict (known_of known.now) (comparison operator (expression_of left.now) (expression_of right.now))))) }
     {
+        if is_sure(right, known) {
+            return self.gather_beside(left, right, known);
+        }
+        if is_sure(left, known) {
+            return self.gather_beside(right, left, known);
+        }
         let Some(_) = self.gather(left, known)? else {
             return Ok(false);
         };
@@ -201,9 +260,9 @@ impl Sure {
         requires served { (n : ℕ) × IsServed n (known_of known.now) }
         ensures gathers { IfOk result (λ strict. IsTrue strict → Gathers self.old self.new (Strict (known_of known.now) (between (expression_of operand.now) (expression_of least.now) (expression_of greatest.now)))) }
     {
-        let Some(_) = self.gather(operand, known)? else {
+        if !self.gather_nulled(operand, known)? {
             return Ok(false);
-        };
+        }
         if !self.keep(least, known)? {
             return Ok(false);
         }
@@ -238,9 +297,9 @@ impl Sure {
         requires served { (n : ℕ) × IsServed n (known_of known.now) }
         ensures gathers { IfOk result (λ strict. IsTrue strict → Gathers self.old self.new (Strict (known_of known.now) (among (expression_of operand.now) (expressions_of values.now)))) }
     {
-        let Some(_) = self.gather(operand, known)? else {
+        if !self.gather_nulled(operand, known)? {
             return Ok(false);
-        };
+        }
         self.keep_all(values, known)
     }
 

@@ -64,6 +64,12 @@ pub record Calm (known : List Known) (e : Expression) (leaves : List Binding) (n
   pub scale_is : scale ≡ scale_of e
   pub tells : (row : List Val) (s : LowState) → AreHeld known row s → HasColumns (HoldsIn row) e → (v : Val) × (value_of e (at_row row) ≡ Ok v) × IsWithin most v × Tells leaves nulls row s (v ≡ val.Null)
 
+-- an expression that is null where a null word is 1, and raises nothing then; elsewhere it may raise
+pub record Nulled (known : List Known) (e : Expression) (leaves : List Binding) (nulls : List ℕ) : Type 0 where
+  pub are : AreLeaves known leaves nulls
+  pub takes : TakesKnown (known_of leaves) e
+  pub tells : (row : List Val) (s : LowState) → AreHeld known row s → HasColumns (HoldsIn row) e → Tells leaves nulls row s (value_of e (at_row row) ≡ Ok val.Null)
+
 -- a condition that is unknown where a null word is 1, and raises nothing then
 pub record Strict (known : List Known) (c : Condition) (leaves : List Binding) (nulls : List ℕ) : Type 0 where
   pub are : AreLeaves known leaves nulls
