@@ -28,8 +28,9 @@ outside file_faults fault_name out_faults taken note_faults noted =
     record { file_faults = file_faults; fault_name = fault_name; out_faults = out_faults; taken = taken; note_faults = note_faults; noted = noted }
 
 -- The program ended with the number of a status that the words and the files explain, and that the queries mean where nothing cut the run
--- short; and with the report and the notes of a run with that status. It is that of a read or of a write that failed exactly where one was
--- counted, but that after a read nothing may be said of another fault; and where the notes' sink takes no memory, want of memory is noted whole.
+-- short; and with the report and the notes of a run with that status. It is that of a write that failed exactly where one was counted; that
+-- of a read that failed only where one was counted, and where one was it is that, or that of a write that failed or of want of memory. Where
+-- the notes' sink takes no memory, want of memory is noted whole.
 pub record HasEnded (files : Files) (words : List (List ℕ)) (notes_take_memory : Bool) (before after : Outside) (code : ExitCode) : Type 0 where
   pub status : Status
   pub number : exit_status code ≡ exit_code status
