@@ -1,2 +1,3 @@
 pub mod NestingLemmas
+pub mod QuotedLemmas
 pub mod StatementLemmas

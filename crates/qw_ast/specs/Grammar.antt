@@ -1,11 +1,12 @@
 -- What the forms of a schema are made of (ISO/IEC 9075:1992, 5.2 "token", 5.3 "literal", 5.4 "identifier"). They are in SchemaGrammar.
-use Rattle.std.specs.Prelude.{◌≡◌, ℕ, if◌then◌else◌, IsTrue, List, [], ◌∷◌, ◌++◌, ◌⊎◌, map, length, ◌-◌, ◌==◌, take, drop, codes, Contains}
+use Rattle.std.specs.Prelude.{◌≡◌, ℕ, if◌then◌else◌, IsTrue, List, [], ◌∷◌, ◌++◌, ◌⊎◌, map, ◌==◌, codes, Contains}
 use Rattle.std.specs.Char.{to_ascii_uppercase}
 use Rattle.std.specs.Str.Parse.{digits_value}
 use Rattle.qw_token.specs.declared.token.Kind.TheVariants.{Word, DelimitedIdentifier}
 use Rattle.qw_types.specs.Digits.{are_digits}
 use Rattle.qw_types.specs.Octets.{double_quote}
 use Rattle.qw_token.specs.Token.{Lexeme, begins_with}
+use Rattle.qw_ast.specs.Quoted.{unquoted}
 
 -- with each ASCII letter in upper case
 abbrev pub folded : List ℕ → List ℕ
@@ -28,19 +29,9 @@ reserved =
 abbrev pub IsReserved : List ℕ → Type 0
 IsReserved name = Contains reserved name
 
--- with each two octets of which the first is a quote as that quote
-abbrev pub undoubled : List ℕ → List ℕ
-undoubled [] = []
-undoubled (b ∷ []) = b ∷ []
-undoubled (b ∷ c ∷ bs) = if b == double_quote then b ∷ undoubled bs else b ∷ undoubled (c ∷ bs)
-
--- what stands between the quotes of a delimited identifier, two quotes there being one
-abbrev pub unquoted : List ℕ → List ℕ
-unquoted octets = undoubled (take (length octets - 2) (drop 1 octets))
-
 -- The name that an identifier is (5.2, 5.4): a delimited one is kept as it is written, a regular one in upper case.
 abbrev pub name_of : List ℕ → List ℕ
-name_of octets = if begins_with (λ b. b == double_quote) octets then unquoted octets else folded octets
+name_of octets = if begins_with (λ b. b == double_quote) octets then unquoted double_quote octets else folded octets
 
 -- what a form is made of: a key word, a regular identifier of this name, one that may be delimited, a symbol, an unsigned integer
 -- by its value, or by its digits

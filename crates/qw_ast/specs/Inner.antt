@@ -1,2 +1,3 @@
 -- What restates code for proofs. No public clause rests on it.
+pub mod Quoted
 pub mod Statements

@@ -3,6 +3,7 @@ pub use Rattle.qw_types.specs.Digits
 pub mod Grammar
 pub mod Inner
 pub mod Limits
+pub mod Quoted
 pub mod SchemaGrammar
 pub mod ScriptGrammar
 pub mod Syntax

@@ -1,23 +1,13 @@
 -- How large a query is, and which queries a script may have (ISO/IEC 9075:1992, 7.9, 7.7). The standard leaves the limits to the implementation.
-use Rattle.std.specs.Prelude.{◌≤◌, ◌+◌, ◌-◌, ◌==◌, ℕ, Bool, true, false, if◌then◌else◌, List, [], ◌∷◌, length, map, take, drop, Option, Some, None}
+use Rattle.std.specs.Prelude.{◌≤◌, ◌+◌, ℕ, Bool, true, false, List, [], ◌∷◌, length, map, Option, Some, None}
 use Rattle.std.specs.List.{AllByRecursion, flat_map}
-use Rattle.qw_types.specs.Octets.{single_quote}
 use Rattle.qw_token.specs.Token.{Lexeme}
+use Rattle.qw_ast.specs.Quoted.{string_value}
 use Rattle.qw_ast.specs.SchemaGrammar.{IsTooDeep}
 use Rattle.qw_ast.specs.ScriptGrammar.{IsSelectOf}
 use Rattle.qw_ast.specs.Syntax.{Expression, null, number, text, date, column, signed, arithmetic, extract, searched_case, simple_case, coalesce, null_if, count_rows, set_function, Condition, comparison, between, among, is_null, both, either, negation_of, is, bracketed, Clause, condition, expression, Expressions, last, further, Branching, otherwise, when, SelectItem, Selected, all_columns, items, Entry, Joined, Source, Select}
 
 -- ---- how large a query is
-
--- with each two octets of which the first is a quote as that quote
-abbrev pub undoubled : List ℕ → List ℕ
-undoubled [] = []
-undoubled (b ∷ []) = b ∷ []
-undoubled (b ∷ c ∷ bs) = if b == single_quote then b ∷ undoubled bs else b ∷ undoubled (c ∷ bs)
-
--- the value of a character string (5.3): what stands between its quotes, two quotes there being one
-abbrev pub string_value : List ℕ → List ℕ
-string_value octets = undoubled (take (length octets - 2) (drop 1 octets))
 
 -- Nodes: each literal, column reference, operator, predicate, function, set function and CASE. A date with its intervals is one literal;
 -- the word NULL as a result is none, and brackets are none. The keys of ORDER BY are no nodes, and are counted by themselves.

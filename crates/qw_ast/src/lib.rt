@@ -1,6 +1,7 @@
 //! What texts may say: their trees, and the definitions of their grammar.
 //!
 //! - [`limits`]: how much may be written.
+//! - [`quoted`]: what stands between quotes.
 //! - [`tree`]: the names and numbers of a table definition.
 //! - [`script`]: the statements of a script, their expressions and conditions.
 //! - [`word`]: words in upper or lower case, reserved words.
@@ -10,6 +11,7 @@
 #![tactic(auto)]
 
 pub mod limits;
+pub mod quoted;
 pub mod script;
 pub mod statement;
 pub mod tree;

@@ -2,9 +2,10 @@
 
 ghost use Rattle.std.specs.Prelude.{◌≡◌, length, map, option_map};
 ghost use Rattle.qw_ast.specs.SyntaxTree.{branching_of, clause_of, condition_of, expression_of, expressions_of, item_of, joined_of, select_of, selected_of, source_of};
-ghost use Rattle.qw_ast.specs.Limits.{items_of, nodes, nodes_all, nodes_branches, nodes_clause, nodes_condition, octets, octets_all, octets_branches, octets_clause, octets_condition, over_filter, over_items, over_joins, over_sources, query_nodes, query_octets, starred_nodes, string_value, undoubled};
-ghost use Rattle.qw_parse.specs.Inner.Sizes.{Counts, behind_octet, counted};
+ghost use Rattle.qw_ast.specs.Limits.{items_of, nodes, nodes_all, nodes_branches, nodes_clause, nodes_condition, octets, octets_all, octets_branches, octets_clause, octets_condition, over_filter, over_items, over_joins, over_sources, query_nodes, query_octets, starred_nodes};
+ghost use Rattle.qw_parse.specs.Inner.Sizes.{Counts, counted};
 
+use qw_ast::quoted::unquoted_length;
 use qw_ast::script::{
     Branches, Cond, Expr, Exprs, Item, Joined, Phrase, SelectList, Source, Statement,
 };
@@ -14,39 +15,6 @@ use qw_ast::script::{
 pub(crate) struct Size {
     pub(crate) nodes: usize,
     pub(crate) octets: usize,
-}
-
-/// The octets behind the octet, without the second quote where it is one.
-fn behind_octet(octet: u8, behind: &[u8]) -> &[u8]
-    ensures { result.now ≡ behind_octet octet behind.now }
-{
-    match behind {
-        [_, after @ ..] if octet == b'\'' => after,
-        _ => behind,
-    }
-}
-
-/// The number of octets, two being one where the first is a quote.
-fn undoubled_length(octets: &[u8]) -> usize
-    ensures { result ≡ length (undoubled octets.now) }
-{
-    let mut length = 0;
-    let mut rest = octets;
-    while let [first, behind @ ..] = rest {
-        length += 1;
-        rest = behind_octet(*first, behind);
-    }
-    length
-}
-
-/// The number of octets of the character string's value.
-fn value_length(string: &[u8]) -> usize
-    ensures { result ≡ length (string_value string.now) }
-{
-    match string {
-        [_, inner @ .., _] => undoubled_length(inner),
-        _ => 0,
-    }
 }
 
 // A chain of operators may be as long as a text, and so may a list: what counts them goes along them by a loop.
@@ -80,7 +48,7 @@ impl Size {
                 Expr::Null => return size,
                 Expr::Number(_) | Expr::Date(_, _) | Expr::Column(_, _) => return size.node(),
                 Expr::CountRows(_) => return size.node(),
-                Expr::Text(string) => return size.with(1, value_length(string)),
+                Expr::Text(string) => return size.with(1, unquoted_length(b'\'', string)),
                 Expr::Signed(_, operand)
                 | Expr::Extract(_, operand)
                 | Expr::SetFunction(_, _, operand) => {

@@ -1,9 +1,8 @@
--- Names between quotes, names that come again and columns: what loops keep.
-use Rattle.std.proofs.Common.{◌≡◌, ℕ, add-one, ◌+◌, ◌-◌, ◌<◌, ◌≤◌, Bool, true, false, ◌||◌, List, [], ◌∷◌, ◌++◌, length, map, take, drop, get_or, Option, Some, None, Bor, Ok, Err, Result, refl, sym, ap, ◌∙◌, arith, inl, inr, append_assoc}
-use Rattle.std.specs.Prelude.{eqb, option_map}
+-- Names that come again and columns: what loops keep.
+use Rattle.std.proofs.Common.{◌≡◌, ℕ, add-one, ◌+◌, ◌-◌, ◌<◌, Bool, true, false, ◌||◌, List, [], ◌∷◌, ◌++◌, length, map, take, drop, get_or, Option, Some, None, Bor, Ok, Err, Result, refl, sym, ap, ◌∙◌, arith, inl, inr, append_assoc}
+use Rattle.std.specs.Prelude.{option_map}
 use Rattle.std.specs.List.{list_any}
 use Rattle.std.specs.Str.{bytes_eq}
-use Rattle.std.proofs.lemmas.Bool.{cases_Bool}
 use Rattle.std.proofs.lemmas.Slice.{between_to_end}
 use Rattle.qw_token.specs.Token.{lexemes}
 use Rattle.qw_token.specs.declared.token.Token.{Token}
@@ -11,31 +10,11 @@ use Rattle.qw_types.specs.declared.schema.Column.{Column}
 use Rattle.qw_types.specs.declared.schema.Table.{Table}
 use Rattle.qw_types.specs.declared.value.Ty.{Ty}
 use Rattle.qw_ast.specs.declared.tree.ColumnDefinition.{ColumnDefinition}
-use Rattle.qw_ast.specs.Grammar.{undoubled}
 use Rattle.qw_ast.proofs.StatementLemmas.{drop_next, lexed}
-use Rattle.qw_schema.specs.Inner.Parser.{behind_octet}
 use Rattle.qw_schema.specs.Inner.Tables.{read_of}
 use Rattle.qw_schema.specs.declared.parse.SchemaFault.{SchemaFault}
 use Rattle.qw_schema.specs.Inner.Judges.{is_twice, judged, judged_from, name_in, columns_of}
 use Rattle.qw_schema.proofs.TerminalLemmas.{cases_option}
-
--- ---- names between quotes
-
-pub undoubled_more : (b : ℕ) (bs : List ℕ) → undoubled (b ∷ bs) ≡ b ∷ undoubled (behind_octet b bs)
-undoubled_more b [] = refl
-undoubled_more b (c ∷ cs) =
-    elim (cases_Bool (eqb b 34)) [
-      | inl e ↦ rw e refl
-      | inr e ↦ rw e refl
-    ]
-
-pub behind_octet_shorter : (b : ℕ) (bs : List ℕ) → length (behind_octet b bs) ≤ length bs
-behind_octet_shorter b [] = omega arith
-behind_octet_shorter b (c ∷ cs) =
-    elim (cases_Bool (eqb b 34)) [
-      | inl e ↦ rw e (omega arith)
-      | inr e ↦ rw e (omega arith)
-    ]
 
 -- ---- names that come again
 

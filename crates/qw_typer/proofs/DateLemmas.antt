@@ -11,7 +11,8 @@ use Rattle.qw_ast.specs.Syntax.{Days}
 use Rattle.qw_scalar.specs.Expression as meaning
 use Rattle.qw_scalar.specs.Typing.{IsTyped}
 use Rattle.qw_typer.specs.Days.{Day, earlier, later, moved}
-use Rattle.qw_typer.specs.Literal.{after_intervals, date_at, date_of, day_shown, interval_days, is_date_form, is_day, shown, string_value}
+use Rattle.qw_ast.specs.Quoted.{string_value}
+use Rattle.qw_typer.specs.Literal.{after_intervals, date_at, date_of, day_shown, interval_days, is_date_form, is_day, shown}
 use Rattle.qw_typer.proofs.DayLemmas.{EarlierIs, IsValid, LaterIs, earlier_is, later_is}
 
 pub at_most : (a b : ℕ) → nat_le a b ≡ true → a ≤ b

@@ -2,7 +2,6 @@
 use Rattle.std.proofs.Common.{◌≡◌, Bool, true, ℕ, ◌+◌, ◌-◌, ◌≤◌, ◌<◌, List, [], ◌∷◌, ◌++◌, suc, map, length, take, drop, sum_by, refl, sym, ap, ◌∙◌, arith}
 use Rattle.std.specs.Prelude.{IfOk, Result}
 use Rattle.std.proofs.lemmas.List.Sums.{sum_by-cons, sum_by_push}
-use Rattle.qw_types.specs.Octets.{single_quote}
 use Rattle.qw_token.specs.Token.{Lexeme}
 use Rattle.qw_types.specs.declared.schema.Column.{Column}
 use Rattle.qw_types.specs.declared.schema.Table.{Table}
@@ -31,7 +30,6 @@ use Rattle.qw_typer.specs.declared.refusal.Refusal.{Refusal}
 use Rattle.qw_typer.specs.declared.tree.Results.{Results}
 use Rattle.qw_typer.specs.declared.tree.Typed.{Typed}
 use Rattle.qw_typer.specs.declared.tree.Values.{Values}
-use Rattle.qw_typer.specs.Literal.{string_value, undoubled}
 use Rattle.qw_typer.specs.Sizes.{AreSmall, HasRoom, IsSmallBody, IsSmallWhole, tests_on, text_octets, text_octets_of}
 use Rattle.qw_typer.specs.Meant.{Entry}
 use Rattle.qw_typer.specs.Typed.{Means}
@@ -41,16 +39,6 @@ use Rattle.qw_typer.specs.Functions.{functions_in}
 use Rattle.qw_typer.specs.Inner.Grouping.{FitsBody, listed_nodes}
 use Rattle.qw_typer.proofs.ScriptSizes.{few_of_query}
 use Rattle.qw_typer.proofs.WeightLemmas.{argument_octets_are, few_arguments, inner_is, inner_octets_are, nodes_in_filter, nodes_in_items, nodes_in_sources, octets_in_filter, octets_in_sources, octets_of_items}
-
--- ---- the value of a character string is the script's
-
-same_undoubled : (bs : List ℕ) → undoubled single_quote bs ≡ script.undoubled bs
-same_undoubled [] = refl
-same_undoubled (b ∷ []) = refl
-same_undoubled (b ∷ c ∷ bs) = rw (same_undoubled bs, same_undoubled (c ∷ bs)) refl
-
-pub same_value : (octets' : List ℕ) → string_value octets' ≡ script.string_value octets'
-same_value octets' = same_undoubled (take (length octets' - 2) (drop 1 octets'))
 
 -- ---- what fits so many fits as many
 pub fits_same : (r : Result Typed Refusal) (n k n' k' : ℕ) → IfOk r (λ made. Fits made.tree n k) → n ≡ n' → k ≡ k' → IfOk r (λ made. Fits made.tree n' k')

@@ -32,7 +32,8 @@ use Rattle.qw_typer.specs.declared.fault.FaultKind.TheVariants.{Clash, UnknownTa
 use Rattle.qw_ast.specs.Grammar.{name_of}
 use Rattle.qw_ast.specs.Syntax.{Days, Expression, null, number, text, date, column, signed, arithmetic, extract, searched_case, simple_case, coalesce, null_if, count_rows, set_function, Condition, comparison, between, among, is_null, both, either, negation_of, is, bracketed, condition, expression, Expressions, last, further, Branching, otherwise, when}
 use Rattle.qw_typer.specs.Days.{Day}
-use Rattle.qw_typer.specs.Literal.{after_intervals, date_at, date_of, day_shown, digits_of, is_short, number_of, scale_of, string_value}
+use Rattle.qw_ast.specs.Quoted.{string_value}
+use Rattle.qw_typer.specs.Literal.{after_intervals, date_at, date_of, day_shown, digits_of, is_short, number_of, scale_of}
 use Rattle.qw_typer.proofs.DateLemmas.{at_most, date_typed}
 use Rattle.qw_typer.specs.Faults.{Fault, all_faults, among_faults, branch_faults, case_faults, choices_faults, comparison_faults, condition_faults, counted_faults, fault_where, faults, first_of_all, first_of_branches, first_token, group_faults, is_allowed, is_known, matches_faults, or_own, qualifier_of, reference_faults, results_agree, results_kind}
 use Rattle.qw_scalar.proofs.ColumnLemmas.{columns_more}

@@ -7,20 +7,11 @@ use Rattle.std.specs.Str.Parse.{digits_value}
 use Rattle.qw_types.specs.Calendar.{days_of, packed}
 use Rattle.qw_types.specs.DateText.{year_of, month_of, day_of}
 use Rattle.qw_types.specs.Digits.{are_digits}
-use Rattle.qw_types.specs.Octets.{minus, period, single_quote}
+use Rattle.qw_types.specs.Octets.{minus, period}
+use Rattle.qw_ast.specs.Quoted.{string_value}
 use Rattle.qw_ast.specs.Syntax.{Days}
 use Rattle.qw_scalar.specs.Expression.{Expression, number, date}
 use Rattle.qw_typer.specs.Days.{Day, moved}
-
--- with each two octets of which the first is a quote as that quote
-abbrev pub undoubled : ℕ → List ℕ → List ℕ
-undoubled quote [] = []
-undoubled quote (b ∷ []) = b ∷ []
-undoubled quote (b ∷ c ∷ bs) = if b == quote then b ∷ undoubled quote bs else b ∷ undoubled quote (c ∷ bs)
-
--- the value of a character string: what stands between its quotes, two quotes there being one
-abbrev pub string_value : List ℕ → List ℕ
-string_value octets = undoubled single_quote (take (length octets - 2) (drop 1 octets))
 
 -- ---- numbers
 

@@ -13,7 +13,8 @@ use Rattle.qw_ast.specs.declared.script.Sign.{Sign}
 use Rattle.qw_ast.specs.declared.script.Sign.TheVariants.{Plus, Minus}
 use Rattle.qw_ast.specs.Grammar.{name_of}
 use Rattle.qw_ast.specs.Syntax.{Expression, null, number, text, date, column, signed, arithmetic, extract, searched_case, simple_case, coalesce, null_if, count_rows, set_function, Condition, comparison, between, among, is_null, both, either, negation_of, is, bracketed, condition, expression, Expressions, last, further, Branching, otherwise, when}
-use Rattle.qw_typer.specs.Literal.{date_of, number_of, string_value}
+use Rattle.qw_ast.specs.Quoted.{string_value}
+use Rattle.qw_typer.specs.Literal.{date_of, number_of}
 
 -- an entry of FROM: its alias, or without one its table's name; its number among the entries of FROM and its table's place in the
 -- schema, both counted from 0; and the table's columns in order (6.3, 7.4)

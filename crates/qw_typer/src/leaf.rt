@@ -5,7 +5,7 @@ ghost use Rattle.std.specs.Prelude.{◌≡◌, IfOk, List, length, map, option_m
 ghost use Rattle.qw_ast.specs.Grammar.{name_of};
 ghost use Rattle.qw_ast.specs.Syntax.{column, date, number, text};
 ghost use Rattle.qw_ast.specs.SyntaxTree.{days_of, octets_of};
-ghost use Rattle.qw_typer.specs.Literal.{string_value};
+ghost use Rattle.qw_ast.specs.Quoted.{string_value};
 ghost use Rattle.qw_typer.specs.Inner.Sizes.{Fits};
 ghost use Rattle.qw_scalar.specs.Expression as meaning;
 ghost use Rattle.qw_typer.specs.Faults.{counted_faults};

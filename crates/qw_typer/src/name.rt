@@ -2,9 +2,9 @@
 
 ghost use Rattle.std.specs.Prelude.{◌≡◌, IfOk};
 ghost use Rattle.qw_ast.specs.Grammar.{folded, name_of};
-ghost use Rattle.qw_typer.specs.Inner.Literals.{behind_octet, between_quotes};
-ghost use Rattle.qw_typer.specs.Literal.{string_value, undoubled};
+ghost use Rattle.qw_ast.specs.Quoted.{string_value};
 
+use qw_ast::quoted::unquoted;
 use qw_types::{NoMemory, Text};
 use std::alloc::Global;
 
@@ -54,38 +54,5 @@ fn text_of(octets: Vec<u8>) -> Result<Text, NoMemory>
     match String::from_utf8(octets) {
         Ok(text) => Ok(Text::new(text)),
         Err(_) => Err(NoMemory),
-    }
-}
-
-/// What stands between the quotes, two quotes there being one.
-fn unquoted(alloc: Global, quote: u8, octets: &[u8]) -> Result<Vec<u8>, NoMemory>
-    ensures { IfOk result (λ name. name.items ≡ undoubled quote (between_quotes octets.now)) }
-{
-    match octets {
-        [_, inner @ .., _] => undoubled(alloc, quote, inner),
-        _ => Ok(Vec::new(alloc)),
-    }
-}
-
-/// The octets with each two of which the first is a quote as that quote.
-fn undoubled(alloc: Global, quote: u8, octets: &[u8]) -> Result<Vec<u8>, NoMemory>
-    ensures { IfOk result (λ name. name.items ≡ undoubled quote octets.now) }
-{
-    let mut name = Vec::new(alloc);
-    let mut rest = octets;
-    while let [first, behind @ ..] = rest {
-        name.push(*first)?;
-        rest = behind_octet(quote, *first, behind);
-    }
-    Ok(name)
-}
-
-/// The octets behind an octet, without the second quote where it is one.
-fn behind_octet(quote: u8, octet: u8, behind: &[u8]) -> &[u8]
-    ensures { result.now ≡ behind_octet quote octet behind.now }
-{
-    match behind {
-        [_, after @ ..] if octet == quote => after,
-        _ => behind,
     }
 }

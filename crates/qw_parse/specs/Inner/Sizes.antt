@@ -1,5 +1,5 @@
 -- Mirrors src/size.rt: counts that stay at the greatest number.
-use Rattle.std.specs.Prelude.{◌≡◌, ℕ, ◌+◌, ◌-◌, ◌^◌, ◌<◌, nat_eq, List, [], ◌∷◌, if◌then◌else◌, min}
+use Rattle.std.specs.Prelude.{◌≡◌, ℕ, ◌+◌, ◌-◌, ◌^◌, ◌<◌, min}
 use Rattle.qw_parse.specs.declared.size.Size.{Size}
 
 -- a number, as far as counts go
@@ -10,11 +10,6 @@ counted n = min n (2 ^ 64 - 1)
 pub record Counts (old new : Size) (nodes octets : ℕ) : Type 0 where
   pub nodes_are : new.nodes ≡ counted (old.nodes + nodes)
   pub octets_are : new.octets ≡ counted (old.octets + octets)
-
--- the octets behind the octet of a character string, without the second quote where it is one
-abbrev pub behind_octet : ℕ → List ℕ → List ℕ
-behind_octet b [] = []
-behind_octet b (c ∷ cs) = if nat_eq b 39 then cs else c ∷ cs
 
 -- Both sizes, each with what is still to be counted, are one.
 pub record GoesOn (old : Size) (nodes octets : ℕ) (now : Size) (nodes_left octets_left : ℕ) : Type 0 where

@@ -88,11 +88,6 @@ abbrev pub fixed_at : List Terminal → List Lexeme → Option (List Lexeme)
 fixed_at [] ts = Some ts
 fixed_at (terminal ∷ terminals) ts = terminal_at terminal ts >>= (λ rest. fixed_at terminals rest)
 
--- the octets behind the octet of a delimited identifier, without the second quote where it is one
-abbrev pub behind_octet : ℕ → List ℕ → List ℕ
-behind_octet b [] = []
-behind_octet b (c ∷ cs) = if nat_eq b 34 then cs else c ∷ cs
-
 -- what is read behind the terminals
 abbrev pub behind_at : {A : Type 0} → List Terminal → (List Lexeme → Option (A × List Lexeme)) → List Lexeme → Option (A × List Lexeme)
 behind_at terminals read ts = fixed_at terminals ts >>= (λ rest. read rest)

@@ -1,4 +1,4 @@
--- Mirrors `name::behind_octet`, `name::unquoted`, `number::value_of`, and how `date` sees a day.
+-- Mirrors `number::value_of`, and how `date` sees a day.
 use Rattle.std.specs.Prelude.{◌≡◌, ◌/◌, ◌%◌, false, IsTrue, MatchOption, ℕ, pos, ◌-◌, ◌^◌, ◌==◌, nat_lt, ◌&&◌, List, [], ◌∷◌, length, take, drop, Option, Some, None, ℤ, neg_ℤ, unsigned_abs, if◌then◌else◌}
 use Rattle.std.specs.Str.Parse.{digits_value}
 use Rattle.jiff.specs.Types.{Date}
@@ -7,15 +7,6 @@ use Rattle.qw_ast.specs.declared.script.Sign.{Sign}
 use Rattle.qw_ast.specs.declared.script.Sign.TheVariants.{Plus, Minus}
 use Rattle.qw_typer.specs.Days.{Day}
 use Rattle.qw_typer.specs.Literal.{is_day}
-
--- the octets behind an octet, without the second quote where it is one
-abbrev pub behind_octet : ℕ → ℕ → List ℕ → List ℕ
-behind_octet quote b [] = []
-behind_octet quote b (c ∷ cs) = if b == quote then cs else c ∷ cs
-
--- without the first and the last octet
-abbrev pub between_quotes : List ℕ → List ℕ
-between_quotes octets = take (length octets - 2) (drop 1 octets)
 
 -- the number that digits are, if it has at most 18 digits
 abbrev pub value_of : List ℕ → Option ℤ

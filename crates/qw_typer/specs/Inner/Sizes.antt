@@ -8,7 +8,8 @@ use Rattle.qw_scalar.specs.declared.expression.Matches.{Matches}
 use Rattle.qw_scalar.specs.Nodes as typed
 use Rattle.qw_ast.specs.Syntax.{Expression, null, number, text, date, column, signed, arithmetic, extract, searched_case, simple_case, coalesce, null_if, count_rows, set_function, Condition, comparison, between, among, is_null, both, either, negation_of, is, bracketed, Clause, condition, expression, Expressions, last, further, Branching, otherwise, when, Selected, all_columns, items, Select}
 use Rattle.qw_meaning.specs.Query.{QueryParts}
-use Rattle.qw_ast.specs.Limits.{items_of, over_filter, over_items, over_sources, string_value}
+use Rattle.qw_ast.specs.Quoted.{string_value}
+use Rattle.qw_ast.specs.Limits.{items_of, over_filter, over_items, over_sources}
 use Rattle.qw_typer.specs.Meant.{Entry}
 use Rattle.qw_typer.specs.Sizes.{all_nodes, all_octets, text_octets, text_octets_of, text_octets_of_all, text_octets_of_branches, text_octets_of_matches}
 

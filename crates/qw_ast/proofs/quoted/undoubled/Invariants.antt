@@ -1,9 +1,9 @@
 use Rattle.std.proofs.Common.{◌≡◌, ◌++◌, length}
-use Rattle.qw_ast.specs.Grammar.{undoubled}
-use Rattle.qw_schema.proofs.parse.name.undoubled.Given as goal
+use Rattle.qw_ast.specs.Quoted.{undoubled}
+use Rattle.qw_ast.proofs.quoted.undoubled.Given as goal
 
 abbrev pub invariant-loop-rest : goal.invariant-loop-rest
-invariant-loop-rest l = l.name.items ++ undoubled l.rest ≡ undoubled l.octets
+invariant-loop-rest l = l.value.items ++ undoubled l.quote l.rest ≡ undoubled l.quote l.octets
 
 abbrev pub decreases-loop-rest : goal.decreases-loop-rest
 decreases-loop-rest l = length l.rest

@@ -1,9 +1,0 @@
-use Rattle.std.proofs.Common.{◌≡◌, ◌++◌, length}
-use Rattle.qw_typer.specs.Literal.{undoubled}
-use Rattle.qw_typer.proofs.name.undoubled.Given as goal
-
-abbrev pub invariant-loop-rest : goal.invariant-loop-rest
-invariant-loop-rest l = l.name.items ++ undoubled l.quote l.rest ≡ undoubled l.quote l.octets
-
-abbrev pub decreases-loop-rest : goal.decreases-loop-rest
-decreases-loop-rest l = length l.rest
