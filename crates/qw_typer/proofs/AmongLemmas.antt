@@ -13,30 +13,30 @@ use Rattle.qw_typer.specs.Meant.{with_not}
 use Rattle.qw_typer.specs.Inner.Typing.{GivesCondition, all_comparable, among_outcome, outcome}
 use Rattle.qw_typer.proofs.OutcomeLemmas.{refuses_memory}
 
-none : (token : List ℕ) (x : meaning.Expression) (vs : meaning.Expressions) → all_comparable x vs ≡ true → among_faults token x vs ≡ []
+none : (token : List ℕ) (x : meaning.Expression) (vs : meaning.Expressions) → all_comparable (kind_of x) vs ≡ true → among_faults token x vs ≡ []
 none token x (meaning.last v) h = rw h refl
 none token x (meaning.more v vs) h =
-    let p = and_parts (are_comparable (kind_of x) (kind_of v)) (all_comparable x vs) h in
+    let p = and_parts (are_comparable (kind_of x) (kind_of v)) (all_comparable (kind_of x) vs) h in
     rw (p.0, none token x vs p.1) refl
 
-first : {A : Type 0} (token : List ℕ) (x : meaning.Expression) (vs : meaning.Expressions) (a : A) → all_comparable x vs ≡ false → outcome (among_faults token x vs) a ≡ Err (record { kind = Clash; name = token })
+first : {A : Type 0} (token : List ℕ) (x : meaning.Expression) (vs : meaning.Expressions) (a : A) → all_comparable (kind_of x) vs ≡ false → outcome (among_faults token x vs) a ≡ Err (record { kind = Clash; name = token })
 first token x (meaning.last v) a h = rw h refl
 first token x (meaning.more v vs) a h = elim (cases_Bool (are_comparable (kind_of x) (kind_of v))) [
   | inl e ↦ rw e (first token x vs a (rest e))
   | inr e ↦ rw e refl
 ]
   where
-    rest : are_comparable (kind_of x) (kind_of v) ≡ true → all_comparable x vs ≡ false
+    rest : are_comparable (kind_of x) (kind_of v) ≡ true → all_comparable (kind_of x) vs ≡ false
     rest e = rw e at h
 
-pub among_ok : (token : List ℕ) (negated comparable : Bool) (x : meaning.Expression) (vs : meaning.Expressions) → comparable ≡ true → comparable ≡ all_comparable x vs → among_outcome token negated x vs ≡ Ok (with_not negated (meaning.among x vs))
-among_ok token negated comparable x vs t e = let n : among_faults token x vs ≡ [] = none token x vs (flip comparable (all_comparable x vs) e t) in rw n refl
+pub among_ok : (token : List ℕ) (negated comparable : Bool) (x : meaning.Expression) (vs : meaning.Expressions) → comparable ≡ true → comparable ≡ all_comparable (kind_of x) vs → among_outcome token negated x vs ≡ Ok (with_not negated (meaning.among x vs))
+among_ok token negated comparable x vs t e = let n : among_faults token x vs ≡ [] = none token x vs (flip comparable (all_comparable (kind_of x) vs) e t) in rw n refl
   where
     flip : (a b : Bool) → a ≡ b → a ≡ true → b ≡ true
     flip a b e t = cc
 
-pub among_err : (token name : List ℕ) (negated comparable : Bool) (x : meaning.Expression) (vs : meaning.Expressions) → comparable ≡ false → comparable ≡ all_comparable x vs → name ≡ token → among_outcome token negated x vs ≡ Err (record { kind = Clash; name = name })
-among_err token name negated comparable x vs t e same = rw same (first token x vs (with_not negated (meaning.among x vs)) (flip comparable (all_comparable x vs) e t))
+pub among_err : (token name : List ℕ) (negated comparable : Bool) (x : meaning.Expression) (vs : meaning.Expressions) → comparable ≡ false → comparable ≡ all_comparable (kind_of x) vs → name ≡ token → among_outcome token negated x vs ≡ Err (record { kind = Clash; name = name })
+among_err token name negated comparable x vs t e same = rw same (first token x vs (with_not negated (meaning.among x vs)) (flip comparable (all_comparable (kind_of x) vs) e t))
   where
     flip : (a b : Bool) → a ≡ b → a ≡ false → b ≡ false
     flip a b e t = cc
@@ -45,7 +45,7 @@ same_among : (x x' : meaning.Expression) (vs vs' : meaning.Expressions) → x' �
 same_among x x' vs vs' e f = rw (e, f) refl
 
 -- a call that gives the predicate over the same operands gives what is meant
-pub among_given : (token : List ℕ) (negated comparable : Bool) (x x' : meaning.Expression) (vs vs' : meaning.Expressions) (r : Result Cond Refusal) → comparable ≡ true → comparable ≡ all_comparable x vs → x' ≡ x → vs' ≡ vs
+pub among_given : (token : List ℕ) (negated comparable : Bool) (x x' : meaning.Expression) (vs vs' : meaning.Expressions) (r : Result Cond Refusal) → comparable ≡ true → comparable ≡ all_comparable (kind_of x) vs → x' ≡ x → vs' ≡ vs
     → MatchResult r (λ made. tree.condition_of made ≡ with_not negated (meaning.among x' vs')) (λ refused. refused ≡ refusal.NoMemory) → GivesCondition r (among_outcome token negated x vs)
 among_given token negated comparable x x' vs vs' (Ok made) t e ex ev h = among_ok token negated comparable x vs t e ∙ ap Ok (sym (h ∙ ap (with_not negated) (same_among x x' vs vs' ex ev)))
 among_given token negated comparable x x' vs vs' (Err refused) t e ex ev h = refuses_memory refused (among_outcome token negated x vs) h

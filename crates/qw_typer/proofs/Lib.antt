@@ -16,6 +16,7 @@ mod MadeLemmas
 pub mod MeansLemmas
 mod MovedLemmas
 mod OutcomeLemmas
+mod PairLemmas
 mod PlacedLemmas
 mod QueryLemmas
 mod ScopeLemmas

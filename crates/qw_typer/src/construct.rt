@@ -3,19 +3,19 @@
 
 ghost use Rattle.std.specs.Prelude.{◌≡◌, ℕ, ◌+◌, IfOk, MatchResult, Ok, Result};
 ghost use Rattle.qw_ast.specs.SyntaxTree as syntax;
-ghost use Rattle.qw_scalar.specs.Expression.{Condition, Expression, both, coalesced, either, is, is_null, negation_of};
+ghost use Rattle.qw_scalar.specs.Expression.{Choices, Condition, Expression, Expressions, both, coalesced, either, is, is_null, negation_of};
 ghost use Rattle.qw_scalar.specs.Tree.{choices_of, condition_of, expression_of, expressions_of, matches_of};
 ghost use Rattle.qw_scalar.specs.Typing.{kind_of};
 ghost use Rattle.qw_typer.specs.Faults.{Fault, first_of_all, first_of_branches, first_token};
 ghost use Rattle.qw_typer.specs.Inner.Sizes.{Fits, FitsAll, FitsBranches, FitsCondition, FitsMatches};
-ghost use Rattle.qw_typer.specs.Inner.Typing.{◌>>=◌ as ◌and_then◌, AreTold, Gives, GivesCondition, IsTold, all_comparable, among_outcome, arithmetic_outcome, between_outcome, case_outcome, comparison_outcome, field_outcome, null_if_outcome, sign_outcome};
+ghost use Rattle.qw_typer.specs.Inner.Typing.{◌>>=◌ as ◌and_then◌, AreTold, Gives, GivesArguments, GivesChoices, GivesCondition, GivesMatches, GivesValues, IsTold, all_comparable, among_outcome, arithmetic_outcome, between_outcome, case_outcome, comparison_outcome, field_outcome, null_if_outcome, sign_outcome};
 ghost use Rattle.qw_typer.specs.Meant.{with_not};
 ghost use Rattle.qw_typer.specs.declared.refusal.Refusal.TheVariants.{NoMemory};
 
 use crate::fault::FaultKind;
 use crate::kinds::{are_comparable, is_date, is_number, scale};
 use crate::refusal::{Refusal, first_of_all, first_of_branches, first_token};
-use crate::tree::{Results, Typed, both, boxed, boxes, three_boxes};
+use crate::tree::{Results, Typed, Values, both, boxed, boxes, pair, three, three_boxes};
 use qw_ast::script::{Branches, Expr, Exprs, Sign};
 use qw_scalar::comparison::Comparison;
 use qw_scalar::expression as meaning;
@@ -26,17 +26,17 @@ use std::alloc::Global;
 /// The most digits behind the point of a result.
 const MAX_SCALE: u16 = 18;
 
-/// An operand behind a sign.
+/// An operand as it was found behind a sign.
 pub(crate) fn signed<'a>(
     alloc: Global,
     sign: Sign,
-    operand: Typed,
+    operand: Result<Typed, Refusal<'a>>,
     at: &Expr<'a>,
 ) -> Result<Typed, Refusal<'a>>
-    requires told { IsTold operand }
-    ensures gives { Gives result (sign_outcome (first_token (syntax.expression_of at.now)) sign (expression_of operand.tree)) }
-    ensures fits { (n k : ℕ) → Fits operand.tree n k → IfOk result (λ made. Fits made.tree (1 + n) k) }
+    ensures gives { (x : Result Expression Fault) → Gives operand.entry x → Gives result (x and_then (λ e. sign_outcome (first_token (syntax.expression_of at.now)) sign e)) }
+    ensures fits { (n k : ℕ) → IfOk operand.entry (λ x. Fits x.tree n k) → IfOk result (λ made. Fits made.tree (1 + n) k) }
 {
+    let operand = operand?;
     if !is_number(operand.kind) {
         return Err(Refusal::Fault(FaultKind::Clash, first_token(at)));
     }
@@ -49,17 +49,30 @@ pub(crate) fn signed<'a>(
     }
 }
 
-/// Two operands of an arithmetic operator.
+/// Two operands of an arithmetic operator as they were found.
 pub(crate) fn arithmetic<'a>(
+    alloc: Global,
+    operator: Operator,
+    left: Result<Typed, Refusal<'a>>,
+    right: Result<Typed, Refusal<'a>>,
+    at: &Expr<'a>,
+) -> Result<Typed, Refusal<'a>>
+    ensures gives { (x y : Result Expression Fault) → Gives left.entry x → Gives right.entry y → Gives result (x and_then (λ a. y and_then (λ b. arithmetic_outcome (first_token (syntax.expression_of at.now)) operator a b))) }
+    ensures fits { (n k m j : ℕ) → IfOk left.entry (λ x. Fits x.tree n k) → IfOk right.entry (λ y. Fits y.tree m j) → IfOk result (λ made. Fits made.tree (1 + (n + m)) (k + j)) }
+{
+    let (left, right) = pair(left, right)?;
+    calculated(alloc, operator, left, right, at)
+}
+
+/// Two operands of an arithmetic operator.
+fn calculated<'a>(
     alloc: Global,
     operator: Operator,
     left: Typed,
     right: Typed,
     at: &Expr<'a>,
 ) -> Result<Typed, Refusal<'a>>
-    requires left { IsTold left }
-    requires right { IsTold right }
-    ensures gives { Gives result (arithmetic_outcome (first_token (syntax.expression_of at.now)) operator (expression_of left.tree) (expression_of right.tree)) }
+    ensures gives { IsTold left → IsTold right → Gives result (arithmetic_outcome (first_token (syntax.expression_of at.now)) operator (expression_of left.tree) (expression_of right.tree)) }
     ensures fits { (n k m j : ℕ) → Fits left.tree n k → Fits right.tree m j → IfOk result (λ made. Fits made.tree (1 + (n + m)) (k + j)) }
 {
     if !is_number(left.kind) || !is_number(right.kind) {
@@ -87,17 +100,17 @@ fn scale_after(operator: Operator, left: u8, right: u8) -> Option<u8>
     }
 }
 
-/// A field of an operand.
+/// A field of an operand as it was found.
 pub(crate) fn extracted<'a>(
     alloc: Global,
     field: Field,
-    operand: Typed,
+    operand: Result<Typed, Refusal<'a>>,
     at: &Expr<'a>,
 ) -> Result<Typed, Refusal<'a>>
-    requires told { IsTold operand }
-    ensures gives { Gives result (field_outcome (first_token (syntax.expression_of at.now)) field (expression_of operand.tree)) }
-    ensures fits { (n k : ℕ) → Fits operand.tree n k → IfOk result (λ made. Fits made.tree (1 + n) k) }
+    ensures gives { (x : Result Expression Fault) → Gives operand.entry x → Gives result (x and_then (λ e. field_outcome (first_token (syntax.expression_of at.now)) field e)) }
+    ensures fits { (n k : ℕ) → IfOk operand.entry (λ x. Fits x.tree n k) → IfOk result (λ made. Fits made.tree (1 + n) k) }
 {
+    let operand = operand?;
     if !is_date(operand.kind) {
         return Err(Refusal::Fault(FaultKind::Clash, first_token(at)));
     }
@@ -107,16 +120,16 @@ pub(crate) fn extracted<'a>(
     })
 }
 
-/// A CASE without an operand.
+/// A CASE without an operand, of branches as they were found.
 pub(crate) fn searched_case<'a>(
     alloc: Global,
-    results: Results<meaning::Branches>,
+    results: Result<Results<meaning::Branches>, Refusal<'a>>,
     at: &Branches<'a>,
 ) -> Result<Typed, Refusal<'a>>
-    requires told { AreTold results.kind results.agree (choices_of results.tree) }
-    ensures gives { Gives result (case_outcome (first_of_branches (syntax.branching_of at.now)) (choices_of results.tree)) }
-    ensures fits { (n k : ℕ) → FitsBranches results.tree n k → IfOk result (λ made. Fits made.tree (1 + n) k) }
+    ensures gives { (cs : Result Choices Fault) → GivesChoices results.entry cs → Gives result (cs and_then (λ cs. case_outcome (first_of_branches (syntax.branching_of at.now)) cs)) }
+    ensures fits { (n k : ℕ) → IfOk results.entry (λ made. FitsBranches made.tree n k) → IfOk result (λ made. Fits made.tree (1 + n) k) }
 {
+    let results = results?;
     if !results.agree || results.kind.is_none() {
         return Err(Refusal::Fault(FaultKind::Clash, first_of_branches(at)));
     }
@@ -126,15 +139,29 @@ pub(crate) fn searched_case<'a>(
     })
 }
 
-/// A CASE with an operand.
+/// A CASE with an operand, of an operand and branches as they were found.
 pub(crate) fn simple_case<'a>(
+    alloc: Global,
+    operand: Result<Typed, Refusal<'a>>,
+    results: Result<Results<meaning::Matches>, Refusal<'a>>,
+    at: &Expr<'a>,
+) -> Result<Typed, Refusal<'a>>
+    ensures gives { (x : Result Expression Fault) (cs : Expression → Result Choices Fault) → Gives operand.entry x → IfOk operand.entry (λ t. GivesMatches (expression_of t.tree) results.entry (cs (expression_of t.tree)))
+        → Gives result (x and_then (λ a. cs a and_then (λ made. case_outcome (first_token (syntax.expression_of at.now)) made))) }
+    ensures fits { (n k m j : ℕ) → IfOk operand.entry (λ x. Fits x.tree n k) → IfOk results.entry (λ made. FitsMatches made.tree m j) → IfOk result (λ made. Fits made.tree (1 + (n + m)) (k + j)) }
+{
+    let (operand, results) = pair(operand, results)?;
+    matched(alloc, operand, results, at)
+}
+
+/// A CASE with an operand.
+fn matched<'a>(
     alloc: Global,
     operand: Typed,
     results: Results<meaning::Matches>,
     at: &Expr<'a>,
 ) -> Result<Typed, Refusal<'a>>
-    requires told { AreTold results.kind results.agree (matches_of results.tree (expression_of operand.tree)) }
-    ensures gives { Gives result (case_outcome (first_token (syntax.expression_of at.now)) (matches_of results.tree (expression_of operand.tree))) }
+    ensures gives { AreTold results.kind results.agree (matches_of results.tree (expression_of operand.tree)) → Gives result (case_outcome (first_token (syntax.expression_of at.now)) (matches_of results.tree (expression_of operand.tree))) }
     ensures fits { (n k m j : ℕ) → Fits operand.tree n k → FitsMatches results.tree m j → IfOk result (λ made. Fits made.tree (1 + (n + m)) (k + j)) }
 {
     if !results.agree || results.kind.is_none() {
@@ -147,16 +174,16 @@ pub(crate) fn simple_case<'a>(
     })
 }
 
-/// The arguments of COALESCE.
+/// The arguments of COALESCE as they were found.
 pub(crate) fn coalesced<'a>(
     alloc: Global,
-    results: Results<meaning::Exprs>,
+    results: Result<Results<meaning::Exprs>, Refusal<'a>>,
     at: &Exprs<'a>,
 ) -> Result<Typed, Refusal<'a>>
-    requires told { AreTold results.kind results.agree (coalesced (expressions_of results.tree)) }
-    ensures gives { Gives result (case_outcome (first_of_all (syntax.expressions_of at.now)) (coalesced (expressions_of results.tree))) }
-    ensures fits { (n k : ℕ) → FitsAll results.tree n k → IfOk result (λ made. Fits made.tree (1 + n) k) }
+    ensures gives { (xs : Result Expressions Fault) → GivesArguments results.entry xs → Gives result (xs and_then (λ xs. case_outcome (first_of_all (syntax.expressions_of at.now)) (coalesced xs))) }
+    ensures fits { (n k : ℕ) → IfOk results.entry (λ made. FitsAll made.tree n k) → IfOk result (λ made. Fits made.tree (1 + n) k) }
 {
+    let results = results?;
     if !results.agree || results.kind.is_none() {
         return Err(Refusal::Fault(FaultKind::Clash, first_of_all(at)));
     }
@@ -166,16 +193,28 @@ pub(crate) fn coalesced<'a>(
     })
 }
 
-/// The arguments of NULLIF.
+/// The arguments of NULLIF as they were found.
 pub(crate) fn null_if<'a>(
+    alloc: Global,
+    left: Result<Typed, Refusal<'a>>,
+    right: Result<Typed, Refusal<'a>>,
+    at: &Expr<'a>,
+) -> Result<Typed, Refusal<'a>>
+    ensures gives { (x y : Result Expression Fault) → Gives left.entry x → Gives right.entry y → Gives result (x and_then (λ a. y and_then (λ b. null_if_outcome (first_token (syntax.expression_of at.now)) a b))) }
+    ensures fits { (n k m j : ℕ) → IfOk left.entry (λ x. Fits x.tree n k) → IfOk right.entry (λ y. Fits y.tree m j) → IfOk result (λ made. Fits made.tree (1 + (n + m)) (k + j)) }
+{
+    let (left, right) = pair(left, right)?;
+    null_where_equal(alloc, left, right, at)
+}
+
+/// The arguments of NULLIF.
+fn null_where_equal<'a>(
     alloc: Global,
     left: Typed,
     right: Typed,
     at: &Expr<'a>,
 ) -> Result<Typed, Refusal<'a>>
-    requires left { IsTold left }
-    requires right { IsTold right }
-    ensures gives { Gives result (null_if_outcome (first_token (syntax.expression_of at.now)) (expression_of left.tree) (expression_of right.tree)) }
+    ensures gives { IsTold left → IsTold right → Gives result (null_if_outcome (first_token (syntax.expression_of at.now)) (expression_of left.tree) (expression_of right.tree)) }
     ensures fits { (n k m j : ℕ) → Fits left.tree n k → Fits right.tree m j → IfOk result (λ made. Fits made.tree (1 + (n + m)) (k + j)) }
 {
     if !are_comparable(left.kind, right.kind) {
@@ -189,17 +228,30 @@ pub(crate) fn null_if<'a>(
     })
 }
 
-/// Two operands of a comparison.
+/// Two operands of a comparison as they were found.
 pub(crate) fn compared<'a>(
+    alloc: Global,
+    comparison: Comparison,
+    left: Result<Typed, Refusal<'a>>,
+    right: Result<Typed, Refusal<'a>>,
+    at: &Expr<'a>,
+) -> Result<meaning::Cond, Refusal<'a>>
+    ensures gives { (x y : Result Expression Fault) → Gives left.entry x → Gives right.entry y → GivesCondition result (x and_then (λ a. y and_then (λ b. comparison_outcome (first_token (syntax.expression_of at.now)) comparison a b))) }
+    ensures fits { (n k m j : ℕ) → IfOk left.entry (λ x. Fits x.tree n k) → IfOk right.entry (λ y. Fits y.tree m j) → IfOk result (λ made. FitsCondition made (1 + (n + m)) (k + j)) }
+{
+    let (left, right) = pair(left, right)?;
+    comparison_of(alloc, comparison, left, right, at)
+}
+
+/// Two operands of a comparison.
+fn comparison_of<'a>(
     alloc: Global,
     comparison: Comparison,
     left: Typed,
     right: Typed,
     at: &Expr<'a>,
 ) -> Result<meaning::Cond, Refusal<'a>>
-    requires left { IsTold left }
-    requires right { IsTold right }
-    ensures gives { GivesCondition result (comparison_outcome (first_token (syntax.expression_of at.now)) comparison (expression_of left.tree) (expression_of right.tree)) }
+    ensures gives { IsTold left → IsTold right → GivesCondition result (comparison_outcome (first_token (syntax.expression_of at.now)) comparison (expression_of left.tree) (expression_of right.tree)) }
     ensures fits { (n k m j : ℕ) → Fits left.tree n k → Fits right.tree m j → IfOk result (λ made. FitsCondition made (1 + (n + m)) (k + j)) }
 {
     if !are_comparable(left.kind, right.kind) {
@@ -209,8 +261,26 @@ pub(crate) fn compared<'a>(
     Ok(meaning::Cond::Compare(comparison, left, right))
 }
 
-/// The operands of BETWEEN.
+/// The operands of BETWEEN as they were found.
 pub(crate) fn between<'a>(
+    alloc: Global,
+    negated: bool,
+    operand: Result<Typed, Refusal<'a>>,
+    least: Result<Typed, Refusal<'a>>,
+    greatest: Result<Typed, Refusal<'a>>,
+    at: &Expr<'a>,
+) -> Result<meaning::Cond, Refusal<'a>>
+    ensures gives { (x y z : Result Expression Fault) → Gives operand.entry x → Gives least.entry y → Gives greatest.entry z
+        → GivesCondition result (x and_then (λ a. y and_then (λ b. z and_then (λ c. between_outcome (first_token (syntax.expression_of at.now)) negated a b c)))) }
+    ensures fits { (n k m j p i : ℕ) → IfOk operand.entry (λ x. Fits x.tree n k) → IfOk least.entry (λ y. Fits y.tree m j) → IfOk greatest.entry (λ z. Fits z.tree p i)
+        → IfOk result (λ made. FitsCondition made (2 + (n + (m + p))) (k + (j + i))) }
+{
+    let (operand, least, greatest) = three(operand, least, greatest)?;
+    within(alloc, negated, operand, least, greatest, at)
+}
+
+/// The operands of BETWEEN.
+fn within<'a>(
     alloc: Global,
     negated: bool,
     operand: Typed,
@@ -218,10 +288,7 @@ pub(crate) fn between<'a>(
     greatest: Typed,
     at: &Expr<'a>,
 ) -> Result<meaning::Cond, Refusal<'a>>
-    requires operand { IsTold operand }
-    requires least { IsTold least }
-    requires greatest { IsTold greatest }
-    ensures gives { GivesCondition result (between_outcome (first_token (syntax.expression_of at.now)) negated (expression_of operand.tree) (expression_of least.tree) (expression_of greatest.tree)) }
+    ensures gives { IsTold operand → IsTold least → IsTold greatest → GivesCondition result (between_outcome (first_token (syntax.expression_of at.now)) negated (expression_of operand.tree) (expression_of least.tree) (expression_of greatest.tree)) }
     ensures fits { (n k m j p i : ℕ) → Fits operand.tree n k → Fits least.tree m j → Fits greatest.tree p i → IfOk result (λ made. FitsCondition made (2 + (n + (m + p))) (k + (j + i))) }
 {
     if !are_comparable(operand.kind, least.kind) || !are_comparable(operand.kind, greatest.kind) {
@@ -235,8 +302,24 @@ pub(crate) fn between<'a>(
     )
 }
 
-/// The operands of IN, where it is known whether the values compare with the first.
+/// The operands of IN as they were found, where it is known whether the values compare with the first.
 pub(crate) fn among<'a>(
+    alloc: Global,
+    negated: bool,
+    operand: Result<Typed, Refusal<'a>>,
+    values: Result<Values, Refusal<'a>>,
+    at: &Expr<'a>,
+) -> Result<meaning::Cond, Refusal<'a>>
+    ensures gives { (x : Result Expression Fault) (vs : Result Expressions Fault) → Gives operand.entry x → IfOk operand.entry (λ t. GivesValues t.kind values.entry vs)
+        → GivesCondition result (x and_then (λ a. vs and_then (λ bs. among_outcome (first_token (syntax.expression_of at.now)) negated a bs))) }
+    ensures fits { (n k m j : ℕ) → IfOk operand.entry (λ x. Fits x.tree n k) → IfOk values.entry (λ made. FitsAll made.tree m j) → IfOk result (λ made. FitsCondition made (2 + (n + m)) (k + j)) }
+{
+    let (operand, values) = pair(operand, values)?;
+    one_of(alloc, negated, operand, values.tree, values.comparable, at)
+}
+
+/// The operands of IN, where it is known whether the values compare with the first.
+fn one_of<'a>(
     alloc: Global,
     negated: bool,
     operand: Typed,
@@ -244,8 +327,7 @@ pub(crate) fn among<'a>(
     comparable: bool,
     at: &Expr<'a>,
 ) -> Result<meaning::Cond, Refusal<'a>>
-    requires comparable { comparable ≡ all_comparable (expression_of operand.tree) (expressions_of values) }
-    ensures gives { GivesCondition result (among_outcome (first_token (syntax.expression_of at.now)) negated (expression_of operand.tree) (expressions_of values)) }
+    ensures gives { comparable ≡ all_comparable (kind_of (expression_of operand.tree)) (expressions_of values) → GivesCondition result (among_outcome (first_token (syntax.expression_of at.now)) negated (expression_of operand.tree) (expressions_of values)) }
     ensures fits { (n k m j : ℕ) → Fits operand.tree n k → FitsAll values m j → IfOk result (λ made. FitsCondition made (2 + (n + m)) (k + j)) }
 {
     if !comparable {

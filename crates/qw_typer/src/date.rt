@@ -7,7 +7,7 @@ ghost use Rattle.qw_ast.specs.SyntaxTree.{days_of};
 ghost use Rattle.qw_scalar.specs.Expression.{date};
 ghost use Rattle.qw_typer.specs.Days.{moved};
 ghost use Rattle.qw_typer.specs.Inner.Literals.{IsUnpacked, day_of_date, signed_days};
-ghost use Rattle.qw_typer.specs.Literal.{after_intervals, date_of, day_shown, interval_days};
+ghost use Rattle.qw_typer.specs.Literal.{after_intervals, date_of, day_shown, interval_days, string_value};
 
 use crate::name::value_octets;
 use crate::number::value_of;
@@ -32,8 +32,7 @@ pub(crate) fn date_of(
 ) -> Result<Option<i32>, NoMemory>
     ensures { IfOk result (λ found. option_map (λ d. date d) found ≡ date_of string.now (map days_of intervals.now)) }
 {
-    let text = value_octets(alloc, string)?;
-    let Some(first) = day_shown(text.as_slice()) else {
+    let Some(first) = day_written(alloc, string)? else {
         return Ok(None);
     };
     match after_intervals(alloc, first, intervals)? {
@@ -57,6 +56,15 @@ fn number_of(year: u16, month: u8, day: u8) -> i32
     ensures { result ≡ pos (packed year month day) }
 {
     (u32::from(year) * 10_000 + u32::from(month) * 100 + u32::from(day)) as i32
+}
+
+/// The day that a character string shows, if it shows one.
+fn day_written(alloc: Global, string: &[u8]) -> Result<Option<Date>, NoMemory>
+    ensures day { IfOk result (λ found. option_map day_of_date found ≡ day_shown (string_value string.now)) }
+    ensures year { IfOk result (λ found. IfSome found (λ d. pos 1 ≤ℤ d.year)) }
+{
+    let text = value_octets(alloc, string)?;
+    Ok(day_shown(text.as_slice()))
 }
 
 /// The day that a text shows, if it is `YYYY-MM-DD` and the calendar has the day.
@@ -100,14 +108,23 @@ fn after_intervals(
     let mut day = first;
     let mut rest = intervals;
     while let [interval, behind @ ..] = rest {
-        let text = value_octets(alloc, interval.days)?;
-        let Some(next) = after(day, interval.sign, text.as_slice()) else {
+        let Some(next) = after_one(alloc, day, interval)? else {
             return Ok(None);
         };
         day = next;
         rest = behind;
     }
     Ok(Some(day))
+}
+
+/// The day after an interval, if it is a day of the calendar.
+fn after_one(alloc: Global, day: Date, interval: &Interval<'_>) -> Result<Option<Date>, NoMemory>
+    requires { pos 1 ≤ℤ day.year }
+    ensures day { IfOk result (λ found. option_map day_of_date found ≡ option_and_then (λ n. moved interval.now.sign n (day_of_date day)) (interval_days (string_value interval.now.days.now))) }
+    ensures year { IfOk result (λ found. IfSome found (λ d. pos 1 ≤ℤ d.year)) }
+{
+    let text = value_octets(alloc, interval.days)?;
+    Ok(after(day, interval.sign, text.as_slice()))
 }
 
 /// The day after an interval, by its text.

@@ -3,32 +3,31 @@
 
 ghost use Rattle.std.specs.Prelude.{◌≡◌, IfOk, MatchResult, Ok};
 ghost use Rattle.qw_ast.specs.SyntaxTree as syntax;
-ghost use Rattle.qw_scalar.specs.Expression.{coalesced};
-ghost use Rattle.qw_scalar.specs.Tree.{condition_of, expression_of};
+ghost use Rattle.qw_scalar.specs.Expression.{Expression};
+ghost use Rattle.qw_scalar.specs.Typing.{kind_of};
 ghost use Rattle.qw_typer.specs.Inner.Sizes.{Fits, FitsAll, FitsBranches, FitsCondition, FitsMatches, nodes, nodes_all, nodes_branches, nodes_condition, octets, octets_all, octets_branches, octets_condition};
-ghost use Rattle.qw_typer.specs.Inner.Typing.{Gives, GivesArguments, GivesChoices, GivesCondition, GivesMatches, GivesValues, IsTold, in_reach, spelled, typed, typed_all, typed_choices, typed_branches, typed_condition};
+ghost use Rattle.qw_typer.specs.Inner.Typing.{Gives, GivesArguments, GivesChoices, GivesCondition, GivesMatches, GivesValues, in_reach, spelled, typed, typed_all, typed_choices, typed_branches, typed_condition};
 
 use crate::branch::{
-    argument, arguments_more, last_match, match_more, otherwise, value, values_more, when,
+    argument, arguments_more, last_match, match_more, matching, otherwise, value, values_more, when,
 };
 use crate::construct::{
     among, arithmetic, between, coalesced, compared, conjunction, disjunction, extracted, negation,
     null_if, null_test, searched_case, signed, simple_case, truth_test,
 };
 use crate::fault::FaultKind;
-use crate::kinds::are_comparable;
 use crate::leaf::{column, date, number, text};
 use crate::refusal::{Refusal, Token, first_token};
 use crate::scope::Scope;
-use crate::set_function::{applied, expect_grouping, rows_counted};
-use crate::tree::{Results, Typed, Values};
+use crate::set_function::{applied, rows_counted};
+use crate::tree::{Results, Typed, Values, kind_found};
 use qw_ast::script::{Branches, Cond, Expr, Exprs, Phrase};
 use qw_scalar::expression as meaning;
+use qw_types::Kind;
 use std::alloc::Global;
 
 /// An expression.
 #[cycle(expression)]
-#[tactic(auto, using(crate::proofs::OutcomeLemmas::gives_after, crate::proofs::OutcomeLemmas::refuses_after, crate::proofs::OutcomeLemmas::refuses_then, crate::proofs::OutcomeLemmas::refuses_memory, crate::proofs::OutcomeLemmas::refuses_fault))]
 pub(crate) fn expression<'a>(
     alloc: Global,
     scope: &Scope<'_, '_>,
@@ -47,49 +46,47 @@ pub(crate) fn expression<'a>(
         Expr::Date(string, intervals) => date(alloc, string, intervals.as_slice()),
         Expr::Column(qualifier, name) => column(alloc, scope, *qualifier, name),
         Expr::Signed(sign, operand) => {
-            let x = expression(alloc, scope, operand)?;
+            let x = expression(alloc, scope, operand);
             signed(alloc, *sign, x, operand)
         }
         Expr::Arithmetic(operator, left, right) => {
-            let x = expression(alloc, scope, left)?;
-            let y = expression(alloc, scope, right)?;
+            let x = expression(alloc, scope, left);
+            let y = expression(alloc, scope, right);
             arithmetic(alloc, *operator, x, y, left)
         }
         Expr::Extract(field, operand) => {
-            let x = expression(alloc, scope, operand)?;
+            let x = expression(alloc, scope, operand);
             extracted(alloc, *field, x, operand)
         }
         Expr::Case(branches) => {
-            let results = choices(alloc, scope, branches)?;
+            let results = choices(alloc, scope, branches);
             searched_case(alloc, results, branches)
         }
         Expr::Match(operand, branches) => {
-            let x = expression(alloc, scope, operand)?;
-            let results = matches(alloc, scope, &x, first_token(operand), branches)?;
+            let x = expression(alloc, scope, operand);
+            let results = matches(alloc, scope, kind_found(&x), first_token(operand), branches);
             simple_case(alloc, x, results, operand)
         }
         Expr::Coalesce(list) => {
-            let results = arguments(alloc, scope, list)?;
+            let results = arguments(alloc, scope, list);
             coalesced(alloc, results, list)
         }
         Expr::NullIf(left, right) => {
-            let x = expression(alloc, scope, left)?;
-            let y = expression(alloc, scope, right)?;
+            let x = expression(alloc, scope, left);
+            let y = expression(alloc, scope, right);
             null_if(alloc, x, y, left)
         }
         Expr::CountRows(place) => rows_counted(scope, *place),
         Expr::SetFunction(place, function, argument) => {
-            expect_grouping(scope, *function)?;
             let inner = Scope::ungrouped(scope.entries);
-            let x = expression(alloc, &inner, argument)?;
-            applied(scope, *place, *function, &x, argument)
+            let x = expression(alloc, &inner, argument);
+            applied(scope, *place, *function, x, argument)
         }
     }
 }
 
 /// A condition.
 #[cycle(expression)]
-#[tactic(auto, using(crate::proofs::OutcomeLemmas::gives_condition_after, crate::proofs::OutcomeLemmas::refuses_after, crate::proofs::OutcomeLemmas::refuses_then, crate::proofs::OutcomeLemmas::refuses_memory, crate::proofs::OutcomeLemmas::refuses_fault))]
 pub(crate) fn condition<'a>(
     alloc: Global,
     scope: &Scope<'_, '_>,
@@ -100,20 +97,20 @@ pub(crate) fn condition<'a>(
 {
     match cond {
         Cond::Compare(comparison, left, right) => {
-            let x = expression(alloc, scope, left)?;
-            let y = expression(alloc, scope, right)?;
+            let x = expression(alloc, scope, left);
+            let y = expression(alloc, scope, right);
             compared(alloc, *comparison, x, y, left)
         }
         Cond::Between(negated, operand, least, greatest) => {
-            let x = expression(alloc, scope, operand)?;
-            let low = expression(alloc, scope, least)?;
-            let high = expression(alloc, scope, greatest)?;
+            let x = expression(alloc, scope, operand);
+            let low = expression(alloc, scope, least);
+            let high = expression(alloc, scope, greatest);
             between(alloc, *negated, x, low, high, operand)
         }
         Cond::In(negated, operand, list) => {
-            let x = expression(alloc, scope, operand)?;
-            let found = values(alloc, scope, &x, list)?;
-            among(alloc, *negated, x, found.tree, found.comparable, operand)
+            let x = expression(alloc, scope, operand);
+            let found = values(alloc, scope, kind_found(&x), list);
+            among(alloc, *negated, x, found, operand)
         }
         Cond::IsNull(negated, operand) => {
             let x = expression(alloc, scope, operand);
@@ -143,7 +140,6 @@ pub(crate) fn condition<'a>(
 
 /// The arguments of COALESCE.
 #[cycle(expression)]
-#[tactic(auto, using(crate::proofs::OutcomeLemmas::refuses_after, crate::proofs::OutcomeLemmas::refuses_then, crate::proofs::OutcomeLemmas::refuses_memory, crate::proofs::OutcomeLemmas::refuses_fault))]
 fn arguments<'a>(
     alloc: Global,
     scope: &Scope<'_, '_>,
@@ -154,46 +150,43 @@ fn arguments<'a>(
 {
     match exprs {
         Exprs::Last(expr) => {
-            let x = expression(alloc, scope, expr)?;
+            let x = expression(alloc, scope, expr);
             argument(alloc, x)
         }
         Exprs::More(expr, rest) => {
-            let x = expression(alloc, scope, expr)?;
-            let others = arguments(alloc, scope, rest)?;
+            let x = expression(alloc, scope, expr);
+            let others = arguments(alloc, scope, rest);
             arguments_more(alloc, x, others)
         }
     }
 }
 
-/// The values of IN, and whether they compare with the operand.
+/// The values of IN, and whether they compare with an operand of this kind.
 #[cycle(expression)]
-#[tactic(auto, using(crate::proofs::OutcomeLemmas::refuses_after, crate::proofs::OutcomeLemmas::refuses_then, crate::proofs::OutcomeLemmas::refuses_memory, crate::proofs::OutcomeLemmas::refuses_fault))]
 fn values<'a>(
     alloc: Global,
     scope: &Scope<'_, '_>,
-    operand: &Typed,
+    kind: Option<Kind>,
     exprs: &Exprs<'a>,
 ) -> Result<Values, Refusal<'a>>
-    requires { IsTold operand.now }
-    ensures gives { GivesValues (expression_of operand.now.tree) result (typed_all (in_reach scope.now) (syntax.expressions_of exprs.now)) }
+    ensures gives { GivesValues kind result (typed_all (in_reach scope.now) (syntax.expressions_of exprs.now)) }
     ensures fits { IfOk result (λ made. FitsAll made.tree (nodes_all (syntax.expressions_of exprs.now)) (octets_all (syntax.expressions_of exprs.now))) }
 {
     match exprs {
         Exprs::Last(expr) => {
-            let x = expression(alloc, scope, expr)?;
-            value(alloc, operand, x)
+            let x = expression(alloc, scope, expr);
+            value(alloc, kind, x)
         }
         Exprs::More(expr, rest) => {
-            let x = expression(alloc, scope, expr)?;
-            let others = values(alloc, scope, operand, rest)?;
-            values_more(alloc, operand, x, others)
+            let x = expression(alloc, scope, expr);
+            let others = values(alloc, scope, kind, rest);
+            values_more(alloc, kind, x, others)
         }
     }
 }
 
 /// The branches of a CASE without an operand.
 #[cycle(expression)]
-#[tactic(auto, using(crate::proofs::OutcomeLemmas::refuses_after, crate::proofs::OutcomeLemmas::refuses_then, crate::proofs::OutcomeLemmas::refuses_memory, crate::proofs::OutcomeLemmas::refuses_fault))]
 fn choices<'a>(
     alloc: Global,
     scope: &Scope<'_, '_>,
@@ -204,7 +197,7 @@ fn choices<'a>(
 {
     match branches {
         Branches::Else(result) => {
-            let x = expression(alloc, scope, result)?;
+            let x = expression(alloc, scope, result);
             otherwise(alloc, x)
         }
         Branches::When(phrase, result, rest) => match &**phrase {
@@ -212,27 +205,25 @@ fn choices<'a>(
                 Err(Refusal::Fault(FaultKind::Clash, first_token(value)))
             }
             Phrase::Condition(cond) => {
-                let test = condition(alloc, scope, cond)?;
-                let x = expression(alloc, scope, result)?;
-                let others = choices(alloc, scope, rest)?;
+                let test = condition(alloc, scope, cond);
+                let x = expression(alloc, scope, result);
+                let others = choices(alloc, scope, rest);
                 when(alloc, test, x, others)
             }
         },
     }
 }
 
-/// The branches of a CASE with an operand, at least one with WHEN; a refusal names the operand's first token.
+/// The branches of a CASE with an operand of this kind, at least one with WHEN; a refusal names the operand's first token.
 #[cycle(expression)]
-#[tactic(auto, using(crate::proofs::OutcomeLemmas::refuses_after, crate::proofs::OutcomeLemmas::refuses_then, crate::proofs::OutcomeLemmas::refuses_memory, crate::proofs::OutcomeLemmas::refuses_fault))]
 fn matches<'a>(
     alloc: Global,
     scope: &Scope<'_, '_>,
-    operand: &Typed,
+    kind: Option<Kind>,
     token: Token<'a>,
     branches: &Branches<'a>,
 ) -> Result<Results<meaning::Matches>, Refusal<'a>>
-    requires { IsTold operand.now }
-    ensures gives { GivesMatches (expression_of operand.now.tree) result (typed_branches (in_reach scope.now) (spelled token.entry) (expression_of operand.now.tree) (syntax.branching_of branches.now)) }
+    ensures gives { (x : Expression) → kind ≡ kind_of x → GivesMatches x result (typed_branches (in_reach scope.now) (spelled token.entry) x (syntax.branching_of branches.now)) }
     ensures fits { IfOk result (λ made. FitsMatches made.tree (nodes_branches (syntax.branching_of branches.now)) (octets_branches (syntax.branching_of branches.now))) }
 {
     match branches {
@@ -240,19 +231,17 @@ fn matches<'a>(
         Branches::When(phrase, result, rest) => match &**phrase {
             Phrase::Condition(_) => Err(Refusal::Fault(FaultKind::Clash, token)),
             Phrase::Expression(value) => {
-                let wanted = expression(alloc, scope, value)?;
-                if !are_comparable(operand.kind, wanted.kind) {
-                    return Err(Refusal::Fault(FaultKind::Clash, token));
-                }
-                let x = expression(alloc, scope, result)?;
+                let found = expression(alloc, scope, value);
+                let wanted = matching(kind, token, found);
+                let x = expression(alloc, scope, result);
                 match &**rest {
                     Branches::Else(other) => {
-                        let y = expression(alloc, scope, other)?;
+                        let y = expression(alloc, scope, other);
                         last_match(alloc, wanted, x, y)
                     }
                     Branches::When(_, _, _) => {
-                        let others = matches(alloc, scope, operand, token, rest)?;
-                        match_more(alloc, operand, wanted, x, others)
+                        let others = matches(alloc, scope, kind, token, rest);
+                        match_more(alloc, wanted, x, others)
                     }
                 }
             }

@@ -2,14 +2,14 @@
 //! table that they are.
 #![tactic(auto, unfolding(crate::specs::Inner::Typing::Refuses))]
 
-ghost use Rattle.std.specs.Prelude.{◌≡◌, IfOk, MatchResult, Ok, option_map, true, unwrap_or};
+ghost use Rattle.std.specs.Prelude.{◌≡◌, IfOk, MatchResult, Ok, Result, option_map, true, unwrap_or};
 ghost use Rattle.qw_ast.specs.Syntax.{count_rows};
 ghost use Rattle.qw_ast.specs.SyntaxTree as syntax;
 ghost use Rattle.qw_scalar.specs.Expression as meaning;
 ghost use Rattle.qw_scalar.specs.Tree.{expression_of};
-ghost use Rattle.qw_typer.specs.Faults.{first_token, function_word, has_scale, takes};
+ghost use Rattle.qw_typer.specs.Faults.{Fault, first_token, function_word, has_scale, takes};
 ghost use Rattle.qw_typer.specs.Inner.Sizes.{Fits};
-ghost use Rattle.qw_typer.specs.Inner.Typing.{Gives, IsTold, Refuses, argument_outcome, in_reach, kind_scale, nested_outcome, typed};
+ghost use Rattle.qw_typer.specs.Inner.Typing.{◌>>=◌ as ◌and_then◌, Gives, IsTold, Refuses, argument_outcome, in_reach, kind_scale, nested_outcome, typed};
 ghost use Rattle.qw_typer.specs.Meant.{function_meant};
 ghost use Rattle.qw_typer.specs.declared.fault.FaultKind.TheVariants.{NestedAggregate};
 ghost use Rattle.qw_typer.specs.declared.refusal.Refusal.TheVariants as refusal;
@@ -52,10 +52,7 @@ pub(crate) fn rows_counted<'a>(scope: &Scope<'_, '_>, place: usize) -> Result<Ty
 }
 
 /// Whether a set function may stand here: there is a grouped table.
-pub(crate) fn expect_grouping<'a>(
-    scope: &Scope<'_, '_>,
-    function: SetFunction,
-) -> Result<(), Refusal<'a>>
+fn expect_grouping<'a>(scope: &Scope<'_, '_>, function: SetFunction) -> Result<(), Refusal<'a>>
     ensures { MatchResult result (λ _. nested_outcome (in_reach scope.now).grouping (function_word function) ≡ Ok true)
         (λ refusal. Refuses refusal (nested_outcome (in_reach scope.now).grouping (function_word function))) }
 {
@@ -65,16 +62,43 @@ pub(crate) fn expect_grouping<'a>(
     }
 }
 
-/// A set function of this argument.
+/// A set function of this argument, as it was found over the columns of FROM.
 pub(crate) fn applied<'a>(
+    scope: &Scope<'_, '_>,
+    place: usize,
+    function: SetFunction,
+    argument: Result<Typed, Refusal<'a>>,
+    at: &script::Expr<'a>,
+) -> Result<Typed, Refusal<'a>>
+    ensures gives { (x : Result meaning.Expression Fault) → Gives argument.entry x
+        → Gives result (nested_outcome (in_reach scope.now).grouping (function_word function) and_then (λ b. x and_then (λ a. argument_outcome (first_token (syntax.expression_of at.now)) function a (function_meant (in_reach scope.now).grouping place)))) }
+    ensures fits { IfOk result (λ made. Fits made.tree 1 0) }
+{
+    let argument = grouped(scope, function, argument)?;
+    of_argument(scope, place, function, &argument, at)
+}
+
+/// What was found of an argument, where the set function may stand.
+fn grouped<'a>(
+    scope: &Scope<'_, '_>,
+    function: SetFunction,
+    argument: Result<Typed, Refusal<'a>>,
+) -> Result<Typed, Refusal<'a>>
+    ensures { (x : Result meaning.Expression Fault) → Gives argument.entry x → Gives result (nested_outcome (in_reach scope.now).grouping (function_word function) and_then (λ b. x)) }
+{
+    expect_grouping(scope, function)?;
+    argument
+}
+
+/// A set function of this argument.
+fn of_argument<'a>(
     scope: &Scope<'_, '_>,
     place: usize,
     function: SetFunction,
     argument: &Typed,
     at: &script::Expr<'a>,
 ) -> Result<Typed, Refusal<'a>>
-    requires told { IsTold argument.now }
-    ensures gives { Gives result (argument_outcome (first_token (syntax.expression_of at.now)) function (expression_of argument.now.tree) (function_meant (in_reach scope.now).grouping place)) }
+    ensures gives { IsTold argument.now → Gives result (argument_outcome (first_token (syntax.expression_of at.now)) function (expression_of argument.now.tree) (function_meant (in_reach scope.now).grouping place)) }
     ensures fits { IfOk result (λ made. Fits made.tree 1 0) }
 {
     if !takes(function, argument.kind) {

@@ -70,6 +70,43 @@ pub(crate) fn three_boxes<'a, T: Drop, U: Drop, V: Drop>(
     Ok((first, second, third))
 }
 
+/// Both of what was found, or the refusal of the first that was refused.
+pub(crate) fn pair<'a, T: Drop, U: Drop>(
+    first: Result<T, Refusal<'a>>,
+    second: Result<U, Refusal<'a>>,
+) -> Result<(T, U), Refusal<'a>>
+    ensures found { IfOk result (λ made. (first.entry ≡ Ok made.0) × (second.entry ≡ Ok made.1)) }
+    ensures refused { IfErr result (λ refusal. MatchResult first.entry (λ _. second.entry ≡ Err refusal) (λ e. e ≡ refusal)) }
+{
+    let first = first?;
+    let second = second?;
+    Ok((first, second))
+}
+
+/// All three of what was found, or the refusal of the first that was refused.
+pub(crate) fn three<'a, T: Drop, U: Drop, V: Drop>(
+    first: Result<T, Refusal<'a>>,
+    second: Result<U, Refusal<'a>>,
+    third: Result<V, Refusal<'a>>,
+) -> Result<(T, U, V), Refusal<'a>>
+    ensures found { IfOk result (λ made. (first.entry ≡ Ok made.0) × ((second.entry ≡ Ok made.1) × (third.entry ≡ Ok made.2))) }
+    ensures refused { IfErr result (λ refusal. MatchResult first.entry (λ _. MatchResult second.entry (λ _. third.entry ≡ Err refusal) (λ e. e ≡ refusal)) (λ e. e ≡ refusal)) }
+{
+    let (first, second) = pair(first, second)?;
+    let third = third?;
+    Ok((first, second, third))
+}
+
+/// The kind of what was found, none of what was refused.
+pub(crate) fn kind_found(found: &Result<Typed, Refusal<'_>>) -> Option<Kind>
+    ensures { IfOk found.now (λ t. result ≡ t.kind) }
+{
+    match found {
+        Ok(typed) => typed.kind,
+        Err(_) => None,
+    }
+}
+
 /// Both of what was found, each in a box of its own, or the refusal of the first that was refused.
 pub(crate) fn both<'a, T: Drop, U: Drop>(
     alloc: Global,

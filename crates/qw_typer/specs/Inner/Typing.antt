@@ -106,10 +106,10 @@ abbrev pub AreScaled : meaning.Choices → Type 0
 AreScaled (meaning.otherwise e) = IsScaled e
 AreScaled (meaning.when c e rest) = IsScaled e × AreScaled rest
 
--- whether each compares with the operand
-abbrev pub all_comparable : meaning.Expression → meaning.Expressions → Bool
-all_comparable x (meaning.last v) = are_comparable (kind_of x) (kind_of v)
-all_comparable x (meaning.more v vs) = are_comparable (kind_of x) (kind_of v) && all_comparable x vs
+-- whether each compares with an operand of this kind
+abbrev pub all_comparable : Option Kind → meaning.Expressions → Bool
+all_comparable kind (meaning.last v) = are_comparable kind (kind_of v)
+all_comparable kind (meaning.more v vs) = are_comparable kind (kind_of v) && all_comparable kind vs
 
 -- the results that stand beside the branches of a CASE are theirs
 pub record AreTold (kind' : Option Kind) (agree' : Bool) (cs : meaning.Choices) : Type 0 where
@@ -135,14 +135,19 @@ GivesArguments result r = MatchResult result (λ t. (r ≡ Ok (tree.expressions_
 abbrev pub GivesPlace : Result Place Refusal → Result meaning.Expression Fault → Type 0
 GivesPlace result r = MatchResult result (λ p. r ≡ Ok (meaning.column p.place p.ty)) (λ refusal. Refuses refusal r)
 
-abbrev pub GivesValues : meaning.Expression → Result Values Refusal → Result meaning.Expressions Fault → Type 0
-GivesValues x result r = MatchResult result (λ v. (r ≡ Ok (tree.expressions_of v.tree)) × (v.comparable ≡ all_comparable x (tree.expressions_of v.tree))) (λ refusal. Refuses refusal r)
+-- a call gives the values, and whether they compare with an operand of this kind
+abbrev pub GivesValues : Option Kind → Result Values Refusal → Result meaning.Expressions Fault → Type 0
+GivesValues kind result r = MatchResult result (λ v. (r ≡ Ok (tree.expressions_of v.tree)) × (v.comparable ≡ all_comparable kind (tree.expressions_of v.tree))) (λ refusal. Refuses refusal r)
 
 abbrev pub GivesChoices : Result (Results Branches) Refusal → Result meaning.Choices Fault → Type 0
 GivesChoices result r = MatchResult result (λ t. (r ≡ Ok (tree.choices_of t.tree)) × AreTold t.kind t.agree (tree.choices_of t.tree)) (λ refusal. Refuses refusal r)
 
 abbrev pub GivesMatches : meaning.Expression → Result (Results Matches) Refusal → Result meaning.Choices Fault → Type 0
 GivesMatches x result r = MatchResult result (λ t. (r ≡ Ok (tree.matches_of t.tree x)) × AreTold t.kind t.agree (tree.matches_of t.tree x)) (λ refusal. Refuses refusal r)
+
+-- a call gives what the operand is compared with
+abbrev pub GivesComparison : meaning.Expression → Result Typed Refusal → Result meaning.Condition Fault → Type 0
+GivesComparison x result r = MatchResult result (λ t. r ≡ Ok (meaning.comparison Equal x (tree.expression_of t.tree))) (λ refusal. Refuses refusal r)
 
 -- what is left of checking a construct whose operands have no fault
 abbrev pub sign_outcome : List ℕ → Sign → meaning.Expression → Result meaning.Expression Fault

@@ -1,19 +1,18 @@
-use Rattle.std.proofs.Common.{ap}
-use Rattle.qw_ast.specs.SyntaxTree as syntax
-use Rattle.qw_scalar.specs.Tree.{expression_of, expressions_of}
-use Rattle.qw_typer.specs.Faults.{first_token}
-use Rattle.qw_typer.specs.Inner.Typing.{Refuses, spelled}
-use Rattle.qw_typer.proofs.AmongLemmas.{among_err, among_given}
+use Rattle.std.proofs.lemmas.Result.{err_from_is_err_and}
+use Rattle.qw_typer.proofs.PairLemmas.{refused_values}
 use Rattle.qw_typer.proofs.construct.among.Goals as goal
 
-pub returns-then-not-comparable-clause-gives : goal.returns-then-not-comparable-clause-gives
-unfolding Refuses
-returns-then-not-comparable-clause-gives c =
-    among_err (first_token (syntax.expression_of c.args.at.now)) (spelled c.first_token.result) c.args.negated c.args.comparable (expression_of c.args.operand.tree) (expressions_of c.args.values)
-    c.if-not-comparable.true c.requires.comparable c.first_token.ensures
+pub returns-in_err-operand-clause-gives : goal.returns-in_err-operand-clause-gives
+returns-in_err-operand-clause-gives c x vs g h =
+    let err = err_from_is_err_and c.from_residual.result c.from_residual.ensures.1 in
+    rw (err.1, err.2) (refused_values c.args.operand c.args.values c.in_err-operand.field-0.0 x vs _ c.in_err-operand.ensures.refused g h)
 
 pub returns-clause-gives : goal.returns-clause-gives
-returns-clause-gives c =
-    among_given (first_token (syntax.expression_of c.args.at.now)) c.args.negated c.args.comparable (expression_of c.args.operand.tree) (expression_of c.in_ok-operand.operand.value)
-    (expressions_of c.args.values) (expressions_of c.in_ok-operand.values.value) c.with_not.result c.if-not-comparable.false c.requires.comparable
-    (ap expression_of c.in_ok-operand.ensures.first) (ap expressions_of c.in_ok-operand.ensures.second) c.with_not.ensures.gives
+returns-clause-gives c x vs g h =
+    let one = rw c.in_ok-operand.ensures.found.0 at g in
+    let two = rw (c.in_ok-operand.ensures.found.0, c.in_ok-operand.ensures.found.1) at h in
+    let comparable = rw one.1.kind at two.1 in
+    rw (one.0, two.0) (c.one_of.ensures.gives comparable)
+
+pub returns-clause-fits : goal.returns-clause-fits
+returns-clause-fits c n k m j p q = c.one_of.ensures.fits n k m j (rw c.in_ok-operand.ensures.found.0 at p) (rw c.in_ok-operand.ensures.found.1 at q)

@@ -1,28 +1,19 @@
-use Rattle.std.proofs.Common.{◌≡◌, ℕ, ◌+◌, Result, ap, arith}
-use Rattle.std.specs.Prelude.{IfOk}
-use Rattle.qw_scalar.specs.declared.expression.Cond.{Cond}
-use Rattle.qw_scalar.specs.Nodes as typed
-use Rattle.qw_typer.specs.declared.refusal.Refusal.{Refusal}
-use Rattle.qw_typer.specs.Sizes.{text_octets}
-use Rattle.qw_typer.specs.Inner.Sizes.{FitsCondition}
+use Rattle.std.proofs.lemmas.Result.{err_from_is_err_and}
+use Rattle.qw_typer.proofs.PairLemmas.{given, refused_three}
 use Rattle.qw_typer.proofs.construct.between.Goals as goal
 
-same_count : (r : Result Cond Refusal) (n n' k : ℕ) → n' ≡ n → IfOk r (λ made. FitsCondition made n k) → IfOk r (λ made. FitsCondition made n' k)
-same_count r n n' k same h = rw same h
+pub returns-in_err-operand-clause-gives : goal.returns-in_err-operand-clause-gives
+returns-in_err-operand-clause-gives c x y z g h i =
+    let err = err_from_is_err_and c.from_residual.result c.from_residual.ensures.1 in
+    rw (err.1, err.2)
+    (refused_three _ _ _ c.args.operand c.args.least c.args.greatest c.in_err-operand.field-0.0 x y z _ c.in_err-operand.ensures.refused (given c.args.operand x g) (given c.args.least y h) (given c.args.greatest z i))
+
+pub returns-clause-gives : goal.returns-clause-gives
+returns-clause-gives c x y z g h i =
+    let one = rw c.in_ok-operand.ensures.found.0 at g in
+    let two = rw c.in_ok-operand.ensures.found.1.0 at h in
+    let last = rw c.in_ok-operand.ensures.found.1.1 at i in
+    rw (one.0, two.0, last.0) (c.within.ensures.gives one.1 two.1 last.1)
 
 pub returns-clause-fits : goal.returns-clause-fits
-returns-clause-fits c n k m j p i operand least greatest =
-    let n1 = operand.nodes_fit in
-    let k1 = operand.octets_fit in
-    let n2 = least.nodes_fit in
-    let k2 = least.octets_fit in
-    let n3 = greatest.nodes_fit in
-    let k3 = greatest.octets_fit in
-    let e1 = ap typed.nodes c.in_ok-operand.ensures.first in
-    let e2 = ap typed.nodes c.in_ok-operand.ensures.second in
-    let e3 = ap typed.nodes c.in_ok-operand.ensures.third in
-    let o1 = ap text_octets c.in_ok-operand.ensures.first in
-    let o2 = ap text_octets c.in_ok-operand.ensures.second in
-    let o3 = ap text_octets c.in_ok-operand.ensures.third in
-    same_count c.with_not.result (1 + (1 + (n + (m + p)))) (2 + (n + (m + p))) (k + (j + i)) (omega arith)
-    (c.with_not.ensures.fits (1 + (n + (m + p))) (k + (j + i)) (record { nodes_fit = omega (arith, n1, n2, n3, e1, e2, e3); octets_fit = omega (arith, k1, k2, k3, o1, o2, o3) }))
+returns-clause-fits c n k m j p i one two last = c.within.ensures.fits n k m j p i (rw c.in_ok-operand.ensures.found.0 at one) (rw c.in_ok-operand.ensures.found.1.0 at two) (rw c.in_ok-operand.ensures.found.1.1 at last)

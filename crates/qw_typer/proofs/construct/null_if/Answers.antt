@@ -1,0 +1,17 @@
+use Rattle.std.proofs.lemmas.Result.{err_from_is_err_and}
+use Rattle.qw_typer.proofs.PairLemmas.{given, refused_pair}
+use Rattle.qw_typer.proofs.construct.null_if.Goals as goal
+
+pub returns-in_err-left-clause-gives : goal.returns-in_err-left-clause-gives
+returns-in_err-left-clause-gives c x y g h =
+    let err = err_from_is_err_and c.from_residual.result c.from_residual.ensures.1 in
+    rw (err.1, err.2) (refused_pair _ _ c.args.left c.args.right c.in_err-left.field-0.0 x y _ c.in_err-left.ensures.refused (given c.args.left x g) (given c.args.right y h))
+
+pub returns-clause-gives : goal.returns-clause-gives
+returns-clause-gives c x y g h =
+    let one = rw c.in_ok-left.ensures.found.0 at g in
+    let two = rw c.in_ok-left.ensures.found.1 at h in
+    rw (one.0, two.0) (c.null_where_equal.ensures.gives one.1 two.1)
+
+pub returns-clause-fits : goal.returns-clause-fits
+returns-clause-fits c n k m j p q = c.null_where_equal.ensures.fits n k m j (rw c.in_ok-left.ensures.found.0 at p) (rw c.in_ok-left.ensures.found.1 at q)

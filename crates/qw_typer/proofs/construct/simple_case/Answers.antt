@@ -1,0 +1,17 @@
+use Rattle.std.proofs.lemmas.Result.{err_from_is_err_and}
+use Rattle.qw_typer.proofs.PairLemmas.{refused_matches}
+use Rattle.qw_typer.proofs.construct.simple_case.Goals as goal
+
+pub returns-in_err-operand-clause-gives : goal.returns-in_err-operand-clause-gives
+returns-in_err-operand-clause-gives c x cs g h =
+    let err = err_from_is_err_and c.from_residual.result c.from_residual.ensures.1 in
+    rw (err.1, err.2) (refused_matches c.args.operand c.args.results c.in_err-operand.field-0.0 x cs _ c.in_err-operand.ensures.refused g h)
+
+pub returns-clause-gives : goal.returns-clause-gives
+returns-clause-gives c x cs g h =
+    let one = rw c.in_ok-operand.ensures.found.0 at g in
+    let two = rw (c.in_ok-operand.ensures.found.0, c.in_ok-operand.ensures.found.1) at h in
+    rw (one.0, two.0) (c.matched.ensures.gives two.1)
+
+pub returns-clause-fits : goal.returns-clause-fits
+returns-clause-fits c n k m j p q = c.matched.ensures.fits n k m j (rw c.in_ok-operand.ensures.found.0 at p) (rw c.in_ok-operand.ensures.found.1 at q)
