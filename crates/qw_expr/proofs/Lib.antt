@@ -31,6 +31,7 @@ mod Sought
 mod Tests
 mod TextDecisions
 mod TreeChoices
+mod TreeExtents
 mod Trees
 mod TruthsEmitted
 pub mod Unary

@@ -7,7 +7,7 @@ use Rattle.qw_scalar.specs.Tree.{choices_of, condition_of, expression_of, expres
 use Rattle.qw_scalar.specs.Typing.{IsTyped, kind_of}
 use Rattle.std.proofs.lemmas.Int.{to_z-of_z}
 use Rattle.qw_wide.proofs.Words.{fits_small}
-use Rattle.qw_low.proofs.Appended.{if_ok}
+use Rattle.qw_low.proofs.Appended.{if_ok, on_ok}
 use Rattle.qw_expr.specs.Bindings.{IsAmong, IsServed, Knows, TakesKnown, known_of}
 use Rattle.qw_expr.specs.Emits.{free_of}
 use Rattle.qw_expr.specs.Inner.Choices.{Suits}
@@ -15,9 +15,11 @@ use Rattle.qw_expr.specs.Inner.Made.{Made, with_operand}
 use Rattle.qw_expr.proofs.Abbreviations.{among_first, among_known, among_typed, matched_known, matched_typed, between_first, cases_at, compared_first, matched_before, null_if_before}
 use Rattle.qw_expr.proofs.Choices.{results_suit}
 use Rattle.qw_expr.proofs.Comparable.{comparable_kinds}
+use Rattle.qw_expr.proofs.Extents.{comparing_most}
 use Rattle.qw_expr.proofs.Literals.{date_small}
 use Rattle.qw_expr.proofs.Nulls.{below_more}
 use Rattle.qw_expr.proofs.TreeChoices.{begun_served, choice_made, coalesced_made, first_made, made_more, null_where_made}
+use Rattle.qw_expr.proofs.TreeExtents.{among_extent, and_extent, arithmetic_extent, between_extent, brought_extent, case_extent, coalesced_extent, compared_extent, extract_extent, is_null_extent, last_extent, last_match_extent, match_extent, negative_extent, null_if_extent, only_extent, or_extent, pair_extent, then_extent, turned_extent}
 use Rattle.qw_expr.proofs.Trees.{begun_at, compared_made, includes_same, junction_made, leaf_made, made_of, one_made, rest_served, scale_low, served_more, shared_made, shared_truth_made, tested_made, turned_made, two_made, with_served}
 use Rattle.qw_expr.proofs.tree.+tree.Goals as goal
 
@@ -88,7 +90,6 @@ branch-returns-in_ok-a-in-Else-clause-emits t c =
 pub branch-expression-requires-in-When : goal.branch-expression-requires-in-When
 branch-expression-requires-in-When t c =
     let test = condition_of c.in-When.test.value in
-    let result = expression_of c.in-When.result.value in
     let mt = rw c.deref-in-When.ensures at c.in_ok-t-in-When.ensures.emits in
     let served = begun_served (known_of c.args.known.now) (known_of c.args.known.now) test c.args.form.text c.args.emitter.now c.condition.new.emitter c.begin_choice.new.self c.in_ok-t-in-When.t c.in_ok-place-in-When.place c.requires.served mt c.in_ok-place-in-When.ensures.emits in
     let typed = rw c.in-When.is at c.requires.typed in
@@ -201,7 +202,6 @@ pub matched-expression-requires : goal.matched-expression-requires
 matched-expression-requires t c =
     let e = (expression_of c.args.operand.now) in
     let v = expression_of c.in-Last.wanted.value in
-    let result = expression_of c.in-Last.result.value in
     let test = comparison Equal e v in
     let mt = rw c.deref.ensures at c.in_ok-t-in-Last.ensures.emits in
     let typed = rw c.in-Last.is at c.requires.typed in
@@ -266,7 +266,6 @@ pub matched-expression-requires-in-When : goal.matched-expression-requires-in-Wh
 matched-expression-requires-in-When t c =
     let e = (expression_of c.args.operand.now) in
     let v = expression_of c.in-When.wanted.value in
-    let result = expression_of c.in-When.result.value in
     let test = comparison Equal e v in
     let mt = rw c.deref-in-When.ensures at c.in_ok-t-in-When.ensures.emits in
     let typed = rw c.in-When.is at c.requires.typed in
@@ -316,7 +315,6 @@ matched-returns-in_ok-second-in-When-clause-emits t c =
 pub condition-against-requires : goal.condition-against-requires
 condition-against-requires t c =
     let e = expression_of c.in-Compare.left.value in
-    let r = expression_of c.in-Compare.right.value in
     let made = rw c.deref.ensures at c.in_ok-x-in-Compare.ensures.emits in
     let typed = rw c.in-Compare.is at c.requires.typed in
     let known = rw c.in-Compare.is at c.requires.known in (
@@ -345,8 +343,6 @@ condition-returns-in_ok-x-in-Compare-clause-emits t c =
 pub condition-against-requires-in-Between : goal.condition-against-requires-in-Between
 condition-against-requires-in-Between t c =
     let e = expression_of c.in-Between.operand.value in
-    let low = expression_of c.in-Between.least.value in
-    let high = expression_of c.in-Between.greatest.value in
     let made = rw c.deref-in-Between.ensures at c.in_ok-x-in-Between.ensures.emits in
     let served_x = with_served (known_of c.args.known.now) e c.args.emitter.now c.expression-in-Between.new.emitter c.in_ok-x-in-Between.x made in
     let typed = rw c.in-Between.is at c.requires.typed in
@@ -356,10 +352,6 @@ condition-against-requires-in-Between t c =
 pub condition-against-requires-in-Between-2 : goal.condition-against-requires-in-Between-2
 condition-against-requires-in-Between-2 t c =
     let e = expression_of c.in-Between.operand.value in
-    let low = expression_of c.in-Between.least.value in
-    let high = expression_of c.in-Between.greatest.value in
-    let made = rw c.deref-in-Between.ensures at c.in_ok-x-in-Between.ensures.emits in
-    let served_x = with_served (known_of c.args.known.now) e c.args.emitter.now c.expression-in-Between.new.emitter c.in_ok-x-in-Between.x made in
     let typed = rw c.in-Between.is at c.requires.typed in
     let known = rw c.in-Between.is at c.requires.known in
     let mt = rw (c.deref-in-Between-2.ensures, c.deref-in-Between-3.ensures) at c.in_ok-t-in-Between.ensures.emits in
@@ -373,8 +365,6 @@ condition-returns-in_ok-u-in-Between-clause-emits t c =
     let high = expression_of c.in-Between.greatest.value in
     let made = rw c.deref-in-Between.ensures at c.in_ok-x-in-Between.ensures.emits in
     let served_x = with_served (known_of c.args.known.now) e c.args.emitter.now c.expression-in-Between.new.emitter c.in_ok-x-in-Between.x made in
-    let typed = rw c.in-Between.is at c.requires.typed in
-    let known = rw c.in-Between.is at c.requires.known in
     let mt = rw (c.deref-in-Between-2.ensures, c.deref-in-Between-3.ensures) at c.in_ok-t-in-Between.ensures.emits in
     let mu = rw (c.deref-in-Between-4.ensures, c.deref-in-Between-5.ensures) at c.in_ok-u-in-Between.ensures.emits in
     let first = between_first e low high in
@@ -391,7 +381,6 @@ condition-returns-in_ok-u-in-Between-clause-emits t c =
 pub condition-among-requires : goal.condition-among-requires
 condition-among-requires t c =
     let e = expression_of c.in-In.operand.value in
-    let vs = expressions_of c.in-In.values.value in
     let made = rw c.deref-in-In.ensures at c.in_ok-x-in-In.ensures.emits in
     let typed = rw c.in-In.is at c.requires.typed in
     let known = rw c.in-In.is at c.requires.known in (
@@ -606,7 +595,6 @@ expression-returns-in_ok-x-in-Match-clause-emits t c =
 pub expression-against-requires : goal.expression-against-requires
 expression-against-requires t c =
     let e = expression_of c.in-NullIf.left.value in
-    let r = expression_of c.in-NullIf.right.value in
     let made = rw c.deref-in-NullIf.ensures at c.in_ok-x-in-NullIf.ensures.emits in
     let served_x = with_served (known_of c.args.known.now) e c.args.emitter.now c.expression-in-NullIf.new.emitter c.in_ok-x-in-NullIf.x made in
     let typed = rw c.in-NullIf.is at c.requires.typed in
@@ -682,3 +670,123 @@ expression-expression-requires-in-Match t c =
     let typed = rw c.in-Match.is at c.requires.typed in
     let known = rw c.in-Match.is at c.requires.known in
     (search (rules, the_lemmas), (rw c.deref-in-Match.ensures (matched_typed to matches e typed), (rw c.deref-in-Match.ensures (matched_known (known_of c.args.known.now) to matches e known), c.requires.served)))
+
+-- ---- how much is emitted
+pub against-returns-clause-short : goal.against-returns-clause-short
+against-returns-clause-short t c =
+    on_ok _ _ c.compare.result (λ last. then_extent _ _ _ _ _ c.in_ok-y.ensures.short last) c.compare.ensures.short
+
+pub among-returns-in-Last-clause-short : goal.among-returns-in-Last-clause-short
+among-returns-in-Last-clause-short t c =
+    rw c.in-Last.is
+    (on_ok _ _ c.against.result (λ last. last_extent _ _ _ last) (rw c.deref.ensures at c.against.ensures.short))
+
+pub among-returns-in_ok-u-in-More-clause-short : goal.among-returns-in_ok-u-in-More-clause-short
+among-returns-in_ok-u-in-More-clause-short t c =
+    rw c.in-More.is
+    (on_ok _ _ c.end_or.result (λ last. among_extent _ _ _ _ _ _ _ (rw c.deref-in-More.ensures at c.in_ok-t-in-More.ensures.short) c.in_ok-begin_or-in-More.ensures.short (rw c.deref-in-More-2.ensures at c.in_ok-u-in-More.ensures.short) last) c.end_or.ensures.short)
+
+pub branch-returns-in_ok-a-in-Else-clause-short : goal.branch-returns-in_ok-a-in-Else-clause-short
+branch-returns-in_ok-a-in-Else-clause-short t c =
+    rw c.in-Else.is
+    (on_ok _ _ c.brought.result (λ last. brought_extent _ _ _ _ (rw c.deref.ensures at c.in_ok-a-in-Else.ensures.short) last) c.brought.ensures.short)
+
+pub branch-returns-in_ok-second-in-When-clause-short : goal.branch-returns-in_ok-second-in-When-clause-short
+branch-returns-in_ok-second-in-When-clause-short t c =
+    rw c.in-When.is
+    (on_ok _ _ c.end_choice.result (λ last. case_extent _ _ _ _ _ _ _ _ _ _ (rw c.deref-in-When.ensures at c.in_ok-t-in-When.ensures.short) c.in_ok-place-in-When.ensures.short (rw c.deref-in-When-2.ensures at c.in_ok-a-in-When.ensures.short) c.in_ok-first-in-When.ensures.short (rw c.deref-in-When-3.ensures at c.in_ok-second-in-When.ensures.short) last) c.end_choice.ensures.short)
+
+pub coalesce-returns-in_ok-a-in-Last-clause-short : goal.coalesce-returns-in_ok-a-in-Last-clause-short
+coalesce-returns-in_ok-a-in-Last-clause-short t c =
+    rw c.in-Last.is
+    (on_ok _ _ c.brought.result (λ last. brought_extent _ _ _ _ (rw c.deref.ensures at c.in_ok-a-in-Last.ensures.short) last) c.brought.ensures.short)
+
+pub coalesce-returns-in_ok-second-in-More-clause-short : goal.coalesce-returns-in_ok-second-in-More-clause-short
+coalesce-returns-in_ok-second-in-More-clause-short t c =
+    rw c.in-More.is
+    (on_ok _ _ c.end_choice.result (λ last. coalesced_extent _ _ _ _ _ _ _ (rw c.deref-in-More.ensures at c.in_ok-x-in-More.ensures.short) c.in_ok-begun-in-More.ensures.short (rw c.deref-in-More-3.ensures at c.in_ok-second-in-More.ensures.short) last) c.end_choice.ensures.short)
+
+pub matched-returns-in_ok-second-in-Last-clause-short : goal.matched-returns-in_ok-second-in-Last-clause-short
+matched-returns-in_ok-second-in-Last-clause-short t c =
+    rw c.in-Last.is
+    (on_ok _ _ c.end_choice.result (λ last. last_match_extent _ _ _ _ _ _ _ _ _ _ _ (rw c.deref.ensures at c.in_ok-t-in-Last.ensures.short) c.in_ok-place-in-Last.ensures.short (rw c.deref-in-Last.ensures at c.in_ok-a-in-Last.ensures.short) c.in_ok-first-in-Last.ensures.short (rw c.deref-in-Last-2.ensures at c.in_ok-b-in-Last.ensures.short) c.in_ok-second-in-Last.ensures.short last) c.end_choice.ensures.short)
+
+pub matched-returns-in_ok-second-in-When-clause-short : goal.matched-returns-in_ok-second-in-When-clause-short
+matched-returns-in_ok-second-in-When-clause-short t c =
+    rw c.in-When.is
+    (on_ok _ _ c.end_choice-in-When.result (λ last. match_extent _ _ _ _ _ _ _ _ _ _ (rw c.deref-in-When.ensures at c.in_ok-t-in-When.ensures.short) c.in_ok-place-in-When.ensures.short (rw c.deref-in-When-2.ensures at c.in_ok-a-in-When.ensures.short) c.in_ok-first-in-When.ensures.short (rw c.deref-in-When-3.ensures at c.in_ok-second-in-When.ensures.short) last) c.end_choice-in-When.ensures.short)
+
+pub condition-returns-in_ok-x-in-Compare-clause-short : goal.condition-returns-in_ok-x-in-Compare-clause-short
+condition-returns-in_ok-x-in-Compare-clause-short t c =
+    rw c.in-Compare.is
+    (on_ok _ _ c.against.result (λ last. compared_extent _ _ _ _ _ _ (comparing_most c.in-Compare.operator) (rw c.deref.ensures at c.in_ok-x-in-Compare.ensures.short) last) (rw c.deref-in-Compare.ensures at c.against.ensures.short))
+
+pub condition-returns-in_ok-u-in-Between-clause-short : goal.condition-returns-in_ok-u-in-Between-clause-short
+condition-returns-in_ok-u-in-Between-clause-short t c =
+    rw c.in-Between.is
+    (on_ok _ _ c.end_and.result (λ last. between_extent _ _ _ _ _ _ _ _ _ (rw c.deref-in-Between.ensures at c.in_ok-x-in-Between.ensures.short) (rw c.deref-in-Between-2.ensures at c.in_ok-t-in-Between.ensures.short) c.in_ok-begin_and-in-Between.ensures.short (rw c.deref-in-Between-4.ensures at c.in_ok-u-in-Between.ensures.short) last) c.end_and.ensures.short)
+
+pub condition-returns-in_ok-x-in-In-clause-short : goal.condition-returns-in_ok-x-in-In-clause-short
+condition-returns-in_ok-x-in-In-clause-short t c =
+    rw c.in-In.is
+    (on_ok _ _ c.among.result (λ last. pair_extent _ _ _ _ _ (rw c.deref-in-In.ensures at c.in_ok-x-in-In.ensures.short) last) (rw c.deref-in-In-2.ensures at c.among.ensures.short))
+
+pub condition-returns-in_ok-x-in-IsNull-clause-short : goal.condition-returns-in_ok-x-in-IsNull-clause-short
+condition-returns-in_ok-x-in-IsNull-clause-short t c =
+    rw c.in-IsNull.is
+    (on_ok _ _ c.is_null.result (λ last. is_null_extent _ _ _ _ (rw c.deref-in-IsNull.ensures at c.in_ok-x-in-IsNull.ensures.short) last) c.is_null.ensures.short)
+
+pub condition-returns-in_ok-u-in-And-clause-short : goal.condition-returns-in_ok-u-in-And-clause-short
+condition-returns-in_ok-u-in-And-clause-short t c =
+    rw c.in-And.is
+    (on_ok _ _ c.end_and-in-And.result (λ last. and_extent _ _ _ _ _ _ _ (rw c.deref-in-And.ensures at c.in_ok-t-in-And.ensures.short) c.in_ok-begin_and-in-And.ensures.short (rw c.deref-in-And-2.ensures at c.in_ok-u-in-And.ensures.short) last) c.end_and-in-And.ensures.short)
+
+pub condition-returns-in_ok-u-in-Or-clause-short : goal.condition-returns-in_ok-u-in-Or-clause-short
+condition-returns-in_ok-u-in-Or-clause-short t c =
+    rw c.in-Or.is
+    (on_ok _ _ c.end_or.result (λ last. or_extent _ _ _ _ _ _ _ (rw c.deref-in-Or.ensures at c.in_ok-t-in-Or.ensures.short) c.in_ok-begin_or-in-Or.ensures.short (rw c.deref-in-Or-2.ensures at c.in_ok-u-in-Or.ensures.short) last) c.end_or.ensures.short)
+
+pub condition-returns-in_ok-t-in-Not-clause-short : goal.condition-returns-in_ok-t-in-Not-clause-short
+condition-returns-in_ok-t-in-Not-clause-short t c =
+    rw c.in-Not.is
+    (on_ok _ _ c.negation.result (λ last. turned_extent _ _ _ _ (rw c.deref-in-Not.ensures at c.in_ok-t-in-Not.ensures.short) last) c.negation.ensures.short)
+
+pub condition-returns-in_ok-t-in-Is-clause-short : goal.condition-returns-in_ok-t-in-Is-clause-short
+condition-returns-in_ok-t-in-Is-clause-short t c =
+    rw c.in-Is.is
+    (on_ok _ _ c.is_truth.result (λ last. turned_extent _ _ _ _ (rw c.deref-in-Is.ensures at c.in_ok-t-in-Is.ensures.short) last) c.is_truth.ensures.short)
+
+pub expression-returns-in_ok-b-in-Arithmetic-clause-short : goal.expression-returns-in_ok-b-in-Arithmetic-clause-short
+expression-returns-in_ok-b-in-Arithmetic-clause-short t c =
+    rw c.in-Arithmetic.is
+    (on_ok _ _ c.arithmetic.result (λ last. arithmetic_extent _ _ _ _ _ _ (rw c.deref.ensures at c.in_ok-a-in-Arithmetic.ensures.short) (rw c.deref-in-Arithmetic.ensures at c.in_ok-b-in-Arithmetic.ensures.short) last) c.arithmetic.ensures.short)
+
+pub expression-returns-in_ok-a-in-Negative-clause-short : goal.expression-returns-in_ok-a-in-Negative-clause-short
+expression-returns-in_ok-a-in-Negative-clause-short t c =
+    rw c.in-Negative.is
+    (on_ok _ _ c.negative.result (λ last. negative_extent _ _ _ _ (rw c.deref-in-Negative.ensures at c.in_ok-a-in-Negative.ensures.short) last) c.negative.ensures.short)
+
+pub expression-returns-in_ok-a-in-Extract-clause-short : goal.expression-returns-in_ok-a-in-Extract-clause-short
+expression-returns-in_ok-a-in-Extract-clause-short t c =
+    rw c.in-Extract.is
+    (on_ok _ _ c.extract.result (λ last. extract_extent _ _ _ _ (rw c.deref-in-Extract.ensures at c.in_ok-a-in-Extract.ensures.short) last) c.extract.ensures.short)
+
+pub expression-returns-in-Case-clause-short : goal.expression-returns-in-Case-clause-short
+expression-returns-in-Case-clause-short t c =
+    rw c.in-Case.is
+    (on_ok _ _ c.branch-emitter.result (λ last. only_extent _ _ _ last) (rw c.deref-in-Case.ensures at c.branch-emitter.ensures.short))
+
+pub expression-returns-in-Coalesce-clause-short : goal.expression-returns-in-Coalesce-clause-short
+expression-returns-in-Coalesce-clause-short t c =
+    rw c.in-Coalesce.is
+    (on_ok _ _ c.coalesce.result (λ last. only_extent _ _ _ last) (rw c.deref-in-Coalesce.ensures at c.coalesce.ensures.short))
+
+pub expression-returns-in_ok-x-in-Match-clause-short : goal.expression-returns-in_ok-x-in-Match-clause-short
+expression-returns-in_ok-x-in-Match-clause-short t c =
+    rw c.in-Match.is
+    (on_ok _ _ c.matched.result (λ last. pair_extent _ _ _ _ _ (rw c.deref-in-Match.ensures at c.in_ok-x-in-Match.ensures.short) last) (rw c.deref-in-Match-2.ensures at c.matched.ensures.short))
+
+pub expression-returns-in_ok-t-in-NullIf-clause-short : goal.expression-returns-in_ok-t-in-NullIf-clause-short
+expression-returns-in_ok-t-in-NullIf-clause-short t c =
+    rw c.in-NullIf.is
+    (on_ok _ _ c.null_where.result (λ last. null_if_extent _ _ _ _ _ _ (rw c.deref-in-NullIf.ensures at c.in_ok-x-in-NullIf.ensures.short) (rw c.deref-in-NullIf-2.ensures at c.in_ok-t-in-NullIf.ensures.short) last) c.null_where.ensures.short)
