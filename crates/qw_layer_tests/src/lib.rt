@@ -1,5 +1,5 @@
 //! The tests of single layers below the bench that need more than one crate. They stand apart from those of whole runs, so that
-//! both are proved side by side.
+//! both are proved side by side; those of the layers that read texts are rows of `qw_text_cases`.
 #![tactic(auto)]
 
 #[cfg(test)]
@@ -39,14 +39,8 @@ mod random_values;
 #[cfg(test)]
 mod row_programs;
 #[cfg(test)]
-mod scripts;
-#[cfg(test)]
 mod shares;
 #[cfg(test)]
 mod sources_and_sinks;
-#[cfg(test)]
-mod texts;
-#[cfg(test)]
-mod tokens;
 #[cfg(test)]
 mod worked_queries;

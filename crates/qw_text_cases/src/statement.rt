@@ -380,7 +380,7 @@ fn put_statement(out: &mut Line, statement: &Statement<'_>) {
 }
 
 /// The statement in one line.
-pub(crate) fn shown(alloc: Global, statement: &Statement<'_>) -> Result<Vec<u8>, AllocError> {
+fn shown(alloc: Global, statement: &Statement<'_>) -> Result<Vec<u8>, AllocError> {
     let mut out = Line {
         octets: Vec::new(alloc),
         is_whole: true,
@@ -391,4 +391,13 @@ pub(crate) fn shown(alloc: Global, statement: &Statement<'_>) -> Result<Vec<u8>,
     } else {
         Err(AllocError)
     }
+}
+
+/// Adds the statement in one line.
+pub fn put_shown(
+    alloc: Global,
+    out: &mut Vec<u8>,
+    statement: &Statement<'_>,
+) -> Result<(), AllocError> {
+    out.extend_from_slice(&shown(alloc, statement)?)
 }
