@@ -1,23 +1,13 @@
-//! The tests of table files, benches, reports and whole runs, and their tables. A crate with tests is proved twice, so they
-//! stand together.
+//! The tests of benches in turns, of calls whose outside is made for them, and of texts that no whole call shows. A crate with tests is
+//! proved twice, so they stand together.
 #![tactic(auto)]
 
 #[cfg(test)]
-mod command_lines;
-#[cfg(test)]
-mod expressions;
-#[cfg(test)]
-mod first_pages;
+mod empty_fields;
 #[cfg(test)]
 mod generated_input;
 #[cfg(test)]
-mod many_statements;
-#[cfg(test)]
-mod noted_lines;
-#[cfg(test)]
-mod ordered_rows;
-#[cfg(test)]
-mod page_limits;
+mod long_table;
 #[cfg(test)]
 mod reports;
 #[cfg(test)]
@@ -25,14 +15,10 @@ mod schedules;
 #[cfg(test)]
 mod step_limits;
 #[cfg(test)]
-mod table_files;
-#[cfg(test)]
-mod table_values;
-#[cfg(test)]
 mod tables;
 #[cfg(test)]
-mod whole_files;
+mod want_of_memory;
 #[cfg(test)]
-mod whole_runs;
+mod whole_files;
 #[cfg(test)]
 mod written_texts;

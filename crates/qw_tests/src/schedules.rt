@@ -1,35 +1,7 @@
-// Compiled statements beside comparisons of numbers, whatever turns they are given, and the octets that a run leaves.
+// Compiled statements beside comparisons of numbers, whatever turns they are given.
 
-use crate::tables::{DEFAULT_LIMITS, bench_of, differs, end_of, narrow};
-use qw_bench::bench::{Bench, Ended};
 use qw_scalar::comparison::Comparison;
 use std::alloc::{AllocError, Global};
-use std::test::Fail;
-
-const STORED: [i32; 3] = [4, 1, 7];
-
-// How many instructions a run over the stored table takes, as docs/THEOREMS.md counts them by hand.
-const STEPS: u64 = 108;
-
-// The first octets of the stored table's memory after the run, by the addresses where they begin: the column, the
-// descriptor and the one result row. Eight octets a line.
-const OCTETS: [(u64, [u8; 8]); 15] = [
-    (64, [4, 0, 0, 0, 1, 0, 0, 0]),
-    (72, [7, 0, 0, 0, 0, 0, 0, 0]),
-    (65_536, [0x68, 0, 1, 0, 0, 0, 2, 0]),
-    (65_544, [0x50, 0, 1, 0, 0x50, 0, 1, 0]),
-    (65_552, [1, 0, 0, 0, 0, 0, 0, 0]),
-    (65_560, [0; 8]),
-    (65_568, [0; 8]),
-    (65_576, [0; 8]),
-    (65_584, [0; 8]),
-    (65_592, [0; 8]),
-    (65_600, [64, 0, 0, 0, 0, 0, 0, 0]),
-    (65_608, [0, 0, 0, 0, 3, 0, 0, 0]),
-    (65_616, [0; 8]),
-    (65_624, [7, 0, 0, 0, 0, 0, 0, 0]),
-    (65_632, [0; 8]),
-];
 
 // The next state of a linear congruential generator.
 fn next_random(state: u32) -> u32 {
@@ -64,12 +36,6 @@ fn query_text(alloc: Global, comparison: Comparison, literal: i64) -> Result<Str
     format!(in alloc; "SELECT A FROM T WHERE A {symbol} {literal}")
 }
 
-// A bench of the stored table and its query, before its first turn.
-fn stored_bench(alloc: Global) -> Result<Bench, Fail> {
-    let file = table_file(alloc, &STORED)?;
-    bench_of(alloc, narrow(alloc)?, file.as_bytes(), DEFAULT_LIMITS)
-}
-
 fn compares(comparison: Comparison, number: i64, literal: i64) -> bool {
     match comparison {
         Comparison::Equal => number == literal,
@@ -98,15 +64,6 @@ fn kept_numbers(
         }
     }
     Ok(numbers)
-}
-
-#[test]
-fn a_run_leaves_these_octets(rt: HostRuntime) -> Result<(), Fail> {
-    let mut bench = stored_bench(rt.alloc())?;
-    bench.run_all(u64::MAX);
-    let other = differs(bench.memory(), &OCTETS);
-    assert_eq!(rt; (end_of(&bench), other), ((Some(Ended::Done), STEPS), None));
-    Ok(())
 }
 
 mod columns;

@@ -1,7 +1,8 @@
-// An instance at its limit of instructions, and turns at their quantum.
+// Turns at their quantum.
 
-use crate::tables::{bench_of, end_of, narrow};
+use crate::tables::{bench_over, end_of};
 use qw_bench::bench::{Bench, Ended, Limits};
+use qw_schema::parse::schema_of;
 use std::alloc::Global;
 use std::test::Fail;
 
@@ -10,26 +11,10 @@ const STEPS: u64 = 108;
 
 // A bench over (4), (1), (7) whose instance may run so many instructions, before its first turn.
 fn limited(alloc: Global, steps: u64) -> Result<Bench, Fail> {
+    let schema = schema_of(alloc, b"CREATE TABLE T (A INTEGER NOT NULL)")?;
+    let script = b"SELECT A FROM T WHERE A > 5";
     let limits = Limits { pages: 1, steps };
-    bench_of(alloc, narrow(alloc)?, b"A\n4\n1\n7\n", limits)
-}
-
-// How an instance with this limit ends, and how many instructions it runs.
-fn end_at(alloc: Global, limit: u64) -> Result<(Option<Ended>, u64), Fail> {
-    let mut bench = limited(alloc, limit)?;
-    bench.run_all(10_000);
-    Ok(end_of(&bench))
-}
-
-#[test]
-fn a_run_of_108_instructions_needs_a_limit_of_108(rt: HostRuntime) -> Result<(), Fail> {
-    let alloc = rt.alloc();
-    assert_eq!(rt; end_at(alloc, STEPS)?, (Some(Ended::Done), 108));
-    assert_eq!(rt;
-        end_at(alloc, STEPS - 1)?,
-        (Some(Ended::Steps { limit: 107 }), 107)
-    );
-    Ok(())
+    Ok(bench_over(alloc, &schema, b"A\n4\n1\n7\n", script, &[limits])??)
 }
 
 // The quanta of one turn after another, how many instructions each ran, and after it the end and the count of all.

@@ -1,27 +1,24 @@
 //! Tables, files and benches that several tests use.
 
-ghost use Rattle.std.specs.Prelude.{◌≡◌, ◌≤◌, IfOk, IsTrue, true};
+ghost use Rattle.std.specs.Prelude.{◌≤◌, IfOk, IsTrue};
 ghost use Rattle.std.specs.List.{AllByRecursion};
-ghost use Rattle.qw_types.specs.declared.value.Ty.TheVariants.{Integer};
 ghost use Rattle.qw_bench.specs.Standing.{AreLimits};
 ghost use Rattle.qw_top.specs.Inner.Queries.{IsOver};
 ghost use Rattle.qw_top.specs.Inner.Stages.{AreContentsOf, IsContentsOf};
 
 use qw_bench::bench::{Bench, BenchFault, Ended, Limits, MAX_JOBS, MAX_STEPS};
+use qw_csv::Loaded;
 use qw_csv::loading::{LoadFault, load};
-use qw_csv::{CellFault, Loaded};
 use qw_io::{MemoryShelf, MemorySink, NamedFile, Shelf, Sink};
 use qw_linear::linear::{Linear, MAX_PAGES};
-use qw_sink::sink::Head;
 use qw_top::status::Status;
 use qw_top::top::program::job_of;
 use qw_top::top::queries::queries_of;
 use qw_top::top::qwasm;
 use qw_typer::query::TypedQuery;
 use qw_types::schema::MAX_TABLES;
-use qw_types::{Column, Columns, Kind, Schema, Table, Text, Ty};
+use qw_types::{Schema, Table};
 use std::alloc::{AllocError, Global};
-use std::process::Abort;
 use std::test::Fail;
 
 /// Limits that no test meets by them.
@@ -32,34 +29,6 @@ pub const DEFAULT_LIMITS: Limits = Limits {
 
 /// The words of a run over the files of a `shelf`.
 pub const WORDS: [&str; 4] = ["run", "s", "d", "q"];
-
-fn integer(alloc: Global, name: &str) -> Result<Column, AllocError>
-    ensures { IfOk result (λ c. (c.name ≡ name.now) × (c.ty ≡ Integer) × (c.not_null ≡ true)) }
-{
-    Ok(Column {
-        name: Text::new(String::from_str(alloc, name)?),
-        ty: Ty::Integer,
-        not_null: true,
-    })
-}
-
-/// CREATE TABLE T ( A INTEGER NOT NULL )
-pub fn narrow(alloc: Global) -> Result<Table, AllocError> {
-    let columns = vec![in alloc; integer(alloc, "A")?]?;
-    Ok(Table {
-        name: Text::new(String::from_str(alloc, "T")?),
-        columns: Columns::new(columns),
-    })
-}
-
-/// CREATE TABLE T ( A INTEGER NOT NULL , B INTEGER NOT NULL )
-pub fn wide(alloc: Global) -> Result<Table, AllocError> {
-    let columns = vec![in alloc; integer(alloc, "A")?, integer(alloc, "B")?]?;
-    Ok(Table {
-        name: Text::new(String::from_str(alloc, "T")?),
-        columns: Columns::new(columns),
-    })
-}
 
 /// The file of a table: a header, and so many times the same record.
 pub fn file_of(
@@ -80,31 +49,6 @@ pub fn sevens(alloc: Global, rows: usize) -> Result<Vec<u8>, AllocError> {
     file_of(alloc, b"A\n", b"7\n", rows)
 }
 
-/// Asserts that a file is refused as one of a table, for this fault.
-pub fn assert_refused(
-    rt: &impl Abort,
-    alloc: Global,
-    table: &Table,
-    bytes: &[u8],
-    fault: LoadFault,
-) {
-    assert_eq!(rt; load(alloc, table, bytes).err(), Some(fault));
-}
-
-/// Asserts that a file is refused for a field at fault, by the numbers of its record and its column.
-pub fn assert_field_refused(
-    rt: &impl Abort,
-    alloc: Global,
-    table: &Table,
-    bytes: &[u8],
-    row: usize,
-    column: usize,
-    fault: CellFault,
-) {
-    let fault = LoadFault::Field { row, column, fault };
-    assert_refused(rt, alloc, table, bytes, fault);
-}
-
 /// A file of a shelf.
 pub fn file(alloc: Global, name: &str, bytes: &[u8]) -> Result<NamedFile, AllocError> {
     Ok(NamedFile {
@@ -121,20 +65,8 @@ pub fn shelf(
     table: &[u8],
     query: &[u8],
 ) -> Result<MemoryShelf, AllocError> {
-    shelf_of(alloc, schema, &[("d/t.csv", table)], query)
-}
-
-/// The same with the files of tables, each under its name.
-pub fn shelf_of(
-    alloc: Global,
-    schema: &[u8],
-    tables: &[(&str, &[u8])],
-    query: &[u8],
-) -> Result<MemoryShelf, AllocError> {
     let mut files = vec![in alloc; file(alloc, "s", schema)?, file(alloc, "q", query)?]?;
-    for (name, table) in tables {
-        files.push(file(alloc, name, table)?)?;
-    }
+    files.push(file(alloc, "d/t.csv", table)?)?;
     Ok(MemoryShelf::new(files, 7, Vec::new(alloc)))
 }
 
@@ -145,28 +77,6 @@ pub fn words(alloc: Global, texts: &[&str]) -> Result<Vec<String>, AllocError> {
         words.push(String::from_str(alloc, text)?)?;
     }
     Ok(words)
-}
-
-/// A bench of `SELECT A FROM T WHERE A > 5` over the file of a table T, before its first turn.
-pub fn bench_of(alloc: Global, table: Table, file: &[u8], limits: Limits) -> Result<Bench, Fail> {
-    Ok(bench_or_fault(alloc, table, file, limits)??)
-}
-
-/// The same bench, or why there is none.
-pub fn bench_or_fault(
-    alloc: Global,
-    table: Table,
-    file: &[u8],
-    limits: Limits,
-) -> Result<Result<Bench, BenchFault>, Fail> {
-    let schema = Schema::new(vec![in alloc; table]?);
-    bench_over(
-        alloc,
-        &schema,
-        file,
-        b"SELECT A FROM T WHERE A > 5",
-        &[limits],
-    )
 }
 
 /// A bench of the queries of a script over the file of a schema's one table, each under its limits, before its first turn; or why
@@ -285,98 +195,6 @@ pub fn call<F: Shelf, O: Sink>(
     let mut kept = None;
     let status = qwasm(alloc, words.as_slice(), files, out, notes, &mut kept);
     Ok((status, kept))
-}
-
-/// How a call has to end: what is written and what is noted, and whether there is a bench.
-#[derive(Drop)]
-pub struct End<'a> {
-    pub status: Status,
-    pub report: &'a [u8],
-    pub noted: &'a [u8],
-    pub keeps: bool,
-}
-
-/// The end of a run whose queries all have rows.
-pub fn done(report: &[u8]) -> End<'_> {
-    End {
-        status: Status::Done,
-        report,
-        noted: b"",
-        keeps: true,
-    }
-}
-
-/// The end of a call that is refused, with a line on why.
-pub fn refused(status: Status, line: &[u8]) -> End<'_> {
-    End {
-        status,
-        report: b"",
-        noted: line,
-        keeps: false,
-    }
-}
-
-/// Asserts how a call ends that writes to these sinks, and answers its bench.
-pub fn ended<F: Shelf>(
-    rt: &impl Abort,
-    alloc: Global,
-    files: &mut F,
-    texts: &[&str],
-    (mut out, mut notes): (MemorySink, MemorySink),
-    end: &End<'_>,
-) -> Result<Option<Bench>, Fail> {
-    let (status, kept) = call(alloc, files, texts, &mut out, &mut notes)?;
-    assert_eq!(rt;
-        (status, out.bytes(), notes.bytes(), kept.is_some()),
-        (end.status, end.report, end.noted, end.keeps)
-    );
-    Ok(kept)
-}
-
-/// Asserts how a call ends that writes to these sinks.
-pub fn assert_ends<F: Shelf>(
-    rt: &impl Abort,
-    alloc: Global,
-    files: &mut F,
-    texts: &[&str],
-    sinks: (MemorySink, MemorySink),
-    end: &End<'_>,
-) -> Result<(), Fail> {
-    ended(rt, alloc, files, texts, sinks, end)?;
-    Ok(())
-}
-
-/// Asserts how a run over these files ends, and answers its bench.
-pub fn ended_run(
-    rt: &impl Abort,
-    alloc: Global,
-    schema: &[u8],
-    table: &[u8],
-    query: &[u8],
-    end: &End<'_>,
-) -> Result<Option<Bench>, Fail> {
-    let mut files = shelf(alloc, schema, table, query)?;
-    let sinks = (sink(alloc, 4_096), sink(alloc, 5));
-    ended(rt, alloc, &mut files, &WORDS, sinks, end)
-}
-
-/// The bench that a run over these files leaves.
-pub fn left(alloc: Global, schema: &[u8], table: &[u8], query: &[u8]) -> Result<Bench, Fail> {
-    let mut files = shelf(alloc, schema, table, query)?;
-    let mut out = sink(alloc, 4_096);
-    let mut notes = sink(alloc, 1);
-    let (_, kept) = call(alloc, &mut files, &WORDS, &mut out, &mut notes)?;
-    Ok(kept.ok_or("no bench")?)
-}
-
-/// The heads of columns of one kind.
-pub fn heads(alloc: Global, names: &[&str], kind: Kind) -> Result<Vec<Head>, AllocError> {
-    let mut heads = Vec::new(alloc);
-    for name in names {
-        let name = Text::new(String::from_str(alloc, name)?);
-        heads.push(Head { name, kind })?;
-    }
-    Ok(heads)
 }
 
 /// The first address from which a memory has other octets than these.

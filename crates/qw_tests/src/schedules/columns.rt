@@ -11,42 +11,9 @@ use std::test::Fail;
 
 const SCHEMA: &[u8] = b"CREATE TABLE T (A INTEGER NOT NULL)";
 
-// The least value of a column, the one after it, and the two greatest.
-const BOUNDS: &[i32] = &[-2_147_483_648, -2_147_483_647, 2_147_483_646, 2_147_483_647];
-
-const GREATEST_LITERAL: i64 = 999_999_999_999_999_999;
-
 const MOST_ROWS: u32 = 2_727;
 
-// Values that a column repeats, how many rows it has, a literal, and how many rows are above it.
-const EDGES: [(&[i32], u32, i64, usize); 24] = [
-    (&[1], 0, 0, 0),
-    (&[1], 0, GREATEST_LITERAL, 0),
-    (&[-1], 1, 0, 0),
-    (&[0], 1, 0, 0),
-    (&[1], 1, 0, 1),
-    (&[1], 1, 1, 0),
-    (&[-1, 0, 1], 3, 0, 1),
-    (&[4, 6, 5, 6, 4], 5, 5, 2),
-    (BOUNDS, 4, 0, 2),
-    (BOUNDS, 4, 2_147_483_645, 2),
-    (BOUNDS, 4, 2_147_483_646, 1),
-    (BOUNDS, 4, 2_147_483_647, 0),
-    (BOUNDS, 4, 2_147_483_648, 0),
-    (BOUNDS, 4, 2_147_483_649, 0),
-    (BOUNDS, 4, 4_294_967_295, 0),
-    (BOUNDS, 4, 4_294_967_296, 0),
-    (BOUNDS, 4, GREATEST_LITERAL, 0),
-    (&[-2_147_483_648], MOST_ROWS, 0, 0),
-    (&[0], MOST_ROWS, 0, 0),
-    (&[1], MOST_ROWS, 0, 2_727),
-    (&[2_147_483_647], MOST_ROWS, 2_147_483_646, 2_727),
-    (&[2_147_483_647], MOST_ROWS, 2_147_483_647, 0),
-    (&[2_147_483_647, -2_147_483_648], MOST_ROWS, 0, 1_364),
-    (BOUNDS, MOST_ROWS, 2_147_483_646, 681),
-];
-
-// With the columns at the edges these make 200.
+// With the columns at the edges, which are cases of `qw_run_cases`, these make 200.
 const GENERATED: u32 = 176;
 
 // The comparison for the generated column of this number: each in its turn.
@@ -59,15 +26,6 @@ fn comparison_of(number: u32) -> Comparison {
         4 => Comparison::NotEqual,
         _ => Comparison::Equal,
     }
-}
-
-// So many values: these ones, over and over.
-fn repeated(alloc: Global, values: &[i32], rows: u32) -> Result<Vec<i32>, AllocError> {
-    let mut column = Vec::new(alloc);
-    for value in values.iter().cycle().take(rows as usize) {
-        column.push(*value)?;
-    }
-    Ok(column)
 }
 
 // A literal, negative or not: one of the least, one about the greatest INTEGER, any INTEGER, or one of up to 18 digits.
@@ -162,17 +120,6 @@ fn compared(
         (literal, Status::Done, report.as_bytes())
     );
     Ok(numbers.len())
-}
-
-#[test]
-fn columns_at_the_edges(rt: HostRuntime) -> Result<(), Fail> {
-    let alloc = rt.alloc();
-    for &(values, rows, literal, above) in &EDGES {
-        let column = repeated(alloc, values, rows)?;
-        let count = compared(&rt, alloc, column.as_slice(), Comparison::Greater, literal)?;
-        assert_eq!(rt; (literal, count), (literal, above));
-    }
-    Ok(())
 }
 
 // Asserts it of a generated column of a number, and answers the generator's state after it.

@@ -4,12 +4,11 @@
 ghost use Rattle.std.specs.Prelude.{◌≤◌};
 
 use super::next_random;
-use crate::expressions::compared::same_rows;
 use crate::tables::{DEFAULT_LIMITS, bench_over, bench_over_two, differs, sevens};
 use qw_bench::bench::{Bench, Ended};
 use qw_schema::parse::schema_of;
 use qw_sink::results::received;
-use qw_types::{Code, NoMemory, Row, Schema};
+use qw_types::{Code, NoMemory, Row, Schema, Val};
 use std::alloc::{AllocError, Global};
 use std::process::Abort;
 use std::test::Fail;
@@ -81,11 +80,38 @@ fn rows_of(alloc: Global, bench: &Bench, k: usize) -> Result<Vec<Row>, NoMemory>
     }
 }
 
-fn is_same(came: &Came, other: &Came) -> bool {
+fn is_same_end(came: &Came, other: &Came) -> bool {
     came.ended == other.ended
         && came.steps == other.steps
         && came.pages == other.pages
         && same_rows(came.rows.as_slice(), other.rows.as_slice())
+}
+
+// Whether these are the same rows in the same order.
+fn same_rows(rows: &[Row], others: &[Row]) -> bool {
+    rows.len() == others.len()
+        && rows
+            .iter()
+            .zip(others)
+            .all(|(row, other)| same_values(row.values(), other.values()))
+}
+
+fn same_values(values: &[Val], others: &[Val]) -> bool {
+    values.len() == others.len()
+        && values
+            .iter()
+            .zip(others)
+            .all(|(value, other)| is_same(value, other))
+}
+
+fn is_same(value: &Val, other: &Val) -> bool {
+    match (value, other) {
+        (Val::Null, Val::Null) => true,
+        (Val::Num(number), Val::Num(another)) => *number == *another,
+        (Val::Date(day), Val::Date(another)) => *day == *another,
+        (Val::Text(text), Val::Text(another)) => text.as_str() == another.as_str(),
+        _ => false,
+    }
 }
 
 // What each statement comes to alone.
@@ -157,7 +183,7 @@ fn turn_to_the_end(bench: &mut Bench, random: u32) -> u32 {
 // The number of the first instance of a bench that came to something else than its statement alone.
 fn first_other(alloc: Global, bench: &Bench, alone: &[Came]) -> Result<Option<usize>, Fail> {
     for (k, came) in alone.iter().enumerate() {
-        if !is_same(&came_to(alloc, bench, k)?, came) {
+        if !is_same_end(&came_to(alloc, bench, k)?, came) {
             return Ok(Some(k));
         }
     }

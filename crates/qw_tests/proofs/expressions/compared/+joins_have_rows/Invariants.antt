@@ -1,5 +1,0 @@
-use Rattle.std.proofs.Common.{length}
-use Rattle.qw_tests.proofs.expressions.compared.+joins_have_rows.Given as goal
-
-abbrev pub decreases-joins_have_rows : goal.decreases-joins_have_rows
-decreases-joins_have_rows l = length l.joins.now
