@@ -60,9 +60,9 @@ fn entry_of<'a, 's>(
         (λ refusal. IsOneOf refusal (fault_where (is_none (place_of tables.now (name_of named.now.table.now))) UnknownTable (name_of named.now.table.now))) }
     ensures tables { IfOk result (λ made. AreColumns made.columns.now) }
 {
-    let table = name_text(alloc, named.table).map_err(|_| Refusal::NoMemory)?;
+    let found = place_named(alloc, tables, named.table).map_err(|_| Refusal::NoMemory)?;
     let name = name_text(alloc, naming(named)).map_err(|_| Refusal::NoMemory)?;
-    match place_of(tables, &table) {
+    match found {
         Some(place) => Ok(Entry {
             name,
             number,
@@ -81,6 +81,14 @@ fn naming<'a>(entry: &script::Entry<'a>) -> &'a [u8]
         Some(alias) => alias,
         None => entry.table,
     }
+}
+
+/// The place of the table of a name, as it is written.
+fn place_named(alloc: Global, tables: &[Table], octets: &[u8]) -> Result<Option<usize>, NoMemory>
+    ensures { IfOk result (λ found. found ≡ place_of tables.now (name_of octets.now)) }
+{
+    let name = name_text(alloc, octets)?;
+    Ok(place_of(tables, &name))
 }
 
 /// The place of the table of a name, as it is kept.

@@ -15,7 +15,7 @@ returns-in-Some-clause-known c =
     let name : c.in_ok-name.name ≡ entry_name (syntax.entry_of c.args.named.now) = search rules in
     entry_found c.args.tables.now (syntax.entry_of c.args.named.now) c.args.number c.in-Some.place c.index-tables-place.result c.in_ok-name.name c.as_slice.result.now there c.index-tables-place.is name (c.as_slice.ensures.same ∙ sym (ap (λ (t : Table). t.columns) c.index-tables-place.is))
 
-pub returns-clause-known : goal.returns-clause-known
-returns-clause-known c =
+pub returns-in-None-clause-known : goal.returns-in-None-clause-known
+returns-in-None-clause-known c =
     let unknown : place_of c.args.tables.now (name_of c.args.named.now.table.now) ≡ None = search rules in
     is_one UnknownTable (Name c.args.named.now.table) _ (table_unknown c.args.tables.now (name_of c.args.named.now.table.now) unknown)
