@@ -1,7 +1,6 @@
 -- What a fault tells of its module: it isn't valid.
-use Rattle.std.proofs.Common.{◌≡◌, ◌≢◌, ℕ, ◌+◌, ◌<◌, ◌≤◌, arith, length, get_or, All, Option, Some, None, slice_get, refl, sym, subst, ◌∙◌}
-use Rattle.std.specs.Option.{ok_or}
-use Rattle.std.specs.Prelude.{◌↔◌, Bool, IsSomeAnd, IsTrue, IfSome, Result, Ok, Err, OnOk}
+use Rattle.std.proofs.Common.{◌≡◌, ◌≢◌, ℕ, ◌+◌, ◌<◌, length, get_or, All, Option, Some, None, slice_get, refl, sym, subst}
+use Rattle.std.specs.Prelude.{IsSomeAnd, Result, Ok, Err, OnOk}
 use Rattle.std.proofs.lemmas.Option.{slice_get_within, slice_get_read, get_or_from_slice_get}
 use Rattle.qw_module.specs.declared.module.FuncType.{FuncType}
 use Rattle.qw_module.specs.declared.module.Function.{Function}
@@ -16,7 +15,7 @@ use Rattle.qw_module.specs.Places.{Typing, tokens_of, IsRefusedAt}
 use Rattle.qw_module.specs.Validity.{code_of_body, signature_of, imported_functions, IsTypedFunction, IsValidFunction, IsValid}
 use Rattle.qw_module.proofs.PlaceLemmas.{typable_body, none_refused}
 use Rattle.qw_valid.specs.Inner.Refusals.{fault_in}
-use Rattle.qw_valid.specs.ValidFaults.{HasBody, PartHolds, BeforeHold, ArePartsValid, typing_with_signature, typing_in, IsFault}
+use Rattle.qw_valid.specs.ValidFaults.{HasBody, PartHolds, ArePartsValid, typing_with_signature, typing_in, IsFault}
 use Rattle.qw_valid.proofs.ValidBodies.{typing_is}
 
 -- a valid function has a type, and a numbered body
@@ -39,65 +38,6 @@ typed_there m function at (Some ty) e valid refused =
 not_refused : (m : Module) (function : Function) (at : ℕ) → IsValidFunction m function →
     IsRefusedAt (typing_in m function) (tokens_of (code_of_body function.body)) at → ⊥
 not_refused m function at valid refused = typed_there m function at (slice_get m.types.items function.type_index) refl valid refused
-
--- all parts before one
-module _ (m : Module) where
-  before_place : (n : ℕ) → (0 < n → PartHolds m part.Types) → (1 < n → PartHolds m part.Imports) → (2 < n → PartHolds m part.Functions) → (3 < n → PartHolds m part.Memory) →
-      (4 < n → PartHolds m part.Globals) → (5 < n → PartHolds m part.Exports) → BeforeHold m n
-  before_place n types imports functions memory globals exports part.Types h = types h
-  before_place n types imports functions memory globals exports part.Imports h = imports h
-  before_place n types imports functions memory globals exports part.Functions h = functions h
-  before_place n types imports functions memory globals exports part.Memory h = memory h
-  before_place n types imports functions memory globals exports part.Globals h = globals h
-  before_place n types imports functions memory globals exports part.Exports h = exports h
-
-  not_before : {A : Type 0} (k n : ℕ) → n ≤ k → k < n → A
-  not_before k n p h = absurd (omega (arith, p, h))
-
-  pub types_fault : (¬ PartHolds m part.Types) → IsFault (refusal.Part part.Types) m
-  types_fault fails =
-      (before_place 0 (not_before 0 0 (omega arith)) (not_before 1 0 (omega arith)) (not_before 2 0 (omega arith)) (not_before 3 0 (omega arith)) (not_before 4 0 (omega arith)) (not_before 5 0 (omega arith)), fails)
-
-  module _ (types : PartHolds m part.Types) where
-    pub imports_fault : (¬ PartHolds m part.Imports) → IsFault (refusal.Part part.Imports) m
-    imports_fault fails =
-        (before_place 1 (λ h. types) (not_before 1 1 (omega arith)) (not_before 2 1 (omega arith)) (not_before 3 1 (omega arith)) (not_before 4 1 (omega arith)) (not_before 5 1 (omega arith)), fails)
-
-    module _ (imports : PartHolds m part.Imports) where
-      pub functions_fault : (¬ PartHolds m part.Functions) → IsFault (refusal.Part part.Functions) m
-      functions_fault fails =
-          (before_place 2 (λ h. types) (λ h. imports) (not_before 2 2 (omega arith)) (not_before 3 2 (omega arith)) (not_before 4 2 (omega arith)) (not_before 5 2 (omega arith)), fails)
-
-      module _ (functions : PartHolds m part.Functions) where
-        pub memory_fault : (¬ PartHolds m part.Memory) → IsFault (refusal.Part part.Memory) m
-        memory_fault fails =
-            (before_place 3 (λ h. types) (λ h. imports) (λ h. functions) (not_before 3 3 (omega arith)) (not_before 4 3 (omega arith)) (not_before 5 3 (omega arith)), fails)
-
-        module _ (memory : PartHolds m part.Memory) where
-          pub globals_fault : (¬ PartHolds m part.Globals) → IsFault (refusal.Part part.Globals) m
-          globals_fault fails =
-              (before_place 4 (λ h. types) (λ h. imports) (λ h. functions) (λ h. memory) (not_before 4 4 (omega arith)) (not_before 5 4 (omega arith)), fails)
-
-          module _ (globals : PartHolds m part.Globals) where
-            pub exports_fault : (¬ PartHolds m part.Exports) → IsFault (refusal.Part part.Exports) m
-            exports_fault fails = (before_place 5 (λ h. types) (λ h. imports) (λ h. functions) (λ h. memory) (λ h. globals) (not_before 5 5 (omega arith)), fails)
-
-            pub all_parts : PartHolds m part.Exports → ArePartsValid m
-            all_parts exports part.Types = types
-            all_parts exports part.Imports = imports
-            all_parts exports part.Functions = functions
-            all_parts exports part.Memory = memory
-            all_parts exports part.Globals = globals
-            all_parts exports part.Exports = exports
-
--- what was told where there is an answer
-pub told_if_some : {P E : Type 0} (found : Option Bool) (other : E) (r : Result Bool E) (answer : Bool) → r ≡ ok_or found other → r ≡ Ok answer →
-    IfSome found (λ (is : Bool). IsTrue is ↔ P) → IsTrue answer ↔ P
-told_if_some None other r answer is ok told = absurd (cc)
-told_if_some {P} (Some told_is) other r answer is ok told =
-    let same : Ok told_is ≡ Ok answer = sym is ∙ ok in
-    let answered : told_is ≡ answer = cc in
-    subst (λ (b : Bool). IsTrue b ↔ P) answered told
 
 -- all parts of a valid module are valid
 pub parts_of : (m : Module) → IsValid m → (p : Part) → PartHolds m p

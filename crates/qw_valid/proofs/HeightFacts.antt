@@ -1,12 +1,11 @@
 -- What sequences need is enough for the code that they stand for.
-use Rattle.std.proofs.Common.{◌≡◌, ℕ, ◌+◌, ◌-◌, ◌<◌, ◌≤◌, List, [], ◌∷◌, ◌++◌, length, drop, get_or, Some, None, refl, sym, subst, ◌∙◌, ⊎_elim, arith}
+use Rattle.std.proofs.Common.{◌≡◌, ℕ, ◌+◌, ◌-◌, ◌<◌, ◌≤◌, List, [], ◌∷◌, ◌++◌, length, drop, get_or, Some, None, refl, subst, ⊎_elim, arith}
 use Rattle.std.specs.Prelude.{max}
 use Rattle.std.specs.List.{AllByRecursion}
 use Rattle.std.proofs.Math.Nat.{le_refl}
 use Rattle.std.proofs.Math.Seq.{get_or-append_seam}
 use Rattle.std.proofs.lemmas.Bool.{cases_eq}
-use Rattle.std.proofs.lemmas.List.{drop_all, drop_more, get_or_append_left, get_or_default}
-use Rattle.std.proofs.lemmas.Option.{get_or_from_slice_get, slice_get_within}
+use Rattle.std.proofs.lemmas.List.{drop_all, drop_more, get_or_append_left}
 use Rattle.qw_module.specs.declared.instruction.Instr.{Instr}
 use Rattle.qw_module.specs.declared.instruction.Instr.TheVariants as i
 use Rattle.qw_module.specs.declared.module.Function.{Function}
@@ -17,7 +16,6 @@ use Rattle.qw_module.specs.Typing.{Signature}
 use Rattle.qw_valid.specs.Heights.{taken_by, left_by, parameters_at, results_at, StaysWithin, AreHeightsOf}
 use Rattle.qw_module.specs.Validity.{code_of_body, outside_of, signature_in}
 use Rattle.qw_module.proofs.Numbered.{named-at}
-use Rattle.qw_valid.specs.ModuleHeights.{HaveHeights}
 use Rattle.qw_valid.specs.declared.heights.Heights.{Heights}
 use Rattle.qw_valid.specs.Inner.Heights.{around, at_number, behind, holding, instruction_needs, needs, wider}
 
@@ -127,36 +125,4 @@ pub function_within : (m : Module) (function : Function) (most : Heights) (resul
 function_within m function most results body is = record {
   body_within = stays-wider ((outside_of m).functions) (code_of_body function.body) 0 most.operands most.labels _ _ (omega arith) (omega arith) body;
   results_within = omega (arith, is);
-}
-
--- each function up to one has what is kept of it
-abbrev pub HaveBelow : Module → List Function → List Heights → ℕ → Type 0
-HaveBelow m functions heights n =
-    (k : ℕ) (d : Function) → k < n → AreHeightsOf m (get_or functions k d) (at_number heights k).operands (at_number heights k).labels
-
--- and the next one what it needs
-pub have_next : (m : Module) (functions : List Function) (heights : List Heights) (n : ℕ) (function : Function) (most : Heights) → length heights ≡ n → n < length functions →
-    function ≡ get_or functions n function → HaveBelow m functions heights n → AreHeightsOf m function most.operands most.labels →
-    HaveBelow m functions (heights ++ (most ∷ [])) (n + 1)
-have_next m functions heights n function most long inside is below here k d h = ⊎_elim
-    (λ (e : k ≡ n).
-    let last : at_number (heights ++ (most ∷ [])) k ≡ most = rw (e, ← long) (get_or-append_seam heights most [] (holding 0)) in
-    let found : get_or functions k d ≡ function = rw e (get_or_default functions n d function inside ∙ sym is) in
-    rw (last, found) here)
-    (λ ne. let less : k < n = omega arith in
-    let kept : at_number (heights ++ (most ∷ [])) k ≡ at_number heights k = get_or_append_left heights (most ∷ []) (holding 0) k (omega arith) in
-    rw kept (below k d less))
-    (cases_eq k n)
-
--- so all have, where there is one for each
-pub have_all : (m : Module) (heights : List Heights) → length heights ≡ length m.functions.items → HaveBelow m m.functions.items heights (length m.functions.items) →
-    HaveHeights m heights
-have_all m heights count below = record {
-  count = count;
-  each = λ number function most found kept.
-      let is : get_or m.functions.items number function ≡ function = get_or_from_slice_get m.functions.items number function function found in
-      let has : at_number heights number ≡ most = get_or_from_slice_get heights number most (holding 0) kept in
-      let there : AreHeightsOf m (get_or m.functions.items number function) (at_number heights number).operands (at_number heights number).labels =
-      below number function (slice_get_within m.functions.items number function found) in
-      rw (is, has) at there;
 }
