@@ -7,7 +7,8 @@ ghost use Rattle.qw_ast.specs.SyntaxTree.{days_of};
 ghost use Rattle.qw_scalar.specs.Expression.{date};
 ghost use Rattle.qw_typer.specs.Days.{moved};
 ghost use Rattle.qw_typer.specs.Inner.Literals.{IsUnpacked, day_of_date, signed_days};
-ghost use Rattle.qw_typer.specs.Literal.{after_intervals, date_of, day_shown, interval_days, string_value};
+ghost use Rattle.qw_ast.specs.Quoted.{string_value};
+ghost use Rattle.qw_typer.specs.Literal.{after_intervals, date_of, day_shown, interval_days};
 
 use crate::name::value_octets;
 use crate::number::value_of;
