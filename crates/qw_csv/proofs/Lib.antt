@@ -4,6 +4,7 @@ mod CellLemmas
 mod CsvReaderLemmas
 mod FileLemmas
 pub mod LoadingLaws
+mod MachineLemmas
 mod PushLemmas
 mod RecordLemmas
 mod RowLemmas

@@ -1,12 +1,15 @@
 -- What a table file stands for: records of comma-separated values, the first of which names the columns.
-use Rattle.std.specs.Prelude.{◌≡◌, ◌≢◌, ◌⊎◌, ◌≤◌, ◌+◌, ℕ, zero, suc, List, [], ◌∷◌, ◌++◌, length, map}
+use Rattle.std.specs.Prelude.{◌≡◌, ◌≢◌, ◌⊎◌, ◌≤◌, ◌+◌, ℕ, zero, suc, Bool, true, false, List, [], ◌∷◌, ◌++◌, length, map}
 use Rattle.std.specs.Char.{to_ascii_lowercase}
+use Rattle.csv.specs.Machine.{next_record}
 use Rattle.csv.specs.Reading.{AreRecords, Reached, default_config, strip_bom}
 use Rattle.csv.specs.declared.parser.State.{State}
 use Rattle.csv.specs.declared.parser.State.TheVariants.{StartRecord}
 use Rattle.qw_types.specs.declared.schema.Column.{Column}
 use Rattle.qw_types.specs.declared.schema.Table.{Table}
+use Rattle.qw_types.specs.Contents.{column_type}
 use Rattle.qw_types.specs.Limits.{most_rows}
+use Rattle.qw_types.specs.declared.schema.ColumnType.{ColumnType}
 use Rattle.qw_types.specs.declared.value.Val.{Val}
 use Rattle.qw_csv.specs.Field.{IsFieldFault, IsFieldOf}
 use Rattle.qw_csv.specs.declared.cell.CellFault.{CellFault}
@@ -77,3 +80,31 @@ IsFirstFault table bytes fault.BadHeader = AreAllRecords bytes []
     ⊎ ((header : List (List ℕ)) × AreFirstRecords bytes (header ∷ []) × (IsHeader table.columns header → ⊥))
 IsFirstFault table bytes why = (rows : List (List Val)) × (next : List (List ℕ))
     × Follows table bytes rows next × IsRecordFault table.columns (length rows + 1) next why
+
+-- ---- a file that comes in pieces
+
+-- in any file that begins with these octets these are the first records, and then come those of what waits to be read with what follows
+abbrev pub LeavesToRead : (given : List ℕ) → List (List (List ℕ)) → (waiting : List ℕ) → Type 0
+LeavesToRead given records waiting = (behind : List ℕ) → (state : State) × (rest : List ℕ)
+    × Reached default_config StartRecord (strip_bom (given ++ behind)) records state rest
+    × (next_record default_config state [] [] rest ≡ next_record default_config StartRecord [] [] (strip_bom (waiting ++ behind)))
+
+-- the first records of a file are none, or its header and those that stand for these rows
+abbrev pub AreTaken : List Column → List (List (List ℕ)) → (named : Bool) → List (List Val) → Type 0
+AreTaken columns [] false rows = rows ≡ []
+AreTaken columns (header ∷ records) true rows = IsHeader columns header × AreRecordsOf columns records rows × (length rows ≤ most_rows)
+AreTaken columns _ _ rows = ⊥
+
+-- what was made of the front of a file: rows of columns of these types, whether the header came, and the octets that aren't read yet
+pub record Progress : Type 0 where
+  pub columns : List ColumnType
+  pub rows : List (List Val)
+  pub named : Bool
+  pub waiting : List ℕ
+
+-- that was made of these octets, as the front of the file of a table
+pub record HasTaken (table : Table) (progress : Progress) (given : List ℕ) : Type 0 where
+  pub records : List (List (List ℕ))
+  pub leaves : LeavesToRead given records progress.waiting
+  pub taken : AreTaken table.columns records progress.named progress.rows
+  pub columns : progress.columns ≡ map column_type table.columns

@@ -1,6 +1,7 @@
 //! The rows of a table's file (RFC 4180), of columns of every type.
 //!
 //! - [`loading::load`]: the rows that the octets stand for, or the first fault of the file.
+//! - [`loader::Loader`]: the same of a file that comes in pieces.
 //! - [`loaded::Loaded`]: rows in memory, their values by row and column.
 //! - [`cell::Cell`]: a value, its text lent; [`cell::CellFault`]: why a field stands for none.
 //! - [`column_cells::ColumnCells`]: all values of a column, lent as they are kept.
@@ -9,10 +10,13 @@
 pub mod cell;
 pub mod column_cells;
 pub mod loaded;
+pub mod loader;
 pub mod loading;
+mod place;
 mod storage;
 
 pub use cell::{Cell, CellFault};
 pub use column_cells::ColumnCells;
 pub use loaded::Loaded;
+pub use loader::Loader;
 pub use qw_types::ColumnType;

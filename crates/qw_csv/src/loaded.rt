@@ -59,6 +59,15 @@ impl Loaded {
         }
     }
 
+    /// The types of the columns, the values that the rows are kept in, and how many rows there are.
+    pub(crate) fn into_parts(self) -> (Vec<ColumnType>, Vec<Values>, usize)
+        ensures stored { AreStored result.2 result.0.items result.1.items }
+        ensures columns { result.0.items ≡ self.columns }
+        ensures rows { rows_in result.2 result.1.items ≡ self.rows }
+    {
+        (self.columns, self.values, self.len)
+    }
+
     /// The types of the columns, and which may be null.
     pub fn columns(&self) -> &[ColumnType]
         ensures { result.now ≡ self.now.columns }

@@ -1,6 +1,6 @@
 //! A table's file (RFC 4180), read into its rows.
 
-ghost use Rattle.std.specs.Prelude.{◌≡◌, ◌≢◌, ◌≤◌, ◌<◌, ◌+◌, ◌↔◌, ℕ, List, [], ◌∷◌, ◌++◌, length, map, slice_index_or, IsTrue, IfOk, IfErr, OnOk};
+ghost use Rattle.std.specs.Prelude.{◌≡◌, ◌≢◌, ◌≤◌, ◌<◌, ◌+◌, ◌↔◌, ℕ, List, [], ◌∷◌, ◌++◌, length, map, slice_index_or, true, IsTrue, IfOk, IfErr, OnOk};
 ghost use Rattle.std.specs.Bool.{MatchBool};
 ghost use Rattle.std.specs.Char.{to_ascii_lowercase};
 ghost use Rattle.std.specs.List.{AllByRecursion};
@@ -14,16 +14,17 @@ ghost use Rattle.qw_types.specs.declared.schema.Table.{Table};
 ghost use Rattle.qw_types.specs.declared.value.Val.{Val};
 ghost use Rattle.qw_csv.specs.declared.loading.LoadFault.{LoadFault};
 ghost use Rattle.qw_types.specs.Contents.{column_type};
-ghost use Rattle.qw_csv.specs.Loading.{IsFirstFault, IsHeader, IsRecordFault, IsRecordOf, Loads};
-ghost use Rattle.qw_csv.specs.Inner.Loading.{HasRead};
-ghost use Rattle.qw_csv.specs.Inner.Rows.{AreAllKept, rows_in};
+ghost use Rattle.qw_types.specs.Limits.{most_rows};
+ghost use Rattle.qw_csv.specs.Loading.{AreRecordsOf, AreTaken, IsFirstFault, IsHeader, IsRecordFault, IsRecordOf, LeavesToRead, Loads};
+ghost use Rattle.qw_csv.specs.Inner.Loading.{HasRead, TakesAll, TakesFault, TakesRows, TakesWrong};
+ghost use Rattle.qw_csv.specs.Inner.Rows.{AreAllKept, AreStored, rows_in};
 
 use crate::cell::CellFault;
 use crate::loaded::Loaded;
 use crate::storage::{Values, column_type};
 use csv::{ByteRecord, Reader, ReaderBuilder};
 use qw_types::schema::MAX_ROWS;
-use qw_types::{Column, NoMemory, Table};
+use qw_types::{Column, ColumnType, NoMemory, Table};
 use std::alloc::{AllocError, AllocFailed, Global};
 use thiserror::Error;
 
@@ -92,8 +93,8 @@ pub fn load(alloc: Global, table: &Table, bytes: &[u8]) -> Result<Loaded, LoadFa
     ensures columns { IfOk result (λ loaded. loaded.columns ≡ map column_type table.now.columns) }
     ensures fault { IfErr result (λ e. e ≢ LoadFault.NoMemory → IsFirstFault table.now bytes.now e) }
 {
-    let mut reader = reader_of(alloc, bytes);
-    load_from(alloc, table, &mut reader)
+    let none = none_taken(alloc, table.columns.as_slice())?;
+    take_rest(alloc, table, none, bytes)
 }
 
 /// A file stands for one list of rows at most.
@@ -124,48 +125,138 @@ fn reader_of<'a>(alloc: Global, bytes: &'a [u8]) -> Reader<&'a [u8]>
         .from_reader(alloc, bytes)
 }
 
-/// Loads what a reader gives. It works through a reference, so that no return leaves a reader behind.
-fn load_from(alloc: Global, table: &Table, reader: &mut Reader<&[u8]>) -> Result<Loaded, LoadFault>
-    ensures rows { IfOk result (λ loaded. (bytes : List ℕ) → HasRead reader.old (strip_bom bytes) []
-        → Loads table.now bytes loaded.rows) }
-    ensures columns { IfOk result (λ loaded. loaded.columns ≡ map column_type table.now.columns) }
-    ensures fault { IfErr result (λ e. (bytes : List ℕ) → HasRead reader.old (strip_bom bytes) []
-        → e ≢ LoadFault.NoMemory → IsFirstFault table.now bytes e) }
-{
-    let mut row = ByteRecord::new(alloc);
-    if !next_record(reader, &mut row)? || !is_header(table.columns.as_slice(), &row) {
-        return Err(LoadFault::BadHeader);
-    }
-    rows_after_header(alloc, table, reader, &mut row)
+/// What the first records of a file stand for.
+#[derive(Debug, Drop)]
+pub(crate) struct Taken {
+    /// The rows.
+    pub(crate) loaded: Loaded,
+    /// Whether the header was among them.
+    pub(crate) named: bool,
 }
 
-/// The rows of the data records.
-fn rows_after_header(
+/// That of no record.
+pub(crate) fn none_taken(alloc: Global, columns: &[Column]) -> Result<Taken, LoadFault>
+    requires { AreColumns columns.now }
+    ensures none { IfOk result (λ taken. AreTaken columns.now [] taken.named taken.loaded.rows) }
+    ensures columns { IfOk result (λ taken. taken.loaded.columns ≡ map column_type columns.now) }
+    ensures memory { IfErr result (λ e. e ≡ LoadFault.NoMemory) }
+{
+    let values = no_values(alloc, columns)?;
+    Ok(Taken {
+        loaded: loaded(alloc, columns, values, 0)?,
+        named: false,
+    })
+}
+
+/// The rows of a file, of which some records were taken and these octets, its last ones, wait to be read.
+pub(crate) fn take_rest(
     alloc: Global,
     table: &Table,
+    taken: Taken,
+    bytes: &[u8],
+) -> Result<Loaded, LoadFault>
+    requires { taken.loaded.columns ≡ map column_type table.now.columns }
+    ensures rows { IfOk result (λ loaded. (given : List ℕ) (records : List (List (List ℕ))) → LeavesToRead given records bytes.now
+        → AreTaken table.now.columns records taken.named taken.loaded.rows → Loads table.now given loaded.rows) }
+    ensures columns { IfOk result (λ loaded. loaded.columns ≡ map column_type table.now.columns) }
+    ensures fault { IfErr result (λ e. e ≢ LoadFault.NoMemory → (given : List ℕ) (records : List (List (List ℕ))) → LeavesToRead given records bytes.now
+        → AreTaken table.now.columns records taken.named taken.loaded.rows → IsFirstFault table.now given e) }
+{
+    let taken = take_records(alloc, table, taken, bytes)?;
+    if taken.named {
+        return Ok(taken.loaded);
+    }
+    Err(LoadFault::BadHeader)
+}
+
+/// Takes all records of a text behind those that were taken.
+pub(crate) fn take_records(
+    alloc: Global,
+    table: &Table,
+    taken: Taken,
+    bytes: &[u8],
+) -> Result<Taken, LoadFault>
+    requires { taken.loaded.columns ≡ map column_type table.now.columns }
+    ensures taken { IfOk result (λ next. (records : List (List (List ℕ))) → AreTaken table.now.columns records taken.named taken.loaded.rows
+        → TakesAll table.now.columns (strip_bom bytes.now) records next.named next.loaded.rows) }
+    ensures columns { IfOk result (λ next. next.loaded.columns ≡ taken.loaded.columns) }
+    ensures fault { IfErr result (λ e. e ≢ LoadFault.NoMemory → (records : List (List (List ℕ)))
+        → AreTaken table.now.columns records taken.named taken.loaded.rows → TakesFault table.now.columns (strip_bom bytes.now) records e) }
+{
+    let mut reader = reader_of(alloc, bytes);
+    let mut row = ByteRecord::new(alloc);
+    take_from(table.columns.as_slice(), taken, &mut reader, &mut row)
+}
+
+/// The same of what a reader gives. It works through a reference, so that no return leaves a reader behind.
+fn take_from(
+    columns: &[Column],
+    taken: Taken,
     reader: &mut Reader<&[u8]>,
     row: &mut ByteRecord,
-) -> Result<Loaded, LoadFault>
-    ensures rows { IfOk result (λ loaded. (bytes : List ℕ) (header : List (List ℕ))
-        → HasRead reader.old (strip_bom bytes) (header ∷ []) → IsHeader table.now.columns header
-        → Loads table.now bytes loaded.rows) }
-    ensures columns { IfOk result (λ loaded. loaded.columns ≡ map column_type table.now.columns) }
-    ensures fault { IfErr result (λ e. (bytes : List ℕ) (header : List (List ℕ))
-        → HasRead reader.old (strip_bom bytes) (header ∷ []) → IsHeader table.now.columns header
-        → e ≢ LoadFault.NoMemory → IsFirstFault table.now bytes e) }
+) -> Result<Taken, LoadFault>
+    requires limits { AreColumns columns.now }
+    requires columns { taken.loaded.columns ≡ map column_type columns.now }
+    ensures taken { IfOk result (λ next. (text : List ℕ) (records : List (List (List ℕ))) → HasRead reader.old text []
+        → AreTaken columns.now records taken.named taken.loaded.rows → TakesAll columns.now text records next.named next.loaded.rows) }
+    ensures columns { IfOk result (λ next. next.loaded.columns ≡ taken.loaded.columns) }
+    ensures fault { IfErr result (λ e. e ≢ LoadFault.NoMemory → (text : List ℕ) (records : List (List (List ℕ))) → HasRead reader.old text []
+        → AreTaken columns.now records taken.named taken.loaded.rows → TakesFault columns.now text records e) }
 {
-    let columns = table.columns.as_slice();
-    let mut values = no_values(alloc, columns)?;
-    for len in 0..MAX_ROWS {
+    if taken.named {
+        return take_rows(columns, taken.loaded, reader, row);
+    }
+    if !next_record(reader, row)? {
+        return Ok(taken);
+    }
+    if !is_header(columns, row) {
+        return Err(LoadFault::BadHeader);
+    }
+    take_rows(columns, taken.loaded, reader, row)
+}
+
+/// Takes the rows of all data records that a reader gives behind those that were taken.
+fn take_rows(
+    columns: &[Column],
+    loaded: Loaded,
+    reader: &mut Reader<&[u8]>,
+    row: &mut ByteRecord,
+) -> Result<Taken, LoadFault>
+    requires limits { AreColumns columns.now }
+    requires columns { loaded.columns ≡ map column_type columns.now }
+    ensures rows { IfOk result (λ next. (text : List ℕ) (read old : List (List (List ℕ))) → HasRead reader.old text read
+        → AreRecordsOf columns.now old loaded.rows → TakesRows columns.now text read old next.loaded.rows) }
+    ensures few { IfOk result (λ next. length next.loaded.rows ≤ most_rows) }
+    ensures named { IfOk result (λ next. next.named ≡ true) }
+    ensures columns { IfOk result (λ next. next.loaded.columns ≡ loaded.columns) }
+    ensures fault { IfErr result (λ e. e ≢ LoadFault.NoMemory → (text : List ℕ) (read old : List (List (List ℕ))) → HasRead reader.old text read
+        → AreRecordsOf columns.now old loaded.rows → TakesWrong columns.now text read old e) }
+{
+    let (types, mut values, start) = loaded.into_parts();
+    for len in start..MAX_ROWS {
         if !next_record(reader, row)? {
-            return loaded(alloc, columns, values, len);
+            return Ok(rows_taken(types, values, len));
         }
         push_row(&mut values, columns, row, len)?;
     }
     if next_record(reader, row)? {
         return Err(LoadFault::TooManyRows);
     }
-    loaded(alloc, columns, values, MAX_ROWS)
+    Ok(rows_taken(types, values, MAX_ROWS))
+}
+
+/// So many rows behind a header.
+fn rows_taken(types: Vec<ColumnType>, values: Vec<Values>, len: usize) -> Taken
+    requires { AreStored len types.items values.items }
+    ensures rows { result.loaded.rows ≡ rows_in len values.items }
+    ensures few { length result.loaded.rows ≤ most_rows }
+    ensures columns { result.loaded.columns ≡ types.items }
+    ensures named { result.named ≡ true }
+{
+    Taken {
+        loaded: Loaded::new(types, values, len),
+        named: true,
+    }
 }
 
 /// For each column no values.

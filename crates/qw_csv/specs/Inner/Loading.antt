@@ -1,10 +1,16 @@
--- Mirrors the state of the reader between two calls of `next_record`.
-use Rattle.std.specs.Prelude.{◌≡◌, ℕ, List, Some, true}
+-- Mirrors the functions of `loading`: the state of the reader between two calls of `next_record`, and what the records of a text add to those before.
+use Rattle.std.specs.Prelude.{◌≡◌, ◌+◌, ℕ, Bool, List, [], ◌∷◌, ◌++◌, length, Some, true}
 use Rattle.std.specs.Borrow.{Bor}
-use Rattle.csv.specs.Reading.{Reached, Ready, default_config, source_of}
+use Rattle.csv.specs.Reading.{AreRecords, Reached, Ready, default_config, source_of}
+use Rattle.csv.specs.declared.parser.State.{State}
 use Rattle.csv.specs.declared.parser.State.TheVariants.{StartRecord}
 use Rattle.csv.specs.declared.reader.Reader.{Reader}
 use Rattle.csv.specs.declared.reader.Trim.TheVariants as trim
+use Rattle.qw_types.specs.declared.schema.Column.{Column}
+use Rattle.qw_types.specs.declared.value.Val.{Val}
+use Rattle.qw_csv.specs.Loading.{AreRecordsOf, AreTaken, IsHeader, IsRecordFault}
+use Rattle.qw_csv.specs.declared.loading.LoadFault.{LoadFault}
+use Rattle.qw_csv.specs.declared.loading.LoadFault.TheVariants.{BadHeader}
 
 -- a reader that has given these records of a text, and goes on after them; the next may have any number of fields
 pub record HasRead (reader : Reader (Bor (List ℕ))) (text : List ℕ) (records : List (List (List ℕ))) : Type 0 where
@@ -15,3 +21,41 @@ pub record HasRead (reader : Reader (Bor (List ℕ))) (text : List ℕ) (records
   pub rest : List ℕ
   pub source : source_of (λ (s : Bor (List ℕ)). Some s.now) reader ≡ Some rest
   pub reached : Reached default_config StartRecord text records reader.state rest
+
+-- all records of a text were taken behind others
+pub record TakesAll (columns : List Column) (text : List ℕ) (records : List (List (List ℕ))) (named : Bool) (rows : List (List Val)) : Type 0 where
+  pub more : List (List (List ℕ))
+  pub all : AreRecords default_config StartRecord text more
+  pub taken : AreTaken columns (records ++ more) named rows
+
+-- a record is at fault behind others: as the header, or as a data record
+abbrev pub IsWrongNext : List Column → List (List (List ℕ)) → List (List ℕ) → LoadFault → Type 0
+IsWrongNext columns [] next e = (e ≡ BadHeader) × (IsHeader columns next → ⊥)
+IsWrongNext columns (header ∷ records) next e = IsHeader columns header
+    × ((rows : List (List Val)) × AreRecordsOf columns records rows × IsRecordFault columns (length rows + 1) next e)
+
+-- some records of a text were taken behind others, and then came one at fault
+pub record TakesFault (columns : List Column) (text : List ℕ) (records : List (List (List ℕ))) (e : LoadFault) : Type 0 where
+  pub more : List (List (List ℕ))
+  pub next : List (List ℕ)
+  pub state : State
+  pub rest : List ℕ
+  pub reached : Reached default_config StartRecord text (more ++ next ∷ []) state rest
+  pub wrong : IsWrongNext columns (records ++ more) next e
+
+-- the same of the rows alone: all data records of a text after those that were read of it
+pub record TakesRows (columns : List Column) (text : List ℕ) (read old : List (List (List ℕ))) (rows : List (List Val)) : Type 0 where
+  pub more : List (List (List ℕ))
+  pub all : AreRecords default_config StartRecord text (read ++ more)
+  pub each : AreRecordsOf columns (old ++ more) rows
+
+-- and one at fault
+pub record TakesWrong (columns : List Column) (text : List ℕ) (read old : List (List (List ℕ))) (e : LoadFault) : Type 0 where
+  pub more : List (List (List ℕ))
+  pub next : List (List ℕ)
+  pub rows : List (List Val)
+  pub state : State
+  pub rest : List ℕ
+  pub reached : Reached default_config StartRecord text ((read ++ more) ++ next ∷ []) state rest
+  pub each : AreRecordsOf columns (old ++ more) rows
+  pub wrong : IsRecordFault columns (length rows + 1) next e

@@ -1,0 +1,171 @@
+//! `Loader`: a table's file that comes in pieces, read into its rows as they come.
+
+ghost use Rattle.std.specs.Prelude.{◌≡◌, ◌≢◌, ℕ, List, [], ◌++◌, map, Some, IfOk, IfErr};
+ghost use Rattle.csv.specs.Reading.{is_bom, strip_bom};
+ghost use Rattle.qw_types.specs.Contents.{column_type};
+ghost use Rattle.qw_csv.specs.Loading.{AreTaken, HasTaken, IsFirstFault, LeavesToRead, Loads};
+ghost use Rattle.qw_csv.specs.Inner.Place.{IsPlaced};
+ghost use Rattle.qw_csv.specs.declared.loading.LoadFault.{LoadFault};
+
+use crate::loaded::Loaded;
+use crate::loading::{LoadFault, Taken, none_taken, take_records, take_rest};
+use crate::place::{Place, scan};
+use qw_types::Table;
+use std::alloc::Global;
+use std::marker::Model;
+
+/// What was made of the front of a table's file: its rows so far, and the octets after its last whole record. So of a file no more
+/// than a piece and a record are in memory beside the rows.
+#[derive(Debug, Drop)]
+pub struct Loader {
+    taken: Taken,
+    /// The octets that aren't read yet, behind a line end; before it is known whether the file has a byte order mark, all of them.
+    waiting: Vec<u8>,
+    /// Where they end; none before that is known.
+    place: Option<Place>,
+}
+
+impl Model for Loader {
+    ghost use Rattle.qw_csv.specs.Loading.{Progress};
+    ghost use Rattle.qw_csv.specs.Inner.Place.{IsPlaced};
+
+    ghost Value = { Progress };
+
+    ghost view = { λ a. record { columns = a.taken.loaded.columns; rows = a.taken.loaded.rows; named = a.taken.named; waiting = a.waiting.items } };
+
+    ghost invariant = { λ a. IsPlaced a.place a.waiting.items };
+}
+
+impl Loader {
+    /// That of no octets.
+    ///
+    /// # Errors
+    ///
+    /// Want of memory.
+    pub fn new(alloc: Global, table: &Table) -> Result<Loader, LoadFault>
+        ensures none { IfOk result (λ loader. HasTaken table.now loader []) }
+        ensures memory { IfErr result (λ e. e ≡ LoadFault.NoMemory) }
+    {
+        Ok(Loader {
+            taken: none_taken(alloc, table.columns.as_slice())?,
+            waiting: Vec::new(alloc),
+            place: None,
+        })
+    }
+
+    /// Takes the next octets of the file, and reads the records that are whole.
+    ///
+    /// # Errors
+    ///
+    /// The file's first fault, whatever follows. Want of memory may come instead of any answer.
+    pub fn take(self, alloc: Global, table: &Table, piece: &[u8]) -> Result<Loader, LoadFault>
+        requires { (given : List ℕ) × HasTaken table.now self given }
+        ensures taken { IfOk result (λ loader. (given : List ℕ) → HasTaken table.now self given → HasTaken table.now loader (given ++ piece.now)) }
+        ensures fault { IfErr result (λ e. e ≢ LoadFault.NoMemory → (given behind : List ℕ) → HasTaken table.now self given
+            → IsFirstFault table.now (given ++ (piece.now ++ behind)) e) }
+    {
+        match self.place {
+            Some(place) => take_lines(alloc, table, self.taken, self.waiting, place, piece),
+            None => take_start(alloc, table, self.taken, self.waiting, piece),
+        }
+    }
+
+    /// The rows of the file, which has no more octets.
+    ///
+    /// # Errors
+    ///
+    /// The file's first fault. Want of memory may come instead of any answer.
+    pub fn finish(self, alloc: Global, table: &Table) -> Result<Loaded, LoadFault>
+        requires { (given : List ℕ) × HasTaken table.now self given }
+        ensures rows { IfOk result (λ loaded. (given : List ℕ) → HasTaken table.now self given → Loads table.now given loaded.rows) }
+        ensures columns { IfOk result (λ loaded. loaded.columns ≡ map column_type table.now.columns) }
+        ensures fault { IfErr result (λ e. e ≢ LoadFault.NoMemory → (given : List ℕ) → HasTaken table.now self given → IsFirstFault table.now given e) }
+    {
+        take_rest(alloc, table, self.taken, self.waiting.as_slice())
+    }
+}
+
+/// Takes octets at the start of a file, of which so few came before that they may be a part of a byte order mark.
+fn take_start(
+    alloc: Global,
+    table: &Table,
+    taken: Taken,
+    mut waiting: Vec<u8>,
+    piece: &[u8],
+) -> Result<Loader, LoadFault>
+    requires { taken.loaded.columns ≡ map column_type table.now.columns }
+    ensures taken { IfOk result (λ loader. (given : List ℕ) (records : List (List (List ℕ))) → LeavesToRead given records (waiting.items ++ piece.now)
+        → AreTaken table.now.columns records taken.named taken.loaded.rows → HasTaken table.now loader given) }
+    ensures fault { IfErr result (λ e. e ≢ LoadFault.NoMemory → (given behind : List ℕ) (records : List (List (List ℕ)))
+        → LeavesToRead given records (waiting.items ++ piece.now) → AreTaken table.now.columns records taken.named taken.loaded.rows
+        → IsFirstFault table.now (given ++ behind) e) }
+{
+    waiting.extend_from_slice(piece)?;
+    if waiting.len() < 3 {
+        return Ok(Loader {
+            taken,
+            waiting,
+            place: None,
+        });
+    }
+    let line = vec![in alloc; b'\n']?;
+    let text = without_mark(waiting.as_slice());
+    take_lines(alloc, table, taken, line, Place::Fresh, text)
+}
+
+/// Takes octets behind those that wait, which end at this place.
+fn take_lines(
+    alloc: Global,
+    table: &Table,
+    taken: Taken,
+    mut waiting: Vec<u8>,
+    place: Place,
+    piece: &[u8],
+) -> Result<Loader, LoadFault>
+    requires columns { taken.loaded.columns ≡ map column_type table.now.columns }
+    requires placed { IsPlaced (Some place) waiting.items }
+    ensures taken { IfOk result (λ loader. (given : List ℕ) (records : List (List (List ℕ))) → LeavesToRead given records (waiting.items ++ piece.now)
+        → AreTaken table.now.columns records taken.named taken.loaded.rows → HasTaken table.now loader given) }
+    ensures fault { IfErr result (λ e. e ≢ LoadFault.NoMemory → (given behind : List ℕ) (records : List (List (List ℕ)))
+        → LeavesToRead given records (waiting.items ++ piece.now) → AreTaken table.now.columns records taken.named taken.loaded.rows
+        → IsFirstFault table.now (given ++ behind) e) }
+{
+    let scanned = scan(place, piece);
+    if scanned.whole == 0 {
+        waiting.extend_from_slice(piece)?;
+        return Ok(Loader {
+            taken,
+            waiting,
+            place: Some(scanned.place),
+        });
+    }
+    waiting.extend_from_slice(&piece[..scanned.whole])?;
+    let taken = take_records(alloc, table, taken, waiting.as_slice())?;
+    waiting.truncate(1);
+    waiting.extend_from_slice(&piece[scanned.whole..])?;
+    Ok(Loader {
+        taken,
+        waiting,
+        place: Some(scanned.place),
+    })
+}
+
+/// A text without the byte order mark at its start, if it has one.
+fn without_mark(text: &[u8]) -> &[u8]
+    ensures { result.now ≡ strip_bom text.now }
+{
+    if text.len() < 3 {
+        return text;
+    }
+    if is_mark(text[0], text[1], text[2]) {
+        return &text[3..];
+    }
+    text
+}
+
+/// Whether three octets are a byte order mark.
+fn is_mark(first: u8, second: u8, third: u8) -> bool
+    ensures { result ≡ is_bom first second third }
+{
+    first == 0xEF && second == 0xBB && third == 0xBF
+}
