@@ -19,5 +19,6 @@ mod SettleLemmas
 mod ShortLemmas
 mod StopLemmas
 mod StoppedLemmas
+mod TableFileLemmas
 mod UnreadLemmas
 mod WholeFileLemmas

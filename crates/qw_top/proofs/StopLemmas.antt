@@ -1,5 +1,6 @@
 -- How the reading of the files goes on from stage to stage, and how it stops.
-use Rattle.std.proofs.Common.{◌≡◌, ◌⊎◌, ℕ, zero, suc, ◌<◌, List, [], ◌∷◌, ◌++◌, inl, inr, refl, sym, subst, length, ap, arith, take, drop, get_or}
+use Rattle.std.proofs.Common.{◌≡◌, ◌⊎◌, ℕ, zero, suc, ◌<◌, Option, Some, None, List, [], ◌∷◌, ◌++◌, inl, inr, refl, sym, subst, length, ap, arith, take, drop, get_or}
+use Rattle.std.proofs.lemmas.Option.{none-some, same_Some}
 use Rattle.qw_types.specs.Contents.{Contents}
 use Rattle.qw_types.specs.declared.schema.Table.{Table}
 use Rattle.qw_csv.specs.declared.loading.LoadFault.{LoadFault}
@@ -13,11 +14,15 @@ use Rattle.qw_typer.specs.declared.fault.TypeFault.TheVariants as type_faults
 use Rattle.qw_schema.specs.declared.parse.SchemaFault.{SchemaFault}
 use Rattle.qw_schema.specs.declared.parse.SchemaFault.TheVariants as schema_faults
 use Rattle.qw_schema.specs.Parse.{IsRefused}
-use Rattle.qw_top.specs.Causes.{Cause, queries_mistyped, queries_refused, schema_refused, table_refused, total_pages}
+use Rattle.qw_top.specs.Causes.{Cause, queries_mistyped, queries_refused, schema_refused, table_refused, table_too_long, total_pages}
 use Rattle.qw_top.specs.FileNames.{table_file_of}
 use Rattle.qw_bench.specs.declared.bench.Limits.{Limits}
 use Rattle.qw_top.specs.Limits.{most_table_octets, most_text_octets}
-use Rattle.qw_top.specs.Top.{Asked, Files, FilesSettle, HasQueries, HasTables, IsFile, IsFileOf, IsMistyped, IsNextTable, Names, QueriesAre, SchemaIs, TableIs, TablesAre}
+use Rattle.qw_top.specs.Top.{Asked, Files, FilesSettle, HasQueries, HasTables, IsFile, IsFileOf, IsMistyped, IsNextTable, IsTooLong, Names, QueriesAre, SchemaIs, TableIs, TablesAre}
+use Rattle.qw_top.specs.declared.files.ReadFault.TheVariants as read_faults
+use Rattle.qw_top.specs.declared.files.ReadFault.TheVariants.{TooLong}
+use Rattle.qw_top.specs.declared.table_file.TableFault.{TableFault}
+use Rattle.qw_top.specs.declared.table_file.TableFault.TheVariants.{Content, Unread as Unloaded}
 use Rattle.qw_top.specs.declared.stop.Stop.{Stop}
 use Rattle.qw_top.specs.declared.stop.Stop.TheVariants.{Refused, Unread, NoMemory}
 use Rattle.qw_top.specs.Inner.Inputs.{IsNoSchema, IsNoScript, IsNoTable, StopsAtTables}
@@ -25,7 +30,8 @@ use Rattle.qw_top.specs.declared.top.queries.QueriesFault.{QueriesFault}
 use Rattle.qw_top.specs.declared.top.queries.QueriesFault.TheVariants.{Script, Typing}
 use Rattle.qw_top.specs.Inner.Queries.{Refuses, StopsForFault}
 use Rattle.qw_top.specs.Inner.Stages.{FilesStop, StopsToRun}
-use Rattle.qw_top.specs.Inner.Stop.{StopsAs, StopsFor}
+use Rattle.qw_top.specs.Inner.Shelves.{failed_table}
+use Rattle.qw_top.specs.Inner.Stop.{StopsAs, StopsFor, failed_at, octets_of}
 use Rattle.qw_top.proofs.SettleLemmas.{queries_settle, schema_settles, table_settles}
 
 -- a stop for a cause that is one of a stage's reasons
@@ -101,13 +107,44 @@ module _ (files : Files) (name : List ℕ) (stop : Stop) where
   queries_refused_stop schema text (Script fault) file refuses stops = script_refused_stops schema text fault file refuses stops.0 stops.1
   queries_refused_stop schema text (Typing fault) file refuses stops = mistyped_stops schema text fault file refuses stops.0 stops.1
 
-pub table_refused_stops : (files : Files) (folder : List ℕ) (table : Table) (stop : Stop) (bytes : List ℕ) (fault : LoadFault) → IsFile files (table_file_of folder table.name) most_table_octets bytes →
-    ((fault ≡ load_faults.NoMemory → ⊥) → IsFirstFault table bytes fault) → (fault ≡ load_faults.NoMemory → stop ≡ NoMemory) →
-    ((fault ≡ load_faults.NoMemory → ⊥) → StopsFor (table_refused table fault) stop) → StopsAs (IsNoTable files folder table) (table_file_of folder table.name) stop
-table_refused_stops files folder table stop bytes fault file holds memory refused =
+-- the fault of a table's file as a stop
+pub stopped_none : (cause : Cause) (stop : Stop) → StopsFor cause stop → failed_at stop ≡ None
+stopped_none cause (Refused refusal line) h = refl
+stopped_none cause (Unread file) h = absurd h
+stopped_none cause NoMemory h = refl
+
+-- where it is a fault of its records
+pub content_none : (table : Table) (fault : LoadFault) (stop : Stop) → (fault ≡ load_faults.NoMemory → stop ≡ NoMemory)
+    → ((fault ≡ load_faults.NoMemory → ⊥) → StopsFor (table_refused table fault) stop) → failed_at stop ≡ None
+content_none table fault stop memory refused =
     elim (load_or_memory fault) [
-      | inl is ↦ wants (IsNoTable files folder table) (table_file_of folder table.name) stop (memory is)
-      | inr other ↦ StopsFor-stage (IsNoTable files folder table) (table_file_of folder table.name) (table_refused table fault) stop (inr (fault, bytes, refl, file, holds other)) (refused other)
+      | inl is ↦ rw (memory is) refl
+      | inr other ↦ stopped_none (table_refused table fault) stop (refused other)
+    ]
+
+unread_stop : (reason : Cause → Type 0) (name : List ℕ) (stop : Stop) → failed_at stop ≡ Some name → StopsAs reason name stop
+unread_stop reason name (Refused refusal line) is = absurd (none-some name is)
+unread_stop reason name (Unread file) is = same_Some (octets_of file) name is
+unread_stop reason name NoMemory is = absurd (none-some name is)
+
+pub table_unloaded_stops : (files : Files) (folder : List ℕ) (table : Table) (stop : Stop) (name : List ℕ) (fault : TableFault) → name ≡ table_file_of folder table.name
+    → (fault ≡ Unloaded TooLong → IsTooLong files name most_table_octets)
+    → ((load : LoadFault) → fault ≡ Content load → (load ≡ load_faults.NoMemory → ⊥) → (bytes : List ℕ) × IsFile files name most_table_octets bytes × IsFirstFault table bytes load)
+    → (fault ≡ Unloaded TooLong → StopsFor (table_too_long table) stop) → (fault ≡ Unloaded read_faults.NoMemory → stop ≡ NoMemory)
+    → ((load : LoadFault) → fault ≡ Content load → (load ≡ load_faults.NoMemory → stop ≡ NoMemory) × ((load ≡ load_faults.NoMemory → ⊥) → StopsFor (table_refused table load) stop))
+    → failed_at stop ≡ failed_table name fault → StopsAs (IsNoTable files folder table) (table_file_of folder table.name) stop
+table_unloaded_stops files folder table stop name (Unloaded TooLong) is long holds stops memory content failed =
+    StopsFor-stage (IsNoTable files folder table) (table_file_of folder table.name) (table_too_long table) stop (inl (refl, rw is at (long refl))) (stops refl)
+table_unloaded_stops files folder table stop name (Unloaded read_faults.Failed) is long holds stops memory content failed =
+    unread_stop (IsNoTable files folder table) (table_file_of folder table.name) stop (rw is at failed)
+table_unloaded_stops files folder table stop name (Unloaded read_faults.NoMemory) is long holds stops memory content failed =
+    wants (IsNoTable files folder table) (table_file_of folder table.name) stop (memory refl)
+table_unloaded_stops files folder table stop name (Content load) is long holds stops memory content failed =
+    elim (load_or_memory load) [
+      | inl want ↦ wants (IsNoTable files folder table) (table_file_of folder table.name) stop ((content load refl).0 want)
+      | inr other ↦
+          let (bytes, file, fault) = holds load refl other in
+          StopsFor-stage (IsNoTable files folder table) (table_file_of folder table.name) (table_refused table load) stop (inr (load, bytes, refl, rw is at file, fault)) ((content load refl).1 other)
     ]
 
 split : {A : Type 0} (xs : List A) (i : ℕ) (x : A) → i < length xs → x ≡ get_or xs i x → xs ≡ take i xs ++ x ∷ drop (suc i) xs

@@ -4,6 +4,7 @@
 //! report, one for the lines on what went wrong, and a place for the bench, and answers the [`Status`] of the run.
 //!
 //! - [`files`]: a whole file, within its limit.
+//! - `table_file`: the file of a table, loaded as it is read.
 //! - `generated`: generated input as the files of a run.
 //! - [`output`]: a text written whole.
 //! - [`notes`]: the lines on what went wrong.
@@ -13,7 +14,8 @@
 //! - [`worked_laws`]: cases with numbers.
 //!
 //! The time grows with the lengths of the files and of the report and with the number of
-//! instructions executed; docs/ARCHITECTURE.md counts them. In memory are at most one file, four octets for each value
+//! instructions executed; docs/ARCHITECTURE.md counts them. In memory are at most one text or module as it was read,
+//! or of a table's file one piece and the octets after the last whole record before it, four octets for each value
 //! of the loaded rows and four in the linear memory, the pages of the instance, the result rows, and the report.
 #![tactic(auto)]
 
@@ -24,6 +26,7 @@ pub mod notes;
 pub mod output;
 pub mod status;
 pub mod stop;
+mod table_file;
 pub mod top;
 pub mod worked_laws;
 

@@ -2,7 +2,8 @@
 
 ghost use Rattle.std.specs.Prelude.{◌≡◌, ◌≢◌, ◌≤◌, IfOk, IfErr, length, map};
 ghost use Rattle.std.specs.List.{AllByRecursion};
-ghost use Rattle.qw_top.specs.Causes.{schema_refused, table_refused};
+ghost use Rattle.qw_csv.specs.declared.loading.LoadFault.{LoadFault};
+ghost use Rattle.qw_top.specs.Causes.{schema_refused, table_refused, table_too_long};
 ghost use Rattle.qw_top.specs.FileNames.{table_file_of};
 ghost use Rattle.qw_top.specs.Inner.Causes.{cause_of};
 ghost use Rattle.qw_top.specs.Inner.Inputs.{IsNoSchema, IsNoScript, IsNoTable, StopsAtTables};
@@ -12,17 +13,18 @@ ghost use Rattle.qw_top.specs.Asking.{AsksWithin, IsOne};
 ghost use Rattle.qw_top.specs.Call.{IsRunLimit, IsTableLimit};
 ghost use Rattle.qw_top.specs.Limits.{limits_of, most_table_octets, most_text_octets};
 ghost use Rattle.qw_top.specs.Inner.Stages.{FilesStop};
-ghost use Rattle.qw_top.specs.Inner.Shelves.{HasRead, told_by};
-ghost use Rattle.qw_top.specs.Inner.Stop.{StopsAs, StopsFor, failed_stop, octets_of};
+ghost use Rattle.qw_top.specs.Inner.Shelves.{HasRead, failed_table, told_by};
+ghost use Rattle.qw_top.specs.Inner.Stop.{StopsAs, StopsFor, failed_at, failed_stop, octets_of};
 ghost use Rattle.qw_top.specs.Top.{HasQueries, IsFile, IsTooLong, QueriesAre, SchemaIs, TableIs, TablesAre};
 
 use super::queries::{QueriesFault, queries_of};
 use crate::causes::Cause;
 use crate::files::{MAX_TABLE_FILE, MAX_TEXT_FILE, ReadFault, read_whole, table_file_name};
 use crate::stop::{FileName, Stop, refused};
+use crate::table_file::{TableFault, load_file};
 use qw_command_line::command::RunWords;
 use qw_csv::Loaded;
-use qw_csv::loading::{LoadFault, load};
+use qw_csv::loading::LoadFault;
 use qw_io::Shelf;
 use qw_parse::fault::ParseFault;
 use qw_schema::parse::{SchemaFault, schema_of};
@@ -136,12 +138,30 @@ fn read_table<'a, F: Shelf>(
     ensures within { AsksWithin (IsOne (table_file_of folder.now table.now.name) most_table_octets) (F.watched files.old) (F.watched files.new) }
 {
     let name = table_file_name(alloc, folder, table.name.as_str()).map_err(|_| Stop::NoMemory)?;
-    let name = FileName::Made(name);
-    let cause = Cause::TableTooLong(table);
-    let bytes = read_file(alloc, files, name, MAX_TABLE_FILE, cause)?;
-    match load(alloc, table, bytes.as_slice()) {
+    match load_file(alloc, files, name.as_str(), MAX_TABLE_FILE, table) {
         Ok(loaded) => Ok(loaded),
-        Err(fault) => Err(table_stop(alloc, table, &fault)),
+        Err(fault) => Err(table_unloaded(alloc, table, FileName::Made(name), &fault)),
+    }
+}
+
+/// Why a run stops at the file of a table that wasn't loaded.
+fn table_unloaded<'a>(
+    alloc: Global,
+    table: &Table,
+    name: FileName<'a>,
+    fault: &TableFault,
+) -> Stop<'a>
+    ensures too_long { fault.now ≡ TableFault.Unread ReadFault.TooLong → StopsFor (table_too_long table.now) result }
+    ensures memory { fault.now ≡ TableFault.Unread ReadFault.NoMemory → result ≡ Stop.NoMemory }
+    ensures content { (load : LoadFault) → fault.now ≡ TableFault.Content load
+        → (load ≡ LoadFault.NoMemory → result ≡ Stop.NoMemory) × (load ≢ LoadFault.NoMemory → StopsFor (table_refused table.now load) result) }
+    ensures failed { failed_at result ≡ failed_table (octets_of name.entry) fault.now }
+{
+    match fault {
+        TableFault::Unread(ReadFault::TooLong) => refused(alloc, Cause::TableTooLong(table)),
+        TableFault::Unread(ReadFault::Failed) => Stop::Unread(name),
+        TableFault::Unread(ReadFault::NoMemory) => Stop::NoMemory,
+        TableFault::Content(fault) => table_stop(alloc, table, fault),
     }
 }
 

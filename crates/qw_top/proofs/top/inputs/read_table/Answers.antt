@@ -1,19 +1,19 @@
-use Rattle.std.proofs.Common.{◌≡◌, arith}
+use Rattle.std.proofs.Common.{◌≡◌, Err, ap, arith}
 use Rattle.std.specs.String.{string_bytes}
 use Rattle.std.proofs.lemmas.Grind.{common_steps}
-use Rattle.qw_csv.specs.declared.loading.LoadFault.TheVariants.{NoMemory}
-use Rattle.qw_csv.specs.Loading.{IsFirstFault}
 use Rattle.qw_top.specs.FileNames.{table_file_of}
-use Rattle.qw_top.specs.Limits.{most_table_octets}
-use Rattle.qw_top.specs.Top.{IsFile}
-use Rattle.qw_top.proofs.StopLemmas.{table_refused_stops}
+use Rattle.qw_top.proofs.StopLemmas.{table_unloaded_stops}
 use Rattle.qw_top.proofs.top.inputs.read_table.Goals as goal
+
+pub returns-in-Ok-clause-accepted : goal.returns-in-Ok-clause-accepted
+returns-in-Ok-clause-accepted g c =
+    let name : c.as_str-2.result.now ≡ table_file_of c.args.folder.now c.args.table.now.name = grind (arith, common_steps) in
+    let (bytes, file, loads) = c.in-Ok.ensures.loaded in
+    record { bytes = bytes; file = rw name at file; loads = loads; columns = c.in-Ok.ensures.columns }
 
 pub returns-clause-stops : goal.returns-clause-stops
 returns-clause-stops g c =
-    let files = g.F.Shelf.files c.args.files.now in
-    let table = c.args.table.now in
-    let name : string_bytes c.in_ok-name.name ≡ table_file_of c.args.folder.now table.name = grind (arith, common_steps) in
-    let file : IsFile files (table_file_of c.args.folder.now table.name) most_table_octets c.in_ok-bytes.bytes.items = rw (← name) c.in_ok-bytes.ensures.whole in
-    let first : (c.in-Err.fault ≡ NoMemory → ⊥) → IsFirstFault table c.in_ok-bytes.bytes.items c.in-Err.fault = λ other. rw c.as_slice.ensures.value at (c.in-Err.ensures.fault other) in
-    table_refused_stops files c.args.folder.now table c.table_stop.result c.in_ok-bytes.bytes.items c.in-Err.fault file first c.table_stop.ensures.memory c.table_stop.ensures.refused
+    let name : c.as_str-2.result.now ≡ table_file_of c.args.folder.now c.args.table.now.name = grind (arith, common_steps) in
+    let same : c.as_str-2.result.now ≡ string_bytes c.in_ok-name.name = grind (arith, common_steps) in
+    table_unloaded_stops (g.F.Shelf.files c.args.files.now) c.args.folder.now c.args.table.now c.table_unloaded.result c.as_str-2.result.now c.in-Err.fault name
+    (λ long. c.in-Err.ensures.too_long (ap (λ fault. Err fault) long)) c.in-Err.ensures.refused c.table_unloaded.ensures.too_long c.table_unloaded.ensures.memory c.table_unloaded.ensures.content (rw same c.table_unloaded.ensures.failed)
