@@ -1,5 +1,5 @@
 -- The blocks of a pipeline's row are typed.
-use Rattle.std.proofs.Common.{◌≡◌, ℕ, zero, suc, ◌+◌, ◌*◌, ◌^◌, ◌<◌, Bool, true, false, Option, Some, None, List, [], ◌∷◌, ◌++◌, length, length-append, map, take, slice_get, refl, sym, ap, ◌∙◌, subst, arith}
+use Rattle.std.proofs.Common.{◌≡◌, ℕ, zero, suc, ◌+◌, ◌*◌, ◌^◌, ◌<◌, inl, inr, if◌then◌else◌, Bool, true, false, Option, Some, None, List, [], ◌∷◌, ◌++◌, length, length-append, map, take, slice_get, refl, sym, ap, ◌∙◌, subst, arith}
 use Rattle.std.proofs.lemmas.List.{append-nil, length-map}
 use Rattle.std.specs.List.{AllByRecursion}
 use Rattle.qw_types.specs.Kind.{type_kind}
@@ -15,6 +15,7 @@ use Rattle.qw_low.specs.Syntax.{Expression as LowExpression, Statement, seq}
 use Rattle.qw_low.specs.Typing.{HasType, IsTyped}
 use Rattle.qw_expr.specs.Cells.{DeclaresKind, DeclaresNull, DeclaresValue}
 use Rattle.qw_expr.specs.Computes.{Known, AreDeclared}
+use Rattle.qw_read.specs.NullTests.{sure_reader, test_types}
 use Rattle.qw_read.specs.Reading.{DeclaresBases, known_of, operand_of}
 use Rattle.qw_read.specs.declared.reader.Reader.{Reader}
 use Rattle.qw_feed.specs.Cells.{Source, cell_block, cells_block, plain_block}
@@ -33,14 +34,16 @@ use Rattle.qw_table.proofs.OuterTyped.{outer_typed}
 use Rattle.qw_physical.specs.Courses.{column_of}
 use Rattle.qw_physical.specs.Physical.{Operator, Probe, Sink, build, filter, probe, select}
 use Rattle.qw_physical.specs.declared.pipeline.ReadColumn.{ReadColumn}
-use Rattle.qw_operator.specs.Carries.{IsCarried, IsFiltered, IsLookedUp, IsOuterProbed, IsProbed, IsRow, IsSunk, ReadsEntry, all_moved, behind_filter, clear_block, directory, entry_types, first_filter, known_entry, moved}
+use Rattle.qw_operator.specs.Carries.{IsCarried, IsFiltered, IsGuardedRow, IsLookedUp, IsOuterProbed, IsProbed, IsReadRow, IsRow, IsSunk, ReadsEntry, all_moved, behind_filter, clear_block, directory, entry_types, first_filter, known_entry, moved}
 use Rattle.qw_operator.specs.Emitted.{AreComputed, AreDecided, ReadsPart, known_after, last_end}
+use Rattle.qw_operator.specs.Guarded.{picked, sure_where}
 use Rattle.qw_operator.specs.Takes.{CanSink}
 use Rattle.qw_operator.proofs.CarriedFeeds.{items_many, moved_many, sources_many}
 use Rattle.qw_operator.proofs.EntryReads.{cell_three, entry_declared, entry_many}
 use Rattle.qw_leaves.proofs.LeafLists.{all_back, all_front}
 use Rattle.qw_operator.proofs.Promised.{AreOwn, first_own_types, rest_own_types}
-use Rattle.qw_operator.proofs.Fronts.{all_take}
+use Rattle.qw_operator.proofs.Fronts.{all_more, all_take}
+use Rattle.qw_operator.proofs.StrictLemmas.{all_picked}
 
 -- ---- premises
 -- how a reader's locals are declared
@@ -337,11 +340,53 @@ module _ (types : List ValType) where
     led_behind (filter cs ∷ operators) led = led
     led_behind (probe p ∷ operators) led = led
 
+    read_row_typed : (literals : List Known) (readers : List Reader) (next : ℕ) (cs : List Condition) (operators : List Operator) (snk : Sink) (a : Statement) (own : List ValType) → AreDeclared types (literals ++ map known_of readers) → AllByRecursion (IsReaderDeclared types) readers → AreOwn types next own →
+        AreLed types operators → IsLed types snk → CanSink snk → IsReadRow literals readers next cs operators snk a own → IsTyped types a
+    read_row_typed literals readers next cs operators snk a own declared readers_declared own_types led sink_led can h =
+        subst (IsTyped types) (sym h.is)
+        (decided_typed literals readers declared readers_declared next 0 h.ends cs h.tests h.tests_own (seq h.reads h.rest) (first_own_types types next own h.tests_own h.rest_own h.own_is own_types) h.decided (
+          part_typed literals readers declared readers_declared (last_end 0 h.ends) (length readers) h.reads h.reading,
+          carried_typed operators snk (literals ++ map known_of readers) (next + length h.tests_own) h.rest h.rest_own declared (rest_own_types types next own h.tests_own h.rest_own h.own_is own_types) led sink_led can h.carried,
+        ))
+
+    -- behind a test of null bits
+    reader_sure_declared : (f : Reader → Bool) (r : Reader) → IsReaderDeclared types r → IsReaderDeclared types (sure_where f r)
+    reader_sure_declared f r h = by (f r)
+      where
+        by : (b : Bool) → IsReaderDeclared types (if b then sure_reader r else r)
+        by true = (h.0, h.1, record { values = h.2.values; octets = h.2.octets; nulls = λ is. absurd cc }, (h.3.0, tt))
+        by false = h
+
+    all_sure_declared : (f : Reader → Bool) (readers : List Reader) → AllByRecursion (IsReaderDeclared types) readers → AllByRecursion (IsReaderDeclared types) (map (sure_where f) readers)
+    all_sure_declared f [] all = tt
+    all_sure_declared f (r ∷ readers) all = (reader_sure_declared f r all.0, all_sure_declared f readers all.1)
+
+    known_sure_declared : (readers : List Reader) → AllByRecursion (IsReaderDeclared types) readers → AreDeclared types (map known_of readers)
+    known_sure_declared [] all = tt
+    known_sure_declared (r ∷ readers) all = (all.0.3, known_sure_declared readers all.1)
+
+    guarded_row_typed : (literals : List Known) (readers : List Reader) (next : ℕ) (cs : List Condition) (operators : List Operator) (snk : Sink) (a : Statement) (own : List ValType) → AreDeclared types (literals ++ map known_of readers) → AllByRecursion (IsReaderDeclared types) readers → AreOwn types next own →
+        AreLed types operators → IsLed types snk → CanSink snk → IsGuardedRow literals readers next cs operators snk a own → IsTyped types a
+    guarded_row_typed literals readers next cs operators snk a own declared readers_declared own_types led sink_led can h =
+        let tested : List Reader = picked h.is_tested readers in
+        let sure : List Reader = map (sure_where h.is_tested) readers in
+        let sure_types = all_sure_declared h.is_tested readers readers_declared in
+        let known : AreDeclared types (literals ++ map known_of sure) = all-append (λ (k : Known). DeclaresValue types k.operand) literals (map known_of sure) (all_front (λ (k : Known). DeclaresValue types k.operand) literals (map known_of readers) declared) (known_sure_declared sure sure_types) in
+        let bases : AllByRecursion (λ (r : Reader). (slice_get types r.left ≡ Some I32) × (slice_get types r.end ≡ Some I32) × DeclaresBases types r) tested =
+        all_more (IsReaderDeclared types) (λ (r : Reader). (slice_get types r.left ≡ Some I32) × (slice_get types r.end ≡ Some I32) × DeclaresBases types r) tested (λ r one. (one.0, one.1, one.2)) (all_picked h.is_tested (IsReaderDeclared types) readers readers_declared) in
+        let test = h.tests.typed types bases (first_own_types types next own (test_types tested) h.inner_own h.own_is own_types) in
+        subst (IsTyped types) (sym h.is) (
+          test.0,
+          (
+            test.1,
+            read_row_typed literals sure (next + length (test_types tested)) cs operators snk h.inner h.inner_own known sure_types (rest_own_types types next own (test_types tested) h.inner_own h.own_is own_types) led sink_led can h.within,
+            tt,
+          ),
+        )
+
     pub row_typed : (literals : List Known) (readers : List Reader) (next : ℕ) (operators : List Operator) (snk : Sink) (a : Statement) (own : List ValType) → AreDeclared types (literals ++ map known_of readers) → AllByRecursion (IsReaderDeclared types) readers → AreOwn types next own →
         AreLed types operators → IsLed types snk → CanSink snk → IsRow literals readers next operators snk a own → IsTyped types a
-    row_typed literals readers next operators snk a own declared readers_declared own_types led sink_led can h =
-        subst (IsTyped types) (sym h.is)
-        (decided_typed literals readers declared readers_declared next 0 h.ends (first_filter operators) h.tests h.tests_own (seq h.reads h.rest) (first_own_types types next own h.tests_own h.rest_own h.own_is own_types) h.decided (
-          part_typed literals readers declared readers_declared (last_end 0 h.ends) (length readers) h.reads h.reading,
-          carried_typed (behind_filter operators) snk (literals ++ map known_of readers) (next + length h.tests_own) h.rest h.rest_own declared (rest_own_types types next own h.tests_own h.rest_own h.own_is own_types) (led_behind operators led) sink_led can h.carried,
-        ))
+    row_typed literals readers next operators snk a own declared readers_declared own_types led sink_led can (inl h) =
+        read_row_typed literals readers next (first_filter operators) (behind_filter operators) snk a own declared readers_declared own_types (led_behind operators led) sink_led can h
+    row_typed literals readers next operators snk a own declared readers_declared own_types led sink_led can (inr h) =
+        guarded_row_typed literals readers next (first_filter operators) (behind_filter operators) snk a own declared readers_declared own_types (led_behind operators led) sink_led can h

@@ -36,7 +36,7 @@ cells_ahead from below (r ∷ rs) cells =
     let rest = cells_ahead cells.0 below rs cells.2 in
     omega (arith, one.0, one.1, rest)
 
-cells_wider : (from below more : ℕ) (rs : List Reader) → below ≤ more → AreCellsIn from below rs → AreCellsIn from more rs
+pub cells_wider : (from below more : ℕ) (rs : List Reader) → below ≤ more → AreCellsIn from below rs → AreCellsIn from more rs
 cells_wider from below more [] le cells = omega (arith, cells, le)
 cells_wider from below more (r ∷ rs) le cells = (cells.0, cells.1, cells_wider cells.0 below more rs le cells.2)
 
@@ -72,7 +72,7 @@ bases_more n m r le h = record {
   nulls = λ is. let low = h.nulls is in (low.0, omega (arith, low.1, le), low.2, low.3);
 }
 
-there_more : (n m rows : ℕ) (values : List Val) (s : LowState) (r : Reader) → n ≤ m → IsThere n rows values s r → IsThere m rows values s r
+pub there_more : (n m rows : ℕ) (values : List Val) (s : LowState) (r : Reader) → n ≤ m → IsThere n rows values s r → IsThere m rows values s r
 there_more n m rows values s r le h = record {
   row = h.row;
   v = h.v;

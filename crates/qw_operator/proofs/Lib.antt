@@ -14,6 +14,7 @@ pub mod OuterProbed
 pub mod OperatorsFeed
 pub mod ColumnReads
 pub mod RowFeeds
+pub mod GuardedFeeds
 pub mod PipelineFeeds
 pub mod SinkFeeds
 pub mod WholeFeeds
@@ -37,3 +38,6 @@ pub mod Shortness
 pub mod Sunk
 pub mod Taken
 pub mod FrontServes
+mod GuardEmits
+mod GuardedEmitted
+mod StrictLemmas

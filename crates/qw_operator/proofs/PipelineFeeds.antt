@@ -40,7 +40,7 @@ use Rattle.qw_operator.proofs.PairRows.{AreApart, IsNullAt, stored_utf8}
 use Rattle.qw_operator.proofs.Fronts.{all_more}
 use Rattle.qw_leaves.proofs.LeafLists.{all_pairs}
 use Rattle.qw_operator.proofs.Promised.{AreOwn, IsItemAt}
-use Rattle.qw_operator.proofs.RowFeeds.{row_feeds}
+use Rattle.qw_operator.proofs.GuardedFeeds.{row_feeds}
 use Rattle.qw_operator.proofs.Seen.{AreWithin, held_later, less_keeps, longer_keeps}
 use Rattle.qw_operator.proofs.Served.{AreServed}
 use Rattle.qw_operator.proofs.Stood.{Stood, AllStand, built_of, stood_keeps}

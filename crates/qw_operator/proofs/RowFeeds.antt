@@ -29,7 +29,7 @@ use Rattle.qw_feed.proofs.InnerFeeds.{tests_feed}
 use Rattle.qw_table.specs.Keys.{text_octets}
 use Rattle.qw_physical.specs.Courses.{cost, fed, sink_key, sink_values, where_passed}
 use Rattle.qw_physical.specs.Physical.{Operator, Sink, filter, probe}
-use Rattle.qw_operator.specs.Carries.{IsRow, IsSunk, behind_filter, first_filter}
+use Rattle.qw_operator.specs.Carries.{IsReadRow, IsSunk, behind_filter, first_filter}
 use Rattle.qw_operator.specs.Emitted.{AreDecided, known_after, last_end}
 use Rattle.qw_operator.specs.Takes.{CanCarry, CanSink, IsTestOver}
 use Rattle.qw_operator.proofs.CarriedFeeds.{passed_units, tests_at}
@@ -45,7 +45,7 @@ use Rattle.qw_operator.proofs.Served.{AreServed}
 use Rattle.qw_operator.proofs.Stood.{Stood, built_of}
 
 -- ---- a filter that comes first
-fed_first : (built : List (List (List Val))) (operators : List Operator) (snk : Sink) (row : List Val) → fed built operators snk row ≡ flow_by (passes (first_filter operators) (at_row row)) (where_true (fed built (behind_filter operators) snk row))
+pub fed_first : (built : List (List (List Val))) (operators : List Operator) (snk : Sink) (row : List Val) → fed built operators snk row ≡ flow_by (passes (first_filter operators) (at_row row)) (where_true (fed built (behind_filter operators) snk row))
 fed_first built [] snk row = refl
 fed_first built (filter cs ∷ operators) snk row = refl
 fed_first built (probe p ∷ operators) snk row = refl
@@ -85,7 +85,7 @@ module _ (c : Cells) (stoods : List Stood) (base : ℕ) (sink : FlowSink) (runs 
     (sunk : (N next : ℕ) (known : List Known) (row : List Val) (a : Statement) (own : List ValType) (s : LowState) → 1 ≤ N → N ≤ fuel → base ≤ next → next + length own ≤ many → AreWithin next known → AreDeclared types known → AreOwn types next own → IsSunk known next snk a own →
     AllByRecursion (IsItemAt N row) (sink_values snk) → AllByRecursion HasKind (sink_values snk) → CanSink snk → ((vs : List Val) → values_of (sink_values snk) (at_row row) ≡ Ok vs → 1 + text_octets (sink_key snk vs) ≤ N) → Here c stoods many known row s →
     FeedsTo sink most fuel N (Below next) Any (fed (built_of stoods) [] snk row) a s)
-    (count : ℕ) (literals : List Known) (readers : List Reader) (low next : ℕ) (operators : List Operator) (a : Statement) (own : List ValType) (h : IsRow literals readers next operators snk a own) (base_low : base ≤ low) (room : next + length own ≤ many)
+    (count : ℕ) (literals : List Known) (readers : List Reader) (low next : ℕ) (operators : List Operator) (a : Statement) (own : List ValType) (h : IsReadRow literals readers next (first_filter operators) (behind_filter operators) snk a own) (base_low : base ≤ low) (room : next + length own ≤ many)
     (cells : AreCellsIn low next readers) (within : AreWithin low literals) (readers_within : AreWithin next (map known_of readers)) (declared : AreDeclared types (literals ++ map known_of readers)) (own_types : AreOwn types next own)
     (can : CanCarry (literals ++ map known_of readers) operators snk) (apart : AreApart (literals ++ map known_of readers) operators) (served : AreServed stoods operators) where
   abbrev known : List Known
@@ -110,8 +110,8 @@ module _ (c : Cells) (stoods : List Stood) (base : ℕ) (sink : FlowSink) (runs 
     abbrev IsAt : ℕ → LowState → Type 0
     IsAt e s = At c stoods base sink runs most fuel many count literals readers row low next base_low within_many cells within readers_within e s
 
-    pub row_feeds : (s : LowState) → IsAt 0 s → 1 + cost built operators snk row ≤ fuel → FeedsTo sink most fuel (1 + cost built operators snk row) (Below low) Any (fed built operators snk row) a s
-    row_feeds s at enough =
+    pub read_row_feeds : (s : LowState) → IsAt 0 s → 1 + cost built operators snk row ≤ fuel → FeedsTo sink most fuel (1 + cost built operators snk row) (Below low) Any (fed built operators snk row) a s
+    read_row_feeds s at enough =
         let f : Flow (List Val) = fed built later snk row in
         let rest_cost : ℕ = cost built later snk row in
         let N : ℕ = 1 + (units_of_all cs (at_row row) + where_passed (passes cs (at_row row)) rest_cost) in

@@ -97,13 +97,13 @@ many_nodes_of [] = omega arith
 many_nodes_of (c ∷ conjuncts) = let rest = many_nodes_of conjuncts in omega (arith, rest, some_nodes_of c, sum_by-cons nodes_of c conjuncts)
 
 -- ---- conjuncts and items, in a loop
-pub next_test_short : (xs : List Cond) (i : ℕ) (x : Cond) (old now new done upto : ℕ) → i < length xs → x ≡ get_or xs i x → now ≤ old + 117 * done + 404 * sum_by nodes_of (take i xs) → new + 117 * done ≤ now + 117 * upto + 404 * nodes_of x →
-    new ≤ old + 117 * upto + 404 * sum_by nodes_of (take (i + 1) xs)
+pub next_test_short : (xs : List Cond) (i : ℕ) (x : Cond) (old now new done upto : ℕ) → i < length xs → x ≡ get_or xs i x → now ≤ old + 78 * done + 404 * sum_by nodes_of (take i xs) → new + 78 * done ≤ now + 78 * upto + 404 * nodes_of x →
+    new ≤ old + 78 * upto + 404 * sum_by nodes_of (take (i + 1) xs)
 next_test_short xs i x old now new done upto less same before added = let sums = sum_next nodes_of xs i x less same in omega (arith, before, added, sums)
 
 -- a part of a row's reads
 pub part_short : (rs part : List Reader) (done upto : ℕ) (a : Statement) (old new : List LowStep) → take done rs ++ part ≡ take upto rs → done ≤ upto → upto ≤ length rs → size a ≤ 39 * length part → new ≡ old ++ steps_of a →
-    length new + 117 * done ≤ length old + 117 * upto
+    length new + 78 * done ≤ length old + 78 * upto
 part_short rs part done upto a old new is ahead within short added =
     let all = ap (λ (l : List LowStep). length l) added ∙ length-append old (steps_of a) in
     let counts = ap (λ (l : List Reader). length l) is in
@@ -115,7 +115,7 @@ part_short rs part done upto a old new is ahead within short added =
     taken (suc n) [] le = absurd (omega (arith, le))
     taken (suc n) (x ∷ xs) le = ap suc (taken n xs (omega (arith, le)))
 
-pub conjunct_short : (old mid now new before after done upto steps n : ℕ) → mid + 117 * done ≤ old + 117 * upto → now + after ≤ mid + before + 400 * n → new ≤ now + (steps + 1) → steps + 1 ≤ 4 * n → new + after + 117 * done ≤ old + before + 117 * upto + 404 * n
+pub conjunct_short : (old mid now new before after done upto steps n : ℕ) → mid + 78 * done ≤ old + 78 * upto → now + after ≤ mid + before + 400 * n → new ≤ now + (steps + 1) → steps + 1 ≤ 4 * n → new + after + 78 * done ≤ old + before + 78 * upto + 404 * n
 conjunct_short old mid now new before after done upto steps n one two three few = omega (arith, one, two, three, few)
 
 pub next_item_short : (xs : List Expr) (i : ℕ) (x : Expr) (old now new : ℕ) → i < length xs → x ≡ get_or xs i x → now ≤ old + 400 * sum_by nodes (take i xs) → new ≤ now + 400 * nodes x → new ≤ old + 400 * sum_by nodes (take (i + 1) xs)

@@ -1,5 +1,6 @@
 pub mod Carries
 pub mod Emitted
+pub mod Guarded
 pub mod Inner
 pub mod Kept
 pub mod Needed

@@ -1,6 +1,7 @@
 //! The rows of pipelines as blocks of Low: conjuncts, lookups and sinks, one within another (Neumann, VLDB 2011).
 //!
 //! - [`row`]: what is done at a row of a scan.
+//! - [`guard`], [`strict`]: the test of null bits before the first conjunct, and which columns it may test.
 //! - [`operators`]: the filters and the lookups of a pipeline, each within the one before.
 //! - [`sink`]: a row is entered into a table, or becomes a row of the result.
 //! - [`cells`]: the cells of a result row.
@@ -16,6 +17,7 @@
 pub mod cells;
 pub mod entry;
 pub mod fields;
+mod guard;
 pub mod lists;
 pub mod locals;
 pub mod lookup;
@@ -25,3 +27,4 @@ pub mod operators;
 pub mod outer;
 pub mod row;
 pub mod sink;
+mod strict;

@@ -44,7 +44,7 @@ fn emit_conjunct(
     requires done { done ≤ length readers.now }
     ensures emits { IfOk result (λ upto. EmitsConjunct (take literals (known_of known.now)) readers.now done upto (condition_of conjunct.now) emitter.old emitter.new) }
     ensures within { IfOk result (λ upto. upto ≤ length readers.now) }
-    ensures short { IfOk result (λ upto. extent emitter.new + 117 * done ≤ extent emitter.old + 117 * upto + 404 * nodes_of conjunct.now) }
+    ensures short { IfOk result (λ upto. extent emitter.new + 78 * done ≤ extent emitter.old + 78 * upto + 404 * nodes_of conjunct.now) }
 {
     let leaves = leaves_within(alloc, conjunct)?;
     let upto = needed_for(readers, &leaves, done);
@@ -76,7 +76,7 @@ pub fn emit_tests(
     requires ordered { AreOrdered literals readers.now known.now }
     ensures emits { IfOk result (λ done. EmitsTests (take literals (known_of known.now)) readers.now (map condition_of conjuncts.now) emitter.old emitter.new done) }
     ensures within { IfOk result (λ done. done ≤ length readers.now) }
-    ensures short { IfOk result (λ done. extent emitter.new ≤ extent emitter.old + 117 * done + 404 * sum_by nodes_of conjuncts.now) }
+    ensures short { IfOk result (λ done. extent emitter.new ≤ extent emitter.old + 78 * done + 404 * sum_by nodes_of conjuncts.now) }
 {
     let mut done = 0;
     for conjunct in conjuncts {

@@ -3,6 +3,7 @@ pub mod BasesRuns
 pub mod ConstantRuns
 pub mod Elsewhere
 pub mod LiteralRuns
+pub mod NullTestRuns
 pub mod ReadRuns
 pub mod ReadyColumns
 pub mod Several

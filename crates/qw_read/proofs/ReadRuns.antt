@@ -199,7 +199,7 @@ row_kept n next rows row r s t after kept at_row = record {
 }
 
 -- a row lies within 32 bits, since its value does within its part
-row_small : (type : Ty) (row count : ℕ) → values_size type (row + 1) ≤ count → count < 2 ^ 32 → 4 * row < 2 ^ 32
+pub row_small : (type : Ty) (row count : ℕ) → values_size type (row + 1) ≤ count → count < 2 ^ 32 → 4 * row < 2 ^ 32
 row_small ty.Integer row count within short = omega (arith, within, short)
 row_small (ty.Decimal precision scale) row count within short = omega (arith, within, short)
 row_small ty.Date row count within short = omega (arith, within, short)

@@ -52,7 +52,7 @@ row_bit row =
     let bit : bit_and (4 * row / 2 ^ (2 % 32)) 7 ≡ row % 8 = ap (λ (k : ℕ). bit_and k 7) index ∙ and_mask row 3 in
     omega (arith, bit)
 
-bit_of : (octet row : ℕ) → bit_and (octet / 2 ^ (bit_and (4 * row / 2 ^ (2 % 32)) 7 % 32)) 1 ≡ octet / 2 ^ (row % 8) % 2
+pub bit_of : (octet row : ℕ) → bit_and (octet / 2 ^ (bit_and (4 * row / 2 ^ (2 % 32)) 7 % 32)) 1 ≡ octet / 2 ^ (row % 8) % 2
 bit_of octet row = ap (λ (k : ℕ). bit_and (octet / 2 ^ k) 1) (row_bit row) ∙ and_mask (octet / 2 ^ (row % 8)) 1
 
 -- the row, from all rows and those that are left

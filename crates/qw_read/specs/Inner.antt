@@ -1,3 +1,4 @@
 pub mod Blocks
 pub mod ConstantBlocks
+pub mod NullBlocks
 pub mod TextBlocks

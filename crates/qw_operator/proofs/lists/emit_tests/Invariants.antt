@@ -10,5 +10,5 @@ abbrev pub invariant-loop-conjunct : goal.invariant-loop-conjunct
 invariant-loop-conjunct l = record {
   emits : EmitsTests (take l.literals (known_of l.known)) l.readers (map condition_of (take l.conjunct-index l.conjuncts)) l.initial.emitter l.emitter l.done;
   within : l.done ≤ length l.readers;
-  short : extent l.emitter ≤ extent l.initial.emitter + 117 * l.done + 404 * sum_by nodes_of (take l.conjunct-index l.conjuncts);
+  short : extent l.emitter ≤ extent l.initial.emitter + 78 * l.done + 404 * sum_by nodes_of (take l.conjunct-index l.conjuncts);
 }
