@@ -1,7 +1,6 @@
-use Rattle.std.proofs.Common.{◌≡◌, ◌<◌, None, length, refl, arith}
+use Rattle.std.proofs.Common.{◌<◌, None, arith}
 use Rattle.std.proofs.lemmas.Grind.{common_steps}
 use Rattle.qw_top.specs.Asking.{IsOne}
-use Rattle.qw_top.specs.Inner.Shelves.{told_by}
 use Rattle.qw_top.proofs.AskingLemmas.{asks_none, asks_then}
 use Rattle.qw_top.proofs.TableFileLemmas.{is_short, is_too_long, read_there, shelf_none}
 use Rattle.qw_top.proofs.WholeFileLemmas.{HasRead-then}
