@@ -24,9 +24,14 @@
 
 mod called;
 mod cases;
+mod compare;
+mod compared;
+mod draws;
 mod fault;
 mod left;
+mod named;
 mod plain;
+mod random;
 mod same;
 mod setting;
 mod text;
