@@ -153,8 +153,14 @@ impl Cases {
     }
 
     fn another(&self, alloc: Global, line: &str, what: &str) -> Result<Option<Verdict>, CaseFault> {
-        let told = self.came()?.told(alloc)?;
-        judged(false, format!(in alloc; "{line}: another {what}: {told}"))
+        let text = match &self.came {
+            None => format!(in alloc; "{line}: another {what}")?,
+            Some(came) => {
+                let told = came.told(alloc)?;
+                format!(in alloc; "{line}: another {what}: {told}")?
+            }
+        };
+        judged(false, Ok(text))
     }
 
     // The verdict on a case that is wrong on purpose.
