@@ -1,5 +1,4 @@
 mod Held
 mod Lists
 mod Merging
-mod Partnering
 mod Steps

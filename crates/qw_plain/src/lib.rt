@@ -1,12 +1,10 @@
 //! The meaning of queries as slow programs, which compiled queries are compared with.
 //!
 //! - [`outcome::plain_outcome`]: what a query comes to over tables; [`outcome::plain_select_outcome`]: what a specification over one table does.
-//! - [`partners::partners`]: how many partners the left rows of its LEFT JOINs have.
 #![tactic(auto)]
 
 mod flow;
 mod from;
 mod one_table;
 pub mod outcome;
-pub mod partners;
 mod rows;

@@ -1,9 +1,11 @@
 //! The lines of cases, one after another, and the verdict on each case.
 
 use crate::called::Came;
+use crate::compared::Log;
 use crate::fault::CaseFault;
 use crate::left;
-use crate::same::Seen;
+use crate::random::Random;
+use crate::same::Forms;
 use crate::setting::Setting;
 use crate::text::word_of;
 use std::alloc::{AllocError, Global};
@@ -17,12 +19,14 @@ pub struct Verdict {
     pub is_good: bool,
 }
 
-/// The lines so far: what they set, the last call, and the forms of queries and how many of these were compared.
+/// The lines so far: what they set, the last call, the forms and the rules of queries, and the queries that were compared.
 #[derive(Drop)]
 pub struct Cases {
     setting: Setting,
     came: Option<Came>,
-    seen: Seen,
+    forms: Forms,
+    random: Random,
+    log: Log,
 }
 
 impl Cases {
@@ -31,7 +35,9 @@ impl Cases {
         Cases {
             setting: Setting::new(alloc),
             came: None,
-            seen: Seen::new(alloc),
+            forms: Forms::new(alloc),
+            random: Random::new(alloc),
+            log: Log::new(alloc),
         }
     }
 
@@ -40,11 +46,13 @@ impl Cases {
         let (key, rest) = word_of(line);
         match key {
             "" | "#" => Ok(None),
-            "case" | "held" | "size" | "octets" | "seen" => self.right(alloc, line),
+            "case" | "held" | "size" | "octets" | "seen" | "least" => self.right(alloc, line),
             "same" => self.same(alloc, rest),
+            "random" => self.random(alloc, rest),
             "wrong" => self.wrong(alloc, rest),
             "keep" => unjudged(self.keep(alloc, rest)),
-            "form" | "forms" => unjudged(self.seen.set(alloc, key, rest)),
+            "form" | "forms" => unjudged(self.forms.set(alloc, key, rest)),
+            "rule" | "rules" | "draw" | "draws" => unjudged(self.random.set(alloc, key, rest)),
             _ => unjudged(self.setting.set(alloc, key, rest)),
         }
     }
@@ -55,7 +63,9 @@ impl Cases {
         match key {
             "case" => self.called(alloc, rest),
             "same" => told("answer", self.is_same(alloc, rest)),
-            "seen" => self.seen.count(rest),
+            "random" => told("answer", self.is_drawn_same(alloc, rest)),
+            "seen" => self.log.count(rest),
+            "least" => self.log.least(rest),
             _ => told("bench", self.is_left(alloc, key, rest)),
         }
     }
@@ -68,8 +78,25 @@ impl Cases {
     }
 
     fn is_same(&mut self, alloc: Global, template: &str) -> Result<bool, CaseFault> {
-        let other = self.seen.first_other(alloc, &mut self.setting, template)?;
+        let other = self.other(alloc, template)?;
         Ok(other.is_none())
+    }
+
+    fn is_drawn_same(&mut self, alloc: Global, rest: &str) -> Result<bool, CaseFault> {
+        let other = self.drawn_other(alloc, rest)?;
+        Ok(other.is_none())
+    }
+
+    // The number of the first query of a template that comes out otherwise.
+    fn other(&mut self, alloc: Global, template: &str) -> Result<Option<usize>, CaseFault> {
+        self.forms
+            .first_other(alloc, &mut self.setting, &mut self.log, template)
+    }
+
+    // The number of the first query that comes out otherwise, of the last script that was drawn.
+    fn drawn_other(&mut self, alloc: Global, rest: &str) -> Result<Option<usize>, CaseFault> {
+        self.random
+            .first_other(alloc, &mut self.setting, &mut self.log, rest)
     }
 
     fn is_left(&self, alloc: Global, key: &str, rest: &str) -> Result<bool, CaseFault> {
@@ -90,12 +117,30 @@ impl Cases {
 
     // The verdict on the queries of a template.
     fn same(&mut self, alloc: Global, template: &str) -> Result<Option<Verdict>, CaseFault> {
-        match self.seen.first_other(alloc, &mut self.setting, template)? {
+        match self.other(alloc, template)? {
             None => judged(true, format!(in alloc; "same {template}: as wanted")),
             Some(k) => judged(
                 false,
                 format!(in alloc; "same {template}: another answer at query {k}"),
             ),
+        }
+    }
+
+    // The verdict on scripts that are drawn.
+    fn random(&mut self, alloc: Global, rest: &str) -> Result<Option<Verdict>, CaseFault> {
+        match self.drawn_other(alloc, rest) {
+            Ok(None) => judged(true, format!(in alloc; "random {rest}: as wanted")),
+            Ok(Some(k)) => {
+                let last = self.random.last(alloc)?;
+                judged(
+                    false,
+                    format!(in alloc; "random {rest}: another answer at query {k} of{last}"),
+                )
+            }
+            Err(fault) => {
+                let last = self.random.last(alloc)?;
+                judged(false, format!(in alloc; "random {rest}: {fault}: {last}"))
+            }
         }
     }
 
@@ -108,8 +153,14 @@ impl Cases {
     }
 
     fn another(&self, alloc: Global, line: &str, what: &str) -> Result<Option<Verdict>, CaseFault> {
-        let told = self.came()?.told(alloc)?;
-        judged(false, format!(in alloc; "{line}: another {what}: {told}"))
+        let text = match &self.came {
+            None => format!(in alloc; "{line}: another {what}")?,
+            Some(came) => {
+                let told = came.told(alloc)?;
+                format!(in alloc; "{line}: another {what}: {told}")?
+            }
+        };
+        judged(false, Ok(text))
     }
 
     // The verdict on a case that is wrong on purpose.

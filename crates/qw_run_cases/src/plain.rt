@@ -13,23 +13,35 @@ ghost use Rattle.qw_grouped.specs.WholeQuery.{body_of};
 ghost use Rattle.qw_plain.specs.Rows.{HasRowsOf};
 
 use crate::fault::CaseFault;
+use crate::setting::Setting;
 use qw_csv::loading::load;
 use qw_csv::{Cell, Loaded};
 use qw_grouped::{Body, WholeQuery};
 use qw_meaning::query::{Entry, Joined, Source};
 use qw_plain::outcome::Answer;
 use qw_plain_grouped::outcome::plain_whole_outcome;
-use qw_types::{ColumnType, Kind, Row, Schema, Text, Val};
+use qw_top::files::table_file_name;
+use qw_types::{ColumnType, Kind, Row, Schema, Table, Text, Val};
 use std::alloc::Global;
 
-/// The rows that a file has, of each table of a schema.
-pub fn tables_of(alloc: Global, schema: &Schema, file: &[u8]) -> Result<Vec<Vec<Row>>, CaseFault> {
+/// The rows of each table of a schema, whose files stand in the folder `d`.
+pub fn tables_of(
+    alloc: Global,
+    schema: &Schema,
+    setting: &Setting,
+) -> Result<Vec<Vec<Row>>, CaseFault> {
     let mut tables = Vec::new(alloc);
     for table in schema.as_slice() {
-        let loaded = load(alloc, table, file).map_err(|_| CaseFault::Line)?;
-        tables.push(rows_in(alloc, &loaded)?)?;
+        tables.push(rows_of_table(alloc, table, setting)?)?;
     }
     Ok(tables)
+}
+
+fn rows_of_table(alloc: Global, table: &Table, setting: &Setting) -> Result<Vec<Row>, CaseFault> {
+    let name = table_file_name(alloc, "d", table.name.as_str())?;
+    let file = setting.text(name.as_str()).ok_or(CaseFault::Line)?;
+    let loaded = load(alloc, table, file).map_err(|_| CaseFault::Line)?;
+    rows_in(alloc, &loaded)
 }
 
 fn rows_in(alloc: Global, loaded: &Loaded) -> Result<Vec<Row>, CaseFault> {

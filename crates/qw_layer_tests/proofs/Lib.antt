@@ -1,2 +1,0 @@
-mod Specified
-mod SpecifiedGroups

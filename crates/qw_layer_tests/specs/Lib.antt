@@ -1,2 +1,0 @@
-pub mod RandomGroups
-pub mod RandomQueries
