@@ -19,15 +19,16 @@
 //! | `forms`, `form TEXT` | no forms; one form more |
 //! | `same TEMPLATE` | of each form a query, with the words of the form, which stand between bars, in place of `@1`, `@2` and on: the program leaves of it what the slow program answers |
 //! | `rule NAME TEXT`, `rules` | the alternatives that a name stands for, between bars, or more of them; no rules |
-//! | `draw LINE`, `draws` | a line more that is drawn for each script, and is one of those that set something; no such lines |
-//! | `random SEED COUNT` | so many times, each line to be drawn, in which for each symbol an alternative of its rule is drawn, and again for those of the alternative: then the program leaves of each query of the script what the slow program answers, whose rows may come in any order |
+//! | `draw LINE`, `draws` | one more of the lines that are drawn, each of which sets something; no such lines |
+//! | `random SEED COUNT` | so many times: each of these lines is set, with what is drawn in place of its symbols, and the call is made; the program leaves of each query what the slow program answers, its rows in any order |
 //! | `seen COUNT` | so many queries were compared since the last such line, and some raise an exception and some don't |
 //! | `least COUNT END WORDS` | of the queries that were compared since then, so many have all these words, which stand between bars, and came to this end: `rows`, `none` or `raised` |
 //! | `wrong ..` | one of these that is wrong on purpose, and has to be found so |
 //!
-//! A symbol stands between braces: `{NAME}` and `{NAME:WORD}` for one of the alternatives of a rule, with the word in place of each `@` in it,
-//! `{KEPT=NAME}` and `{KEPT=NAME:WORD}` for nothing, but what is drawn for the rule is kept, and `{=KEPT}` for what was kept so last. What a
-//! seed draws is the same in every run. Of a script that comes out otherwise the verdict has the lines that were drawn, as they can be set.
+//! For `same` and `random` the schema is the text `s`, the tables' files stand in the folder `d`, and the script is `q`. A symbol stands between
+//! braces: `{NAME}` and `{NAME:WORD}` for one of the alternatives of a rule, with the word in place of each `@` in it; `{KEPT=NAME}` and
+//! `{KEPT=NAME:WORD}` for nothing, but what is drawn for the rule is kept; and `{=KEPT}` for what was kept so last. What a seed draws is the same
+//! in every run. Of a script that comes out otherwise the verdict has the lines that were drawn, as they can be set again.
 #![tactic(auto)]
 
 mod called;
