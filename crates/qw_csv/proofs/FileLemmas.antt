@@ -1,8 +1,9 @@
 -- The records of a file, and the rows or the fault that they stand for.
-use Rattle.std.proofs.Common.{Bor, Bool, true, false, List, ℕ, ◌≡◌, ◌≤◌, ◌+◌, ◌∙◌, ◌∷◌, ◌++◌, [], length, take, drop, take_all, get_or, ◌-◌, inl, inr, refl, sym, ap, arith, append_assoc, Some, Result, Ok, Err, ◌≢◌}
+use Rattle.std.proofs.Common.{Bor, Bool, true, false, List, ℕ, map, ◌≡◌, ◌≤◌, ◌+◌, ◌∙◌, ◌∷◌, ◌++◌, [], length, take, drop, take_all, get_or, ◌-◌, inl, inr, refl, sym, ap, arith, append_assoc, Some, Result, Ok, Err, ◌≢◌}
 use Rattle.std.specs.Prelude.{IfOk, IfErr, ◌<◌}
 use Rattle.std.proofs.lemmas.Bool.{false≢true}
-use Rattle.std.proofs.lemmas.List.{append-nil, length-drop, take-append-drop}
+use Rattle.std.specs.Char.{to_ascii_lowercase}
+use Rattle.std.proofs.lemmas.List.{append-nil, length-drop, length-map, take-append-drop}
 use Rattle.csv.specs.Reading.{AreRecords, Reached, default_config, is_bom, strip_bom}
 use Rattle.csv.specs.declared.parser.State.{State}
 use Rattle.csv.specs.declared.parser.State.TheVariants.{StartRecord}
@@ -16,10 +17,11 @@ use Rattle.qw_csv.specs.declared.loading.LoadFault.TheVariants as fault
 use Rattle.qw_csv.specs.Loading.{AreAllRecords, AreFirstRecords, AreRecordsOf, AreTaken, Follows, IsFirstFault, IsHeader, IsRecordFault, IsRecordOf, LeavesToRead, Loads}
 use Rattle.qw_csv.specs.Inner.Loading.{HasRead, IsWrongNext, TakesAll, TakesFault, TakesRows, TakesWrong}
 use Rattle.qw_csv.specs.Inner.Place.{IsAt, IsPlaced, after}
+use Rattle.qw_csv.specs.Inner.Wide.{BeginsWide, IsTooWide}
 use Rattle.qw_csv.specs.declared.loading.Taken.{Taken}
 use Rattle.qw_csv.specs.declared.place.Place.{Place}
 use Rattle.qw_csv.specs.declared.place.Place.TheVariants.{Fresh}
-use Rattle.qw_csv.proofs.MachineLemmas.{after_both, leaves_at, leaves_rest, leaves_within, strip_line}
+use Rattle.qw_csv.proofs.MachineLemmas.{after_both, leaves_at, leaves_rest, leaves_within, reached_grown, strip_line}
 use Rattle.qw_csv.specs.Inner.Rows.{rows_in}
 use Rattle.qw_csv.specs.declared.storage.Values.{Values}
 
@@ -251,8 +253,14 @@ after_line xs = refl
 pub rest_taken : (n : ℕ) (xs : List ℕ) → take (length xs - n) (drop n xs) ≡ drop n xs
 rest_taken n xs = take_all (length xs - n) (drop n xs) (omega (arith, length-drop n xs))
 
-pub kept_line : (waiting more rest : List ℕ) (place : Place) → IsPlaced (Some place) waiting → take 1 (waiting ++ more) ++ rest ≡ 10 ∷ rest
+kept_line : (waiting more rest : List ℕ) (place : Place) → IsPlaced (Some place) waiting → take 1 (waiting ++ more) ++ rest ≡ 10 ∷ rest
 kept_line waiting more rest place ((line, is), at) = rw is refl
+
+-- the octets behind whole lines, behind a line end
+pub rest_waits : (waiting piece more cut kept : List ℕ) (whole : ℕ) (place : Place) → IsPlaced (Some place) waiting → more ≡ waiting ++ take whole piece → cut ≡ take 1 more
+    → kept ≡ cut ++ take (length piece - whole) (drop whole piece) → kept ≡ 10 ∷ drop whole piece
+rest_waits waiting piece more cut kept whole place placed read cutting keeping =
+    rw (keeping, cutting, read, rest_taken whole piece) (kept_line waiting (take whole piece) (drop whole piece) place placed)
 
 -- whole lines of a piece, behind those
 module _ (waiting piece : List ℕ) (whole : ℕ) (place : Place) (placed : IsPlaced (Some place) waiting) (some : 0 < whole)
@@ -306,3 +314,33 @@ bare_unmarked [] long mark = absurd (omega (arith, long))
 bare_unmarked (a ∷ []) long mark = absurd (omega (arith, long))
 bare_unmarked (a ∷ b ∷ []) long mark = absurd (omega (arith, long))
 bare_unmarked (a ∷ b ∷ c ∷ text) long mark = rw mark refl
+
+-- ---- a record with too many fields, of which more may come
+
+other_width : (columns : List Column) (fields : List (List ℕ)) → length columns < length fields → IsHeader columns fields → ⊥
+other_width columns fields wide named =
+    omega (arith, wide, ap length named, length-map fields (λ (field : List ℕ). map to_ascii_lowercase field), length-map columns (λ (c : Column). map to_ascii_lowercase c.name))
+
+wrong_wide : (columns : List Column) (records : List (List (List ℕ))) (named : Bool) (rows : List (List Val)) (next : List (List ℕ)) (e : LoadFault)
+    → AreTaken columns records named rows → length columns < length next → IsTooWide named rows e → IsWrongNext columns records next e
+wrong_wide columns [] true rows next e taken wide is = absurd taken
+wrong_wide columns [] false rows next e taken wide is = (is, other_width columns next wide)
+wrong_wide columns (header ∷ records) false rows next e taken wide is = absurd taken
+wrong_wide columns (header ∷ records) true rows next fault.BadHeader taken wide is = absurd is
+wrong_wide columns (header ∷ records) true rows next (fault.FieldCount row) taken wide is =
+    (taken.0, (rows, taken.1, (omega (arith, is.0), is.1, (λ same. omega (arith, same, wide)))))
+wrong_wide columns (header ∷ records) true rows next (fault.Field row index why) taken wide is = absurd is
+wrong_wide columns (header ∷ records) true rows next fault.TooManyRows taken wide is = (taken.0, (rows, taken.1, omega (arith, is, taken.2)))
+wrong_wide columns (header ∷ records) true rows next fault.NoMemory taken wide is = absurd is
+
+pub wide_fails : (table : Table) (given waiting behind : List ℕ) (records : List (List (List ℕ))) (place : Place) (named : Bool) (rows : List (List Val)) (e : LoadFault)
+    → IsPlaced (Some place) waiting → BeginsWide (strip_bom waiting) (length table.columns) → IsTooWide named rows e → LeavesToRead given records waiting
+    → AreTaken table.columns records named rows → IsFirstFault table (given ++ behind) e
+wide_fails table given waiting behind records place named rows e ((line, is), at) h why leaves taken =
+    let read : Reached default_config StartRecord (10 ∷ line) (h.fields ∷ []) h.state h.rest = rw (is, strip_line line) at h.reached in
+    let at_end : IsAt (after StartRecord (10 ∷ line)) place = rw is at at in
+    let (more, s, u, reached, long) = reached_grown (10 ∷ line) behind h.rest h.fields h.state place read at_end in
+    let waits : LeavesToRead given records (10 ∷ line) = rw is at leaves in
+    let both : Reached default_config StartRecord (strip_bom ((10 ∷ line) ++ behind)) (more ∷ []) s u = rw (strip_line (line ++ behind)) reached in
+    let (s', v, first, next) = leaves_at given (10 ∷ line) behind u records (more ∷ []) s waits both in
+    fails_next table (given ++ behind) records more e (s', v, first) (wrong_wide table.columns records named rows more e taken (omega (arith, h.wide, long)) why)

@@ -1,10 +1,10 @@
--- The reader's machine over a text in two parts, of which the first ends where a record may begin.
-use Rattle.std.proofs.Common.{Bool, true, false, List, ℕ, zero, suc, ◌≡◌, ◌≢◌, ◌∙◌, ◌∷◌, ◌++◌, [], Some, None, refl, sym, ap, subst, arith, append_assoc, inl, inr, get_or, take_all}
+-- The reader's machine over a text in two parts, of which the first ends where a record may begin, or within one.
+use Rattle.std.proofs.Common.{Bool, true, false, List, ℕ, zero, suc, ◌≡◌, ◌≢◌, ◌∙◌, ◌∷◌, ◌++◌, [], Some, None, refl, sym, ap, subst, arith, append_assoc, inl, inr, get_or, take_all, length-append}
 use Rattle.std.specs.Prelude.{◌==◌, ◌||◌, ◌⊎◌, ◌+◌, length, take, ◌≤◌, ◌<◌, ◌-◌}
 use Rattle.std.proofs.lemmas.Bool.{false≢true}
 use Rattle.std.proofs.lemmas.List.{take_more}
 use Rattle.std.proofs.lemmas.Option.{none-some, same_Some}
-use Rattle.csv.specs.Machine.{Read, field_after, fields_after, in_field, is_end, next_record, start_field, start_record, step}
+use Rattle.csv.specs.Machine.{Read, ends_at_end, field_after, fields_after, in_field, is_end, next_record, start_field, start_record, step}
 use Rattle.csv.specs.Reading.{AreRecords, Reached, default_config, is_bom, strip_bom}
 use Rattle.csv.specs.declared.parser.Action.{Action}
 use Rattle.csv.specs.declared.parser.Action.TheVariants as act
@@ -152,6 +152,103 @@ reached_join s0 s s1 s2 x y z u [] (r ∷ rs) (e, k) same (one, read, first, res
 reached_join s0 s s1 s2 x y z u (r ∷ a) b (one, read, first, rest) same next =
     let (s3, v, behind, last) = reached_join one.1 s s1 s2 one.2 y z u a b rest same next in
     (s3, v, (one, read, first, behind), last)
+
+-- ---- a record only gains fields as its text goes on
+
+begun_ends : (s : State) → rests s ≡ false → ends_at_end s ≡ true
+begun_ends st.StartRecord begun = absurd (false≢true (sym begun))
+begun_ends st.AfterCr begun = absurd (false≢true (sym begun))
+begun_ends st.InComment begun = absurd (false≢true (sym begun))
+begun_ends st.StartField begun = refl
+begun_ends st.InField begun = refl
+begun_ends st.InQuoted begun = refl
+begun_ends st.AfterQuote begun = refl
+begun_ends st.InEscape begun = refl
+
+ends_begun : (s : State) (place : Place) → IsAt s place → ends_at_end s ≡ true → rests s ≡ false
+ends_begun st.StartRecord place at ends = absurd (false≢true ends)
+ends_begun st.AfterCr place at ends = absurd (false≢true ends)
+ends_begun st.InComment place at ends = absurd at
+ends_begun st.StartField place at ends = refl
+ends_begun st.InField place at ends = refl
+ends_begun st.InQuoted place at ends = refl
+ends_begun st.AfterQuote place at ends = refl
+ends_begun st.InEscape place at ends = absurd at
+
+stays_begun : (s : State) (c : ℕ) → rests s ≡ false → is_end (step default_config s c).1 ≡ false → rests (step default_config s c).0 ≡ false
+stays_begun s c begun more = by_test (rests (step default_config s c).0) refl
+  where
+    by_test : (b : Bool) → rests (step default_config s c).0 ≡ b → rests (step default_config s c).0 ≡ false
+    by_test true e = absurd (false≢true (sym begun ∙ (step_idle s c more e).0))
+    by_test false e = e
+
+fields_kept : (a : Action) (f : List (List ℕ)) (d : List ℕ) → length f ≤ length (fields_after a f d)
+fields_kept act.EndField f d = omega (arith, length-append f (d ∷ []))
+fields_kept act.Skip f d = omega arith
+fields_kept act.Copy f d = omega arith
+fields_kept act.EndRecord f d = omega (arith, length-append f (d ∷ []))
+
+field_ended : (a : Action) (f : List (List ℕ)) (d : List ℕ) → is_end a ≡ true → length f + 1 ≤ length (fields_after a f d)
+field_ended act.EndField f d end = absurd (false≢true end)
+field_ended act.Skip f d end = absurd (false≢true end)
+field_ended act.Copy f d end = absurd (false≢true end)
+field_ended act.EndRecord f d end = omega (arith, length-append f (d ∷ []))
+
+-- a read that gives at least so many fields
+abbrev Gives : State → List (List ℕ) → List ℕ → List ℕ → ℕ → Type 0
+Gives s f d p count = (r : Read) × (next_record default_config s f d p ≡ Some r) × (count ≤ length r.0)
+
+-- a record that has begun ends, with a field more
+begun_gives : (s : State) (f : List (List ℕ)) (d q : List ℕ) → rests s ≡ false → Gives s f d q (length f + 1)
+unfolding next_record
+begun_gives s f d [] begun = ((f ++ d ∷ [], st.StartRecord, []), rw (begun_ends s begun) refl, omega (arith, length-append f (d ∷ [])))
+begun_gives s f d (c ∷ q) begun =
+    by_end (is_end (step default_config s c).1) refl
+    (λ more. begun_gives (step default_config s c).0 (fields_after (step default_config s c).1 f d) (field_after (step default_config s c).1 c d) q (stays_begun s c begun more))
+  where
+    by_end : (b : Bool) → is_end (step default_config s c).1 ≡ b
+        → (is_end (step default_config s c).1 ≡ false
+        → Gives (step default_config s c).0 (fields_after (step default_config s c).1 f d) (field_after (step default_config s c).1 c d) q (length (fields_after (step default_config s c).1 f d) + 1))
+        → Gives s f d (c ∷ q) (length f + 1)
+    by_end true e more = ((fields_after (step default_config s c).1 f d, (step default_config s c).0, q), rw e refl, field_ended (step default_config s c).1 f d e)
+    by_end false e more =
+        let (r, is, long) = more e in
+        (r, rw e is, omega (arith, long, fields_kept (step default_config s c).1 f d))
+
+-- what follows a text takes no field from its first record
+grown_record : (s : State) (f : List (List ℕ)) (d p q : List ℕ) (r : Read) (place : Place) → next_record default_config s f d p ≡ Some r → IsAt (after s p) place
+    → Gives s f d (p ++ q) (length r.0)
+unfolding next_record after
+grown_record s f d [] q r place is at = by_test (ends_at_end s) refl
+  where
+    by_test : (b : Bool) → ends_at_end s ≡ b → Gives s f d q (length r.0)
+    by_test true e =
+        let (r', is', long) = begun_gives s f d q (ends_begun s place at e) in
+        (r', is', subst (λ (o : Read). length o.0 ≤ length r'.0) (same_Some {A = Read} (f ++ d ∷ [], st.StartRecord, []) r (rw e at is)) (omega (arith, long, length-append f (d ∷ []))))
+    by_test false e = absurd (none-some r (rw e at is))
+grown_record s f d (c ∷ p) q r place is at =
+    by_end (is_end (step default_config s c).1) refl
+    (λ rest. grown_record (step default_config s c).0 (fields_after (step default_config s c).1 f d) (field_after (step default_config s c).1 c d) p q r place rest at)
+  where
+    by_end : (b : Bool) → is_end (step default_config s c).1 ≡ b
+        → (next_record default_config (step default_config s c).0 (fields_after (step default_config s c).1 f d) (field_after (step default_config s c).1 c d) p ≡ Some r
+        → Gives (step default_config s c).0 (fields_after (step default_config s c).1 f d) (field_after (step default_config s c).1 c d) (p ++ q) (length r.0))
+        → Gives s f d (c ∷ (p ++ q)) (length r.0)
+    by_end true e more = (
+      (fields_after (step default_config s c).1 f d, (step default_config s c).0, p ++ q),
+      rw e refl,
+      subst (λ (o : Read). length o.0 ≤ length (fields_after (step default_config s c).1 f d)) (same_Some {A = Read} (fields_after (step default_config s c).1 f d, (step default_config s c).0, p) r (rw e at is)) (omega arith),
+    )
+    by_end false e more =
+        let (r', is', long) = more (rw e at is) in
+        (r', rw e is', long)
+
+pub reached_grown : (x q u : List ℕ) (fields : List (List ℕ)) (s : State) (place : Place) → Reached default_config StartRecord x (fields ∷ []) s u → IsAt (after StartRecord x) place
+    → (more : List (List ℕ)) × (s' : State) × (u' : List ℕ) × Reached default_config StartRecord (x ++ q) (more ∷ []) s' u' × (length fields ≤ length more)
+unfolding Reached
+reached_grown x q u fields s place (one, read, first, rest) at =
+    let (r, is, long) = grown_record StartRecord [] [] x q one place read at in
+    (r.0, r.1, r.2, (r, is, refl, (refl, refl)), rw first long)
 
 -- ---- the byte order mark, and the line end that is put in its place
 

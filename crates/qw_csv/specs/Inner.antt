@@ -3,3 +3,4 @@ pub mod Loading
 pub mod Place
 pub mod Rows
 pub mod Storage
+pub mod Wide

@@ -14,6 +14,7 @@ pub mod loader;
 pub mod loading;
 mod place;
 mod storage;
+mod wide;
 
 pub use cell::{Cell, CellFault};
 pub use column_cells::ColumnCells;

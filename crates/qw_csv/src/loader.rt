@@ -9,13 +9,14 @@ ghost use Rattle.qw_csv.specs.declared.loading.LoadFault.{LoadFault};
 
 use crate::loaded::Loaded;
 use crate::loading::{LoadFault, Taken, none_taken, take_records, take_rest};
-use crate::place::{Place, scan};
+use crate::place::{Place, fields_ended, scan};
+use crate::wide::{is_wide, too_wide};
 use qw_types::Table;
 use std::alloc::Global;
 use std::marker::Model;
 
 /// What was made of the front of a table's file: its rows so far, and the octets after its last whole record. So of a file no more
-/// than a piece and a record are in memory beside the rows.
+/// than a piece and a record are in memory beside the rows, and no more of a record than a piece behind its first field too many.
 #[derive(Debug, Drop)]
 pub struct Loader {
     taken: Taken,
@@ -23,6 +24,8 @@ pub struct Loader {
     waiting: Vec<u8>,
     /// Where they end; none before that is known.
     place: Option<Place>,
+    /// How many fields of a record have ended among them; none behind a carriage return outside quotes, which may end the record.
+    fields: Option<usize>,
 }
 
 impl Model for Loader {
@@ -50,10 +53,12 @@ impl Loader {
             taken: none_taken(alloc, table.columns.as_slice())?,
             waiting: Vec::new(alloc),
             place: None,
+            fields: Some(0),
         })
     }
 
-    /// Takes the next octets of the file, and reads the records that are whole.
+    /// Takes the next octets of the file, and reads the records that are whole. A record that isn't whole yet, and has more fields than there
+    /// are columns already, is refused at once.
     ///
     /// # Errors
     ///
@@ -65,7 +70,15 @@ impl Loader {
             → IsFirstFault table.now (given ++ (piece.now ++ behind)) e) }
     {
         match self.place {
-            Some(place) => take_lines(alloc, table, self.taken, self.waiting, place, piece),
+            Some(place) => take_lines(
+                alloc,
+                table,
+                self.taken,
+                self.waiting,
+                place,
+                self.fields,
+                piece,
+            ),
             None => take_start(alloc, table, self.taken, self.waiting, piece),
         }
     }
@@ -106,11 +119,12 @@ fn take_start(
             taken,
             waiting,
             place: None,
+            fields: Some(0),
         });
     }
     let line = vec![in alloc; b'\n']?;
     let text = without_mark(waiting.as_slice());
-    take_lines(alloc, table, taken, line, Place::Fresh, text)
+    take_lines(alloc, table, taken, line, Place::Fresh, Some(0), text)
 }
 
 /// Takes octets behind those that wait, which end at this place.
@@ -120,6 +134,7 @@ fn take_lines(
     taken: Taken,
     mut waiting: Vec<u8>,
     place: Place,
+    fields: Option<usize>,
     piece: &[u8],
 ) -> Result<Loader, LoadFault>
     requires columns { taken.loaded.columns ≡ map column_type table.now.columns }
@@ -132,21 +147,45 @@ fn take_lines(
 {
     let scanned = scan(place, piece);
     if scanned.whole == 0 {
+        let fields = fields_ended(place, fields, piece);
         waiting.extend_from_slice(piece)?;
-        return Ok(Loader {
-            taken,
-            waiting,
-            place: Some(scanned.place),
-        });
+        return wait_for(alloc, table, taken, waiting, scanned.place, fields);
     }
+    let fields = fields_ended(Place::Fresh, Some(0), &piece[scanned.whole..]);
     waiting.extend_from_slice(&piece[..scanned.whole])?;
     let taken = take_records(alloc, table, taken, waiting.as_slice())?;
     waiting.truncate(1);
     waiting.extend_from_slice(&piece[scanned.whole..])?;
+    wait_for(alloc, table, taken, waiting, scanned.place, fields)
+}
+
+/// Waits for what follows these octets, which end at this place, and among which so many fields of a record have ended. Refuses the record
+/// where it has too many.
+fn wait_for(
+    alloc: Global,
+    table: &Table,
+    taken: Taken,
+    waiting: Vec<u8>,
+    place: Place,
+    fields: Option<usize>,
+) -> Result<Loader, LoadFault>
+    requires columns { taken.loaded.columns ≡ map column_type table.now.columns }
+    requires placed { IsPlaced (Some place) waiting.items }
+    ensures taken { IfOk result (λ loader. (given : List ℕ) (records : List (List (List ℕ))) → LeavesToRead given records waiting.items
+        → AreTaken table.now.columns records taken.named taken.loaded.rows → HasTaken table.now loader given) }
+    ensures fault { IfErr result (λ e. e ≢ LoadFault.NoMemory → (given behind : List ℕ) (records : List (List (List ℕ)))
+        → LeavesToRead given records waiting.items → AreTaken table.now.columns records taken.named taken.loaded.rows
+        → IsFirstFault table.now (given ++ behind) e) }
+{
+    let columns = table.columns.as_slice().len();
+    if is_wide(alloc, waiting.as_slice(), fields, columns)? {
+        return Err(too_wide(&taken));
+    }
     Ok(Loader {
         taken,
         waiting,
-        place: Some(scanned.place),
+        place: Some(place),
+        fields,
     })
 }
 

@@ -116,7 +116,7 @@ pub fn one_first_fault()
 {}
 
 /// A reader of all records of the octets, the first one among them, of any number of fields each.
-fn reader_of<'a>(alloc: Global, bytes: &'a [u8]) -> Reader<&'a [u8]>
+pub(crate) fn reader_of<'a>(alloc: Global, bytes: &'a [u8]) -> Reader<&'a [u8]>
     ensures { HasRead result (strip_bom bytes.now) [] }
 {
     ReaderBuilder::new()
@@ -305,7 +305,10 @@ fn read_record(reader: &mut Reader<&[u8]>, row: &mut ByteRecord) -> Result<bool,
 }
 
 /// Reads the next record, if there is one. What stops the reader counts as want of memory.
-fn next_record(reader: &mut Reader<&[u8]>, row: &mut ByteRecord) -> Result<bool, NoMemory>
+pub(crate) fn next_record(
+    reader: &mut Reader<&[u8]>,
+    row: &mut ByteRecord,
+) -> Result<bool, NoMemory>
     ensures read { IfOk result (λ found. (text : List ℕ) (records : List (List (List ℕ)))
         → HasRead reader.old text records
         → MatchBool found (HasRead reader.new text (records ++ fields_of row.new ∷ []))

@@ -116,3 +116,20 @@ fn line_ends(text: &[u8]) -> usize
         None => 0,
     }
 }
+
+/// How many fields of a record have ended behind a text that goes on with it from a place, where so many had before; none behind a
+/// carriage return outside quotes, which may end the record.
+pub(crate) fn fields_ended(start: Place, before: Option<usize>, text: &[u8]) -> Option<usize> {
+    let mut place = start;
+    let mut ended = before?;
+    for octet in text {
+        if place != Place::Quoted && *octet == b'\r' {
+            return None;
+        }
+        if place != Place::Quoted && *octet == b',' {
+            ended = ended.saturating_add(1);
+        }
+        place = next_place(place, *octet);
+    }
+    Some(ended)
+}
