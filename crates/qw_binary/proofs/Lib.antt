@@ -1,11 +1,11 @@
-mod Apart
+pub mod Apart
 mod Followed
 mod FollowedSteps
 mod FunctionLemmas
 mod ImportLemmas
 mod LocalsLemmas
 mod ModuleLaws
-mod NumberedBodies
+pub mod NumberedBodies
 mod Refusals
 mod Short
 mod ShortBodies

@@ -59,7 +59,7 @@ names_more c d m n p q (i.Call index) h = h
 all_more : (c d m n : ℕ) → c ≤ d → m ≤ n → (xs : List Instr) → AllByRecursion (NamesBelow c m) xs → AllByRecursion (NamesBelow d n) xs
 all_more c d m n p q xs h = weaker (NamesBelow c m) (NamesBelow d n) (names_more c d m n p q) xs h
 
-abbrev AreLower : (count n : ℕ) → List (List Instr) → Type 0
+abbrev pub AreLower : (count n : ℕ) → List (List Instr) → Type 0
 AreLower c n [] = Unit {0}
 AreLower c n (s ∷ ss) = AllByRecursion (NamesBelow c n) s × AreLower c (suc n) ss
 
@@ -73,7 +73,7 @@ lower_last c n (r ∷ ss) s h k =
     let e : n + suc (length ss) ≡ suc n + length ss = omega arith in
     (h.0, lower_last c (suc n) ss s h.1 (subst (λ m. AllByRecursion (NamesBelow c m) s) e k))
 
-lower_at : (c n : ℕ) (ss : List (List Instr)) → AreLower c n ss → (k : ℕ) → k < length ss → AllByRecursion (NamesBelow c (n + k)) (unwrap_or (slice_get ss k) [])
+pub lower_at : (c n : ℕ) (ss : List (List Instr)) → AreLower c n ss → (k : ℕ) → k < length ss → AllByRecursion (NamesBelow c (n + k)) (unwrap_or (slice_get ss k) [])
 lower_at c n [] h k lt = let none : ⊥ = omega (arith, lt) in absurd none
 lower_at c n (s ∷ ss) h zero lt = let e : n ≡ n + 0 = omega arith in subst (λ m. AllByRecursion (NamesBelow c m) s) e h.0
 lower_at c n (s ∷ ss) h (suc k) lt =
@@ -82,13 +82,13 @@ lower_at c n (s ∷ ss) h (suc k) lt =
 
 -- ---- what has been read of an expression
 
-abbrev IsBelow : ℕ → Opener → Type 0
+abbrev pub IsBelow : ℕ → Opener → Type 0
 IsBelow n (block type) = Unit {0}
 IsBelow n (loop type) = Unit {0}
 IsBelow n (first type) = Unit {0}
 IsBelow n (second type then_body) = then_body < n
 
-abbrev IsFineOpen : (count n : ℕ) → Open → Type 0
+abbrev pub IsFineOpen : (count n : ℕ) → Open → Type 0
 IsFineOpen c n outer = IsBelow n outer.opener × AllByRecursion (NamesBelow c n) outer.before
 
 below_more : (m n : ℕ) → m ≤ n → (opener : Opener) → IsBelow m opener → IsBelow n opener
@@ -100,12 +100,12 @@ below_more m n q (second type then_body) h = omega (arith, q, h)
 opens_more : (c d m n : ℕ) → c ≤ d → m ≤ n → (around : List Open) → AllByRecursion (IsFineOpen c m) around → AllByRecursion (IsFineOpen d n) around
 opens_more c d m n p q around h = weaker (IsFineOpen c m) (IsFineOpen d n) (λ outer k. (below_more m n q outer.opener k.0, all_more c d m n p q outer.before k.1)) around h
 
-record IsFine (p : Progress) : Type 0 where
+pub record IsFine (p : Progress) : Type 0 where
   pub ended : AreLower (length p.labels) 0 p.ended
   pub around : AllByRecursion (IsFineOpen (length p.labels) (length p.ended)) p.around
   pub now : AllByRecursion (NamesBelow (length p.labels) (length p.ended)) p.now
 
-abbrev IsFineNext : Next Progress Sequences → Type 0
+abbrev pub IsFineNext : Next Progress Sequences → Type 0
 IsFineNext (goes_on p) = IsFine p
 IsFineNext (ends sequences) = IsNumbered sequences
 
@@ -202,7 +202,7 @@ opener_below code make = at (code == 0x02) (λ type. block type) (λ type n. tt)
         → cond b (Some f) rest ≡ Some make → (type : Option ValType) (n : ℕ) → IsBelow n (make type)
     at b f below rest later = by_cond ((type : Option ValType) (n : ℕ) → IsBelow n (make type)) b (Some f) rest (Some make) (λ e. subst (λ (g : Option ValType → Opener). (type : Option ValType) (n : ℕ) → IsBelow n (g type)) (some_is f make e) below) later
 
-fine_next : (p : Progress) (code : ℕ) (next : Next Progress Sequences) (text : List ℕ) → IsFine p → Spells (instruction p code) next text → IsFineNext next
+pub fine_next : (p : Progress) (code : ℕ) (next : Next Progress Sequences) (text : List ℕ) → IsFine p → Spells (instruction p code) next text → IsFineNext next
 fine_next p code next text fine =
     by_pick (IsFineNext next) (code == 0x0B) _ _ next text (λ s. subst IsFineNext (it_is (at_end p.ended p.labels p.around p.now) next text s) (fine_end p.ended p.labels p.around p.now fine.ended fine.around fine.now))
     (by_pick (IsFineNext next) (code == 0x05) _ _ next text (λ s. fine_else p p.around next fine fine.around (settled (at_else p p.around) next text s))

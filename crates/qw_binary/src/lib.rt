@@ -14,6 +14,6 @@
 pub mod decode;
 pub mod encode;
 pub mod laws;
-mod read;
+pub mod read;
 pub mod worked_laws;
 mod write;

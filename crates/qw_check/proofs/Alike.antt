@@ -1,16 +1,14 @@
 -- Modules with the same contents are valid alike, and have the same faults.
-use Rattle.std.proofs.Common.{◌≡◌, ◌∙◌, ℕ, ◌+◌, ◌<◌, ◌≤◌, List, [], ◌∷◌, ◌++◌, length, map, reverse, get_or, All, Option, Some, None, option_map, slice_get, inl, inr, refl, sym, ap, ap₂, subst, arith}
-use Rattle.std.specs.Prelude.{IsSomeAnd, ◌≢◌}
-use Rattle.std.specs.List.{AllPairs, filter_map}
+use Rattle.std.proofs.Common.{◌≡◌, ◌∙◌, ℕ, ◌+◌, List, [], ◌∷◌, ◌++◌, length, map, reverse, get_or, All, Option, Some, None, option_map, slice_get, refl, sym, ap, ap₂, subst, arith}
+use Rattle.std.specs.Prelude.{IsSomeAnd}
+use Rattle.std.specs.List.{AllPairs}
 use Rattle.std.specs.Option.{option_map_or}
-use Rattle.std.specs.String.{string_bytes}
 use Rattle.std.proofs.lemmas.List.{length-map}
 use Rattle.std.proofs.Math.ListN.{get_or-map}
 use Rattle.std.proofs.lemmas.Option.{slice_get-map}
 use Rattle.qw_module.specs.declared.instruction.ValType.{ValType}
 use Rattle.qw_module.specs.declared.module.Locals.{Locals}
 use Rattle.qw_module.specs.declared.module.FuncType.{FuncType}
-use Rattle.qw_module.specs.declared.module.Limits.{Limits}
 use Rattle.qw_module.specs.declared.module.Import.{Import}
 use Rattle.qw_module.specs.declared.module.Import.TheVariants as import
 use Rattle.qw_module.specs.declared.module.Function.{Function}
@@ -19,16 +17,16 @@ use Rattle.qw_module.specs.declared.module.Export.{Export}
 use Rattle.qw_module.specs.declared.module.ExportKind.{ExportKind}
 use Rattle.qw_module.specs.declared.module.ExportKind.TheVariants as kind
 use Rattle.qw_module.specs.declared.module.Module.{Module}
-use Rattle.qw_module.specs.Syntax.{Code, Sequences, code_of, IsNumbered}
+use Rattle.qw_module.specs.Syntax.{Code, code_of, IsNumbered}
 use Rattle.qw_module.specs.Typing.{Outside, Scope, Signature, Typed}
-use Rattle.qw_module.specs.Places.{Typing, tokens_of, IsRefusedAt}
+use Rattle.qw_module.specs.Places.{tokens_of, IsRefusedAt}
 use Rattle.qw_module.specs.Validity.{signature_of, signature_in, sequences_of, code_of_body, declared_types, function_scope, outside_of, functions_of, imported_functions, memories_of, global_type, IsInitial, IsValidGlobal, IsValidType, IsValidImport, IsExportedOf, IsExport, IsTypedFunction, IsValidFunction, HaveOtherNames, IsValid}
 use Rattle.qw_binary.specs.Contents.{Contents, ExportContents, FunctionContents, GlobalContents, contents_of, export_contents, function_contents, global_contents}
 use Rattle.qw_valid.specs.declared.valid.Part.{Part}
 use Rattle.qw_valid.specs.declared.valid.Part.TheVariants as part
 use Rattle.qw_valid.specs.declared.valid.ValidFault.{ValidFault}
 use Rattle.qw_valid.specs.declared.valid.ValidFault.TheVariants as fault
-use Rattle.qw_valid.specs.ValidFaults.{HasBody, PartHolds, ArePartsValid, place_of, typing_with_signature, typing_in, IsFault}
+use Rattle.qw_valid.specs.ValidFaults.{HasBody, PartHolds, typing_in, IsFault}
 
 -- ---- lists whose elements are alike
 

@@ -1,26 +1,30 @@
 -- What a check says of octets, by what it says of the module that was read.
-use Rattle.std.proofs.Common.{List, ℕ, Result, Ok, Err}
+use Rattle.std.proofs.Common.{◌≡◌, List, ℕ, Result, Ok, Err, sym, subst}
 use Rattle.std.specs.Prelude.{IfErr, OnOk}
 use Rattle.qw_module.specs.declared.module.Module.{Module}
-use Rattle.qw_module.specs.Validity.{IsValid}
-use Rattle.qw_binary.specs.Contents.{contents_of}
+use Rattle.qw_binary.specs.Contents.{Contents, contents_of}
 use Rattle.qw_binary.specs.Modules.{SpellsModule}
+use Rattle.qw_scan.specs.Held.{HeldByValid}
 use Rattle.qw_check.specs.Check.{HasFault, SpellsValid}
 use Rattle.qw_check.specs.Inner.Faults.{IsModuleFault}
 use Rattle.qw_check.specs.declared.check.CheckFault.{CheckFault}
 use Rattle.qw_check.specs.declared.check.CheckFault.TheVariants as check
 
-module _ (m : Module) (text : List ℕ) (spelled : SpellsModule (contents_of m) text) where
-  pub valid_text : {A : Type 0} (r : Result A CheckFault) → OnOk r (IsValid m) → OnOk r (SpellsValid text)
-  valid_text (Ok a) valid = record { m = m; spelled = spelled; valid = valid }
-  valid_text (Err fault) valid = tt
+module _ (c : Contents) (text : List ℕ) (spelled : SpellsModule c text) where
+  -- a module that holds what they spell
+  spells : (m : Module) → contents_of m ≡ c → SpellsModule (contents_of m) text
+  spells m holds = subst (λ (d : Contents). SpellsModule d text) (sym holds) spelled
 
-  has_fault : (fault : CheckFault) → IsModuleFault m fault → HasFault text fault
-  has_fault (check.Part p) faulty = record { m = m; spelled = spelled; faulty = faulty }
-  has_fault (check.Body func at) faulty = record { m = m; spelled = spelled; faulty = faulty }
-  has_fault check.NoMemory faulty = tt
-  has_fault _ faulty = absurd faulty
+  pub valid_text : {A : Type 0} (r : Result A CheckFault) → OnOk r (HeldByValid c) → OnOk r (SpellsValid text)
+  valid_text (Ok a) held = record { m = held.m; spelled = spells held.m held.holds; valid = held.valid }
+  valid_text (Err fault) held = tt
 
-  pub faulty_text : {A : Type 0} (r : Result A CheckFault) → IfErr r (λ fault. IsModuleFault m fault) → IfErr r (λ fault. HasFault text fault)
-  faulty_text (Ok a) faulty = tt
-  faulty_text (Err fault) faulty = has_fault fault faulty
+  has_fault : (fault : CheckFault) → IsModuleFault c fault → HasFault text fault
+  has_fault (check.Part p) held = record { m = held.m; spelled = spells held.m held.holds; faulty = held.faulty }
+  has_fault (check.Body func at) held = record { m = held.m; spelled = spells held.m held.holds; faulty = held.faulty }
+  has_fault check.NoMemory held = tt
+  has_fault _ held = absurd held
+
+  pub faulty_text : {A : Type 0} (r : Result A CheckFault) → IfErr r (λ fault. IsModuleFault c fault) → IfErr r (λ fault. HasFault text fault)
+  faulty_text (Ok a) held = tt
+  faulty_text (Err fault) held = has_fault fault held

@@ -1,6 +1,6 @@
 -- Octets have one fault at most.
-use Rattle.std.proofs.Common.{◌≡◌, ◌∙◌, ℕ, zero, suc, ◌+◌, ◌<◌, List, [], length, Option, Some, None, slice_get, inl, inr, refl, sym, ap, subst, arith}
-use Rattle.std.specs.Prelude.{IsSomeAnd, ◌⊎◌}
+use Rattle.std.proofs.Common.{◌≡◌, ◌∙◌, ℕ, zero, suc, ◌+◌, List, [], length, Option, Some, None, slice_get, inl, inr, refl, sym, ap, subst, arith}
+use Rattle.std.specs.Prelude.{IsSomeAnd}
 use Rattle.qw_octet_grammar.specs.declared.fault.BinaryFault.{BinaryFault}
 use Rattle.qw_octet_grammar.specs.declared.fault.BinaryFault.TheVariants as reading
 use Rattle.qw_module.specs.declared.module.FuncType.{FuncType}
@@ -15,12 +15,12 @@ use Rattle.qw_valid.specs.declared.valid.Part.{Part}
 use Rattle.qw_valid.specs.declared.valid.Part.TheVariants as part
 use Rattle.qw_valid.specs.declared.valid.ValidFault.{ValidFault}
 use Rattle.qw_valid.specs.declared.valid.ValidFault.TheVariants as fault
-use Rattle.qw_valid.specs.ValidFaults.{ArePartsValid, BeforeHold, HasBody, IsFault, PartHolds, place_of, typing_in, typing_with_signature}
+use Rattle.qw_valid.specs.ValidFaults.{ArePartsValid, HasBody, IsFault, place_of, typing_in, typing_with_signature}
 use Rattle.qw_check.specs.Check.{HasFault, SpellsFaulty, SpellsValid}
-use Rattle.qw_check.specs.Inner.Faults.{IsModuleFault, fault_of_reading, fault_of_validation}
+use Rattle.qw_check.specs.Inner.Faults.{fault_of_reading, fault_of_validation}
 use Rattle.qw_check.specs.declared.check.CheckFault.{CheckFault}
 use Rattle.qw_check.specs.declared.check.CheckFault.TheVariants as check
-use Rattle.qw_check.proofs.Alike.{fault_alike, valid_alike}
+use Rattle.qw_check.proofs.Alike.{fault_alike}
 use Rattle.std.proofs.lemmas.Bool.{cases_lt}
 use Rattle.std.proofs.lemmas.Option.{get_or_from_slice_get, slice_get_within}
 use Rattle.std.proofs.Common.{get_or}

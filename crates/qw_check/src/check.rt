@@ -1,14 +1,13 @@
 //! Octets, tested to be a valid module.
 
 ghost use Rattle.std.specs.Prelude.{◌≡◌, IfErr, OnOk};
-ghost use Rattle.qw_module.specs.Validity.{IsValid};
+ghost use Rattle.qw_scan.specs.Held.{HeldByValid};
 ghost use Rattle.qw_check.specs.Check.{HasFault, SpellsValid};
 ghost use Rattle.qw_check.specs.Inner.Faults.{IsModuleFault};
 
-use qw_binary::decode::decode;
-use qw_module::module::Module;
 use qw_octet_grammar::fault::{BinaryFault, What};
-use qw_valid::valid::{Part, ValidFault, validate};
+use qw_scan::scan::{ScannedModule, read_module, validate_module};
+use qw_valid::valid::{Part, ValidFault};
 use std::alloc::Global;
 use thiserror::Error;
 
@@ -69,15 +68,15 @@ pub fn check(alloc: Global, octets: &[u8]) -> Result<(), CheckFault>
     ensures valid { OnOk result (SpellsValid octets.now) }
     ensures fault { IfErr result (λ fault. HasFault octets.now fault) }
 {
-    let module = decode(alloc, octets)?;
+    let module = read_module(alloc, octets)?;
     check_module(alloc, module)
 }
 
 /// Tests whether the module that was read is valid.
-fn check_module(alloc: Global, module: Module) -> Result<(), CheckFault>
-    ensures valid { OnOk result (IsValid «module») }
-    ensures fault { IfErr result (λ fault. IsModuleFault «module» fault) }
+fn check_module(alloc: Global, module: ScannedModule) -> Result<(), CheckFault>
+    ensures valid { OnOk result (HeldByValid «module».entry) }
+    ensures fault { IfErr result (λ fault. IsModuleFault «module».entry fault) }
 {
-    let _valid = validate(alloc, module)?;
+    validate_module(alloc, &module)?;
     Ok(())
 }

@@ -10,7 +10,8 @@ use Rattle.qw_module.specs.Typing.{types_of, scope_of}
 use Rattle.qw_module.specs.Places.{Token, plain, unreachable_here, block_begins, loop_begins, if_begins, else_begins, ends, branches, branches_if, branches_by, returns, calls, tokens_before, Opened, body, in_block, in_loop, in_if, in_else, Place, Typing, scope_in, Follows, at_plain, at_unreachable, at_block, at_loop, at_if, at_else, at_end_of_if, at_end_of_else, at_end_of_block, at_end_of_loop, at_end_of_body, at_br, at_br_if, at_br_table, at_return, at_call}
 use Rattle.qw_module.specs.Places as places
 use Rattle.qw_module.proofs.PlaceLemmas.{demands}
-use Rattle.qw_valid.specs.Inner.Checking.{Known, nothing, all_pushed, Around, taken_by, taken_in, Walked, walked, scope_at, is_left, ended, turned, is_none, closed_by}
+use Rattle.qw_valid.specs.Inner.Checking.{Known, nothing, all_pushed, Around, taken_in, Walked, walked, scope_at, is_left, ended, turned, is_none, closed_by}
+use Rattle.qw_valid.specs.Kinds.{taken_by}
 use Rattle.qw_valid.proofs.KindFacts.{if_some, if_from, AreAs, all_pushed-on, all_pushed-back, left-on, left-back}
 
 abbrev pub at : List Opened → List ValType → Place

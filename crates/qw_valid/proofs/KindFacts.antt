@@ -6,7 +6,8 @@ use Rattle.std.proofs.lemmas.Bool.{false≢true, and_parts, and_from}
 use Rattle.std.proofs.lemmas.Option.{none-some, same_Some}
 use Rattle.qw_module.specs.declared.instruction.ValType.{ValType}
 use Rattle.qw_module.specs.declared.instruction.ValType.TheVariants.{I32, I64}
-use Rattle.qw_valid.specs.Inner.Checking.{Known, anything, is_same, fits, pushed_kind, pushed, popped_from, popped, any_popped_from, any_popped, all_pushed, all_popped, one_to_one, two_to_one, joined, has_none, holds_of, is_left, are_same}
+use Rattle.qw_valid.specs.Inner.Checking.{Known, anything, fits, pushed_kind, pushed, popped_from, popped, any_popped_from, any_popped, all_pushed, all_popped, one_to_one, two_to_one, has_none, holds_of, is_left, are_same}
+use Rattle.qw_valid.specs.Kinds.{is_same, joined}
 
 -- ---- parts of a computation that goes on only where something is there
 pub then_some : {A B : Type 0} (f : A → Option B) (r : Option A) (y : B) → option_and_then f r ≡ Some y → (x : A) × (r ≡ Some x) × (f x ≡ Some y)

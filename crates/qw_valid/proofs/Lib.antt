@@ -1,13 +1,13 @@
-mod ControlPlaces
+pub mod ControlPlaces
 mod Faults
 mod HeightFacts
 mod InitialConstants
-mod KindFacts
+pub mod KindFacts
 mod LocalsLemmas
 mod NameLemmas
 mod Numbering
 mod OpPlaces
-mod Places
-mod Reached
+pub mod Places
+pub mod Reached
 mod ValidBodies
 mod WalkLemmas

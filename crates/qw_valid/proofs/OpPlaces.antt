@@ -12,7 +12,8 @@ use Rattle.qw_module.specs.declared.instruction.Op.TheVariants.{Nop, Drop, Selec
 use Rattle.qw_module.specs.declared.instruction.Op.TheVariants as o
 use Rattle.qw_module.specs.Numbers.{values_of, constant, type_of_constant, converts_from, converts_to, type_of_load, load_width, type_of_store, store_width}
 use Rattle.qw_module.specs.Typing.{GlobalType, Scope, OpTyped, typed-nop, typed-drop, typed-select, typed-local_get, typed-local_set, typed-local_tee, typed-global_get, typed-global_set, typed-const, typed-unary, typed-binary, typed-division, typed-eqz, typed-relation, typed-convert, typed-load, typed-store, typed-size, typed-grow}
-use Rattle.qw_valid.specs.Inner.Checking.{Known, pushed_kind, pushed, popped, any_popped, one_to_one, joined, after_first, after_second, after_select, after_set, has_memory, after_op}
+use Rattle.qw_valid.specs.Inner.Checking.{Known, pushed_kind, pushed, popped, any_popped, one_to_one, after_first, after_second, after_select, after_set, has_memory, after_op}
+use Rattle.qw_valid.specs.Kinds.{joined}
 use Rattle.qw_valid.proofs.KindFacts.{then_some, map_some, then_from, map_from, if_some, if_from, type_of_kind, fits-type, AreAs, popped-on, popped-back, any_popped-on, any_popped-back, joined-on, joined-back, pushed_kind-on, pushed_kind-back, pushed-on, pushed-back, one-on, one-back, two-on, two-back}
 
 -- from operands that are as known, on: to something known, as which the operands after it are

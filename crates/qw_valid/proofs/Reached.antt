@@ -118,13 +118,13 @@ place-next f (return rest) a around known whole = (_, refl, λ w e. goes_known f
 place-next f (call index rest) a around known whole = (_, refl, λ w e. goes_known f a around rest (after_calling (scope_at f (a ∷ around)) index known) w whole e)
 
 -- ---- one token more at the end of those that lead somewhere
-leads-snoc : (f : Typing) (tokens : List Token) (token : Token) (p q : Place) → Leads f (tokens ++ token ∷ []) p q → (m : Place) × Leads f tokens p m × Follows f token m q
+pub leads-snoc : (f : Typing) (tokens : List Token) (token : Token) (p q : Place) → Leads f (tokens ++ token ∷ []) p q → (m : Place) × Leads f tokens p m × Follows f token m q
 leads-snoc f [] token p q (middle, follows, same) = (p, refl, subst (Follows f token p) same follows)
 leads-snoc f (first ∷ tokens) token p q (middle, follows, rest) =
     let r = leads-snoc f tokens token middle q rest in
     (r.0, (middle, follows, r.1), r.2)
 
-snoc-leads : (f : Typing) (tokens : List Token) (token : Token) (p m q : Place) → Leads f tokens p m → Follows f token m q → Leads f (tokens ++ token ∷ []) p q
+pub snoc-leads : (f : Typing) (tokens : List Token) (token : Token) (p m q : Place) → Leads f tokens p m → Follows f token m q → Leads f (tokens ++ token ∷ []) p q
 snoc-leads f [] token p m q same follows = (q, subst (λ (x : Place). Follows f token x q) (sym same) follows, refl)
 snoc-leads f (first ∷ tokens) token p m q (middle, here, rest) follows = (middle, here, snoc-leads f tokens token middle m q rest follows)
 
@@ -139,7 +139,7 @@ pub record IsAt (f : Typing) (tokens : List Token) (n : ℕ) (w : Walked) : Type
   pub back : (q : Place) → Describes w.known w.around q → Leads f passed at_start q
 
 -- at first
-start_back : (result : Option ValType) (q : Place) → Describes nothing (first_walked result done).around q → at_start ≡ q
+pub start_back : (result : Option ValType) (q : Place) → Describes nothing (first_walked result done).around q → at_start ≡ q
 start_back result q described = of_opened q.opened q.types described.1 described.0 where
   none : (os : List Opened) → AreOpened [] os → os ≡ []
   none [] are = refl

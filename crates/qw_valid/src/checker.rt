@@ -7,9 +7,10 @@ ghost use Rattle.qw_module.specs.Numbers.{values_of, constant, type_of_constant,
 ghost use Rattle.qw_module.specs.Numbers.{type_of_load, load_width, type_of_store, store_width, octets_of};
 ghost use Rattle.qw_module.specs.Typing.{Scope};
 ghost use Rattle.qw_module.specs.Validity.{outside_of, signature_of, global_type};
-ghost use Rattle.qw_valid.specs.Inner.Checking.{Around, scope_at, has_memory, joined, after_select, after_set, after_call, after_op, one_to_one, two_to_one};
+ghost use Rattle.qw_valid.specs.Inner.Checking.{Around, scope_at, has_memory, after_select, after_set, after_call, after_op, one_to_one, two_to_one};
+ghost use Rattle.qw_valid.specs.Kinds.{joined};
 ghost use Rattle.qw_valid.specs.Inner.Checkers.{typing_of, HaveTypes};
-ghost use Rattle.qw_valid.specs.Inner.Refusals.{Finds, Decides};
+ghost use Rattle.qw_valid.specs.Refusals.{Finds, Decides};
 
 use crate::imports::function_type;
 use crate::locals::LocalTypes;
@@ -18,7 +19,8 @@ use qw_module::instruction::{BlockType, Const, Conversion, Load, MemArg, Op, Sto
 use qw_module::module::{Body, FuncType, Global, Module};
 use std::alloc;
 
-pub(crate) fn constant_type(number: Const) -> ValType
+/// The type of a constant.
+pub fn constant_type(number: Const) -> ValType
     ensures value { result ≡ type_of_constant number }
     ensures fits { constant number < values_of result }
 {
@@ -28,7 +30,8 @@ pub(crate) fn constant_type(number: Const) -> ValType
     }
 }
 
-fn converted_type(conversion: Conversion) -> ValType
+/// The type that a conversion converts from.
+pub fn converted_type(conversion: Conversion) -> ValType
     ensures { result ≡ converts_from conversion }
 {
     match conversion {
@@ -37,7 +40,8 @@ fn converted_type(conversion: Conversion) -> ValType
     }
 }
 
-fn converting_type(conversion: Conversion) -> ValType
+/// The type that a conversion converts to.
+pub fn converting_type(conversion: Conversion) -> ValType
     ensures { result ≡ converts_to conversion }
 {
     match conversion {
@@ -55,7 +59,8 @@ fn octets(ty: ValType) -> u32
     }
 }
 
-fn load_type(load: Load) -> ValType
+/// The type that a load gives.
+pub fn load_type(load: Load) -> ValType
     ensures { result ≡ type_of_load load }
 {
     match load {
@@ -64,7 +69,8 @@ fn load_type(load: Load) -> ValType
     }
 }
 
-fn load_octets(load: Load) -> u32
+/// How many octets a load reads.
+pub fn load_octets(load: Load) -> u32
     ensures { result ≡ load_width load }
 {
     match load {
@@ -75,7 +81,8 @@ fn load_octets(load: Load) -> u32
     }
 }
 
-fn store_type(store: Store) -> ValType
+/// The type that a store takes.
+pub fn store_type(store: Store) -> ValType
     ensures { result ≡ type_of_store store }
 {
     match store {
@@ -84,7 +91,8 @@ fn store_type(store: Store) -> ValType
     }
 }
 
-fn store_octets(store: Store) -> u32
+/// How many octets a store writes.
+pub fn store_octets(store: Store) -> u32
     ensures { result ≡ store_width store }
 {
     match store {
@@ -96,14 +104,14 @@ fn store_octets(store: Store) -> u32
 }
 
 /// Whether an alignment of 2 to this power is at most so many octets.
-fn is_aligned(align: u32, octets: u32) -> bool
+pub fn is_aligned(align: u32, octets: u32) -> bool
     ensures { IsTrue result ↔ (2 ^ align ≤ octets) }
 {
     2u32.checked_pow(align).is_some_and(|unit| unit <= octets)
 }
 
 /// The kind of what fits both kinds.
-fn join(first: Option<ValType>, second: Option<ValType>) -> Result<Option<ValType>, Refusal>
+pub fn join(first: Option<ValType>, second: Option<ValType>) -> Result<Option<ValType>, Refusal>
     ensures { Finds result (joined first second) (λ kind. kind) }
 {
     match (first, second) {

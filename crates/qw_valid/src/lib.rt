@@ -5,13 +5,13 @@
 //! - [`heights`]: how many operands and labels a function's code needs at most; [`worked_laws`]: worked cases of these.
 #![tactic(auto)]
 
-mod checker;
+pub mod checker;
 pub mod heights;
 pub mod imports;
 pub mod initial;
-mod locals;
+pub mod locals;
 mod names;
-mod operands;
+pub mod operands;
 pub mod valid;
-mod walk;
+pub mod walk;
 pub mod worked_laws;

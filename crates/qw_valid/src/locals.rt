@@ -13,7 +13,7 @@ use std::marker::Model;
 /// The types of locals, which stand in runs. The type of one is found in as many steps as the number of runs has binary digits, since
 /// code may ask for late ones of many again and again.
 #[derive(Drop)]
-pub(crate) struct LocalTypes<'a> {
+pub struct LocalTypes<'a> {
     runs: &'a [Locals],
     /// How many locals there are up to the end of each run.
     ends: Vec<usize>,
@@ -35,7 +35,7 @@ impl<'a> Model for LocalTypes<'a> {
 
 impl<'a> LocalTypes<'a> {
     /// The types of the locals of these runs. `None` is want of memory.
-    pub(crate) fn new(alloc: Global, runs: &'a [Locals]) -> Option<Self>
+    pub fn new(alloc: Global, runs: &'a [Locals]) -> Option<Self>
         ensures { IfSome result (λ types. types ≡ declared_types runs.now) }
     {
         let ends = ends_of(alloc, runs)?;
@@ -43,7 +43,7 @@ impl<'a> LocalTypes<'a> {
     }
 
     /// The type of the local of an index.
-    pub(crate) fn get(&self, index: usize) -> Option<ValType>
+    pub fn get(&self, index: usize) -> Option<ValType>
         requires { index < 2 ^ 64 - 1 }
         ensures { result ≡ slice_get self.now index }
     {

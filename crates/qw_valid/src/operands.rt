@@ -4,7 +4,7 @@ ghost use Rattle.std.specs.Prelude.{◌≡◌, IsTrue, Some, None, reverse};
 ghost use Rattle.qw_module.specs.Typing.{types_of};
 ghost use Rattle.qw_valid.specs.Inner.Checking.{Known, nothing, anything, pushed, pushed_kind, popped, any_popped, all_pushed};
 ghost use Rattle.qw_valid.specs.Inner.Checking.{all_popped, has_none};
-ghost use Rattle.qw_valid.specs.Inner.Refusals.{Finds};
+ghost use Rattle.qw_valid.specs.Refusals.{Finds};
 
 use qw_module::instruction::{BlockType, ValType};
 use std::alloc::Global;
@@ -12,7 +12,7 @@ use std::marker::Model;
 
 /// Why a body is refused.
 #[derive(Clone, Copy, PartialEq, Eq)]
-pub(crate) enum Refusal {
+pub enum Refusal {
     IllTyped,
     NoMemory,
 }

@@ -10,10 +10,11 @@ ghost use Rattle.qw_module.specs.Places.{tokens_of, IsTypable, IsRefusedAt};
 ghost use Rattle.qw_module.specs.Syntax.{code_of, IsNumbered, NamesBelow, labels_in, named_if_some, sequence_at};
 ghost use Rattle.qw_module.specs.Typing.{types_of};
 ghost use Rattle.qw_module.specs.Validity.{outside_of, sequences_of};
-ghost use Rattle.qw_valid.specs.Inner.Checking.{nothing, taken_by, taken_in, Around, all_take, is_left, walked, first_walked, ended, turned, then_ended, closed, advanced, opened, popped, scope_at, after_br, after_br_if, after_br_table};
+ghost use Rattle.qw_valid.specs.Inner.Checking.{nothing, taken_in, Around, all_take, is_left, walked, first_walked, ended, turned, then_ended, closed, advanced, opened, popped, scope_at, after_br, after_br_if, after_br_table};
+ghost use Rattle.qw_valid.specs.Kinds.{taken_by};
 ghost use Rattle.qw_valid.specs.Inner.Checkers.{typing_of, body_of, HaveTypes};
 ghost use Rattle.qw_valid.specs.Inner.Walks.{around_of, around_in, walked_of, performed, first_code, code_at};
-ghost use Rattle.qw_valid.specs.Inner.Refusals.{Finds, Decides};
+ghost use Rattle.qw_valid.specs.Refusals.{Finds, Decides};
 
 use crate::checker::Checker;
 use crate::operands::{Operands, Refusal};
@@ -22,7 +23,7 @@ use qw_module::module::Body;
 
 /// How a sequence that is open was begun.
 #[derive(Clone, Copy, PartialEq, Eq)]
-pub(crate) enum Opener {
+pub enum Opener {
     Body,
     Block,
     Loop,
@@ -56,7 +57,8 @@ pub(crate) struct Walk<'a> {
     index: usize,
 }
 
-fn taken(opener: Opener, result_type: BlockType) -> BlockType
+/// What a branch to a label takes.
+pub fn taken(opener: Opener, result_type: BlockType) -> BlockType
     ensures { types_of result ≡ taken_by opener result_type }
 {
     match opener {

@@ -15,7 +15,7 @@ use std::alloc::Global;
 
 /// The two imports of the profile.
 #[derive(Clone, Copy)]
-pub enum Imported {
+pub(crate) enum Imported {
     Memory,
     Raise,
 }
@@ -33,7 +33,7 @@ impl Imported {
 
     /// Whether one of these is this one.
     #[tactic(auto, using(crate::proofs::ImportLemmas::among_found, crate::proofs::ImportLemmas::among_later, crate::proofs::ImportLemmas::among_none))]
-    pub fn is_among(self, imports: &[Import]) -> bool
+    pub(crate) fn is_among(self, imports: &[Import]) -> bool
         ensures { result ≡ is_among (imported_of self) imports.now }
     {
         for import in imports {

@@ -12,6 +12,7 @@ use Rattle.qw_valid.specs.declared.walk.Opener.TheVariants.{Body, Block, Loop, T
 use Rattle.qw_module.specs.Syntax.{Code, done, op, unreachable, block, loop, if_then, if_else, br, br_if, br_table, return, call}
 use Rattle.qw_module.specs.Numbers.{values_of, constant, type_of_constant, converts_from, converts_to, type_of_load, load_width, type_of_store, store_width}
 use Rattle.qw_module.specs.Typing.{types_of, Signature, GlobalType, Scope, scope_of}
+use Rattle.qw_valid.specs.Kinds.{is_same, joined, taken_by}
 use Rattle.qw_module.specs.Places.{Typing, Token, ends, else_begins, tokens_before}
 
 -- The kinds of the operands that are known at a place, the last one first; None fits any type. Where the place is not reached, since it
@@ -27,13 +28,6 @@ nothing = record { kinds = []; unbounded = false }
 abbrev pub anything : Known
 anything = record { kinds = []; unbounded = true }
 
-abbrev pub is_same : ValType → ValType → Bool
-is_same I32 I32 = true
-is_same I64 I64 = true
-is_same I32 I64 = false
-is_same I64 I32 = false
-
--- a kind fits a type
 abbrev pub fits : Option ValType → ValType → Bool
 fits None type = true
 fits (Some known) type = is_same known type
@@ -77,12 +71,6 @@ one_to_one type result known = option_map (pushed result) (popped type known)
 
 abbrev pub two_to_one : ValType → ValType → Known → Option Known
 two_to_one type result known = option_and_then (one_to_one type result) (popped type known)
-
--- the kind of what fits both
-abbrev pub joined : Option ValType → Option ValType → Option (Option ValType)
-joined None kind = Some kind
-joined (Some type) None = Some (Some type)
-joined (Some type) (Some other) = if is_same type other then Some (Some type) else None
 
 abbrev pub after_second : Option ValType → Option ValType × Known → Option Known
 after_second first (second, known) = option_map (λ kind. pushed_kind kind known) (joined first second)
@@ -135,11 +123,6 @@ pub record Around : Type 0 where
   pub below : Known
   pub other : Option Code
   pub after : Code
-
--- what a branch to its label takes
-abbrev pub taken_by : Opener → Option ValType → List ValType
-taken_by Loop result = []
-taken_by _ result = types_of result
 
 abbrev pub taken_in : Around → List ValType
 taken_in a = taken_by a.opener a.result

@@ -1,0 +1,22 @@
+-- What restates code for proofs. No public clause rests on it.
+pub mod Answering
+pub mod Bodies
+pub mod Exported
+pub mod ExportsAt
+pub mod Holding
+pub mod Initial
+pub mod Offsets
+pub mod Outlines
+pub mod Over
+pub mod Parts
+pub mod Passing
+pub mod Runs
+pub mod Shapes
+pub mod Signatures
+pub mod Stepping
+pub mod Tabled
+pub mod Tables
+pub mod Tests
+pub mod Tokens
+pub mod TypesAt
+pub mod Walking
