@@ -299,7 +299,8 @@ impl Bench {
 
     /// A bench with an instance of each job, in order, over tables, which have the columns that the
     /// jobs' layouts use. All columns of the tables stand in its memory, in the first pages, and the
-    /// instances' first pages are those behind them, in order.
+    /// instances' first pages are those behind them, in order. The tables are freed column by column
+    /// as the memory grows to hold them.
     ///
     /// # Errors
     ///
@@ -307,23 +308,23 @@ impl Bench {
     /// [`MAX_PAGES`]; else `NoMemory` where the bench does not fit memory. The jobs are dropped.
     pub fn new(
         alloc: Global,
-        loaded: &[Loaded],
+        loaded: Vec<Loaded>,
         jobs: Vec<Job>,
         limits: &[Limits],
     ) -> Result<Self, BenchFault>
-        requires tables { length loaded.now ≤ MAX_TABLES }
+        requires tables { length loaded.items ≤ MAX_TABLES }
         requires jobs { length jobs.items ≤ MAX_JOBS }
         requires many { length limits.now ≡ length jobs.items }
         requires limits { AllByRecursion AreLimits limits.now }
-        requires columns { AllByRecursion (λ (program : Program). AllByRecursion (IsColumnIn loaded.now) program.layout.columns) jobs.items }
+        requires columns { AllByRecursion (λ (program : Program). AllByRecursion (IsColumnIn loaded.items) program.layout.columns) jobs.items }
         ensures total_pages { (need : ℕ) → (result ≡ Err (BenchFault.TotalPages need))
-            ↔ ((need ≡ total_pages loaded.now limits.now) × (most_pages < need)) }
-        ensures within { total_pages loaded.now limits.now ≤ most_pages → IfErr result (λ fault. fault ≡ BenchFault.NoMemory) }
+            ↔ ((need ≡ total_pages loaded.items limits.now) × (most_pages < need)) }
+        ensures within { total_pages loaded.items limits.now ≤ most_pages → IfErr result (λ fault. fault ≡ BenchFault.NoMemory) }
         ensures tasks { IfOk result (λ bench. AreTasksOf jobs.items limits.now bench.tasks) }
-        ensures start { IfOk result (λ bench. IsStart loaded.now bench.tasks bench.shared) }
-        ensures reserved { IfOk result (λ bench. bench.reserved ≡ total_pages loaded.now limits.now) }
+        ensures start { IfOk result (λ bench. IsStart loaded.items bench.tasks bench.shared) }
+        ensures reserved { IfOk result (λ bench. bench.reserved ≡ total_pages loaded.items limits.now) }
     {
-        let need = pages_needed(loaded) + limit_pages(limits);
+        let need = pages_needed(loaded.as_slice()) + limit_pages(limits);
         if need > u64::from(MAX_PAGES) {
             return Err(BenchFault::TotalPages { need });
         }
@@ -333,19 +334,19 @@ impl Bench {
     /// The bench of instances whose pages fit a memory beside the columns.
     fn begin(
         alloc: Global,
-        loaded: &[Loaded],
+        loaded: Vec<Loaded>,
         jobs: Vec<Job>,
         limits: &[Limits],
         pages: u32,
     ) -> Result<Self, NoMemory>
-        requires tables { length loaded.now ≤ MAX_TABLES }
+        requires tables { length loaded.items ≤ MAX_TABLES }
         requires jobs { length jobs.items ≤ MAX_JOBS }
         requires many { length limits.now ≡ length jobs.items }
         requires limits { AllByRecursion AreLimits limits.now }
-        requires columns { AllByRecursion (λ (program : Program). AllByRecursion (IsColumnIn loaded.now) program.layout.columns) jobs.items }
-        requires pages { (pages ≡ total_pages loaded.now limits.now) × (pages ≤ MAX_PAGES) }
+        requires columns { AllByRecursion (λ (program : Program). AllByRecursion (IsColumnIn loaded.items) program.layout.columns) jobs.items }
+        requires pages { (pages ≡ total_pages loaded.items limits.now) × (pages ≤ MAX_PAGES) }
         ensures tasks { IfOk result (λ bench. AreTasksOf jobs.items limits.now bench.tasks) }
-        ensures start { IfOk result (λ bench. IsStart loaded.now bench.tasks bench.shared) }
+        ensures start { IfOk result (λ bench. IsStart loaded.items bench.tasks bench.shared) }
         ensures reserved { IfOk result (λ bench. bench.reserved ≡ pages) }
     {
         let mut memory = Linear::new(alloc, pages)?;

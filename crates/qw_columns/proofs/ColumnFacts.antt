@@ -12,8 +12,6 @@ use mir.Syntax.{Width}
 use mir.Val.{hbits}
 use Rattle.qw_types.specs.Calendar.{days_of, packed}
 use native.Mathlib.Nat.{div-div-eq-div-mul}
-use Rattle.qw_types.specs.Contents.{AreLoaded, Contents}
-use Rattle.qw_types.specs.declared.schema.ColumnType.{ColumnType}
 use Rattle.qw_types.specs.Value.{IsOfType, IsOfTypeOrNull, IsSized, text_octets}
 use Rattle.qw_types.specs.declared.value.Ty.{Ty}
 use Rattle.qw_types.specs.declared.value.Ty.TheVariants as ty
@@ -23,12 +21,12 @@ use Rattle.qw_csv.specs.Cells.{number_in, octets_in}
 use Rattle.qw_linear.specs.Memory.{SameBelow, number_at}
 use Rattle.qw_linear.proofs.MemoryFacts.{number_at-same}
 use Rattle.qw_map.specs.Areas.{Area}
-use Rattle.qw_map.specs.Columns.{HasOffsets, HoldsColumn, areas_of, blank, column_end, column_values, null_bit, nulls_size, placed_at, stored_at, text_at, value_at}
+use Rattle.qw_map.specs.Columns.{HasOffsets, HoldsColumn, areas_of, blank, column_end, null_bit, nulls_size, placed_at, stored_at, text_at, value_at}
 use Rattle.qw_map.specs.declared.layout.Placed.{Placed}
 use Rattle.qw_map.proofs.AreaLemmas.{all-weaker}
 use Rattle.qw_map.proofs.ColumnLemmas.{placed-between}
 use Rattle.qw_columns.specs.Inner.Writing.{HasNulls, HasNumbers, HasStarts, HasTexts, HasValues, bit_of, flags_from, is_null}
-use Rattle.qw_columns.proofs.RoomLemmas.{column_typed, length-column_values, sized_at, text_octets-more}
+use Rattle.qw_columns.proofs.RoomLemmas.{text_octets-more}
 use Rattle.qw_columns.proofs.WriteLemmas.{bit-below, slice_kept, text_inside}
 
 -- ---- numbers
@@ -245,20 +243,10 @@ values_kept before after (ty.Varchar limit) placed values is same long room has 
       texts_kept before after placed.octets placed.nulls values same long room (omega (arith, end, start)) has.1,
     )
 
--- ---- from what is so of a loaded table
+-- ---- the room of null bits
 
 -- the null bits of a column that may be null lie before its end
 pub nulls_room : (not_null : Bool) (placed : Placed) (rows limit : ℕ) → not not_null ≡ true → placed.rows ≡ rows → column_end not_null placed ≤ limit
     → placed.nulls + (rows + 7) / 8 ≤ limit
 nulls_room true placed rows limit may is room = absurd (cc may)
 nulls_room false placed rows limit may is room = omega (arith, is, room)
-
-pub loaded_column_held : (contents : Contents) (column : ℕ) (type : ColumnType) (memory : List ℕ) (placed : Placed) → AreLoaded contents
-    → slice_get contents.columns column ≡ Some type → placed ≡ placed_at placed.values type.ty (column_values contents.rows column)
-    → column_end type.not_null placed ≤ length memory → HasValues memory type.ty placed (column_values contents.rows column)
-    → (type.not_null ≡ false → HasNulls memory placed.nulls (column_values contents.rows column) ((length contents.rows + 7) / 8))
-    → HoldsColumn memory type.ty type.not_null placed (column_values contents.rows column)
-loaded_column_held contents column type memory placed loaded found is room has nulls =
-    let long = length-column_values contents.rows column in
-    column_held memory type.ty type.not_null placed (column_values contents.rows column) (sized_at contents.columns column type found loaded.sized)
-    (column_typed contents.columns contents.rows column type found loaded.typed) is room has (λ may. rw long (nulls may))

@@ -1,5 +1,8 @@
 mod CellPlaces
 mod ColumnFacts
+mod GrowthLemmas
+mod NextColumn
+mod NextTable
 mod PlaceLemmas
 mod ReadLemmas
 mod RoomLemmas

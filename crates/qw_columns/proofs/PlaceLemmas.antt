@@ -1,13 +1,11 @@
 -- Where the columns of tables stand, one after another.
-use Rattle.std.proofs.Common.{◌≡◌, ◌<◌, ◌+◌, ◌∙◌, refl, sym, ap, ap₂, ℕ, zero, suc, List, [], ◌∷◌, ◌++◌, length, map, take, Some, arith, subst}
+use Rattle.std.proofs.Common.{◌≡◌, ◌+◌, ◌∙◌, refl, sym, ap, ap₂, ℕ, zero, suc, List, [], ◌∷◌, ◌++◌, length, map, take, Some, arith, subst}
 use Rattle.std.specs.Prelude.{slice_get}
 use Rattle.std.proofs.lemmas.List.{map-append}
 use Rattle.std.specs.List.{AllByRecursion}
 use Rattle.qw_types.specs.Contents.{Contents}
 use Rattle.qw_types.specs.declared.schema.ColumnType.{ColumnType}
 use Rattle.qw_types.specs.declared.value.Val.{Val}
-use Rattle.qw_linear.specs.Memory.{AreOctets}
-use Rattle.std.proofs.lemmas.List.Elements.{All-nil}
 use Rattle.qw_map.specs.Columns.{column_end, column_values, columns_end, placed_at, placed_columns, placed_tables, tables_end}
 use Rattle.qw_map.specs.declared.layout.Placed.{Placed}
 
@@ -100,8 +98,3 @@ placed_more at columns rows k type before placed is begins stands =
     let same : placed_at (columns_end at (take k columns) 0 rows) type.ty (column_values rows k) ≡ placed =
     ap (λ (b : ℕ). placed_at b type.ty (column_values rows k)) (sym begins) ∙ sym stands in
     take-more (placed_columns at columns 0 rows) k placed (where_it_is ∙ ap (λ (p : Placed). Some p) same)
-
--- a memory of no octets has octets alone
-pub no_octets : (memory : List ℕ) → length memory ≡ 0 → AreOctets memory
-no_octets [] empty = All-nil (λ octet. octet < 256)
-no_octets (x ∷ xs) empty = absurd (omega arith)

@@ -1,9 +1,9 @@
 -- The first columns of a table, and the first of several tables.
 use Rattle.std.proofs.Common.{◌≡◌, ◌≤◌, ◌<◌, ◌+◌, ◌∙◌, sym, ap, subst, ⊎_elim, ℕ, zero, suc, Bool, List, [], ◌∷◌, length, take, Some, arith}
-use Rattle.std.specs.Prelude.{slice_get, slice_index_or}
+use Rattle.std.specs.Prelude.{slice_get}
 use Rattle.std.proofs.lemmas.Bool.{cases_lt}
 use Rattle.std.proofs.lemmas.List.{take-take}
-use Rattle.std.proofs.lemmas.Option.{get_or_from_slice_get, slice_get_within}
+use Rattle.std.proofs.lemmas.Option.{slice_get_within}
 use Rattle.qw_types.specs.Contents.{Contents}
 use Rattle.qw_types.specs.declared.schema.ColumnType.{ColumnType}
 use Rattle.qw_types.specs.declared.value.Ty.{Ty}
@@ -47,11 +47,6 @@ place_of at table placed k type is found =
 -- what an index past the end would read
 abbrev pub nowhere : Placed
 nowhere = record { values = 0; octets = 0; size = 0; nulls = 0; rows = 0 }
-
-pub place_at : (at : ℕ) (table : Contents) (placed : List Placed) (k : ℕ) (type : ColumnType) (other : Placed) → placed ≡ placed_columns at table.columns 0 table.rows
-    → slice_get table.columns k ≡ Some type
-    → slice_index_or placed k other ≡ placed_at (columns_end at (take k table.columns) 0 table.rows) type.ty (column_values table.rows k)
-place_at at table placed k type other is found = get_or_from_slice_get placed k _ other (place_of at table placed k type is found)
 
 -- and where it ends
 pub place_end : (at : ℕ) (table : Contents) (k : ℕ) (type : ColumnType) → slice_get table.columns k ≡ Some type

@@ -1,70 +1,89 @@
 //! Columns, written part by part. Each function leaves what stands below its part as it was.
 
-ghost use Rattle.std.specs.Prelude.{◌≡◌, ◌≤◌, ◌<◌, ◌+◌, ◌*◌, ◌/◌, ◌^◌, ◌++◌, take, drop, ℕ, List, Some, length, map, slice_get};
-ghost use Rattle.qw_types.specs.Contents.{AreLoaded};
-ghost use Rattle.qw_types.specs.declared.schema.ColumnType.{ColumnType};
+ghost use Rattle.std.specs.Prelude.{◌≡◌, ◌≤◌, ◌<◌, ◌+◌, ◌*◌, ◌/◌, ◌^◌, ◌++◌, take, drop, ℕ, List, length, map, slice_get};
+ghost use Rattle.qw_types.specs.Contents.{Contents};
 ghost use Rattle.qw_types.specs.declared.value.Val.{Val};
 ghost use Rattle.qw_types.specs.declared.value.Val.TheVariants.{Num};
 ghost use Rattle.qw_csv.specs.Cells.{AreTexts};
-ghost use Rattle.qw_linear.specs.Memory.{AreOctets};
-ghost use Rattle.qw_map.specs.Columns.{HoldsColumn, HoldsTable, column_end, column_values, columns_end, placed_at, placed_columns};
-ghost use Rattle.qw_columns.specs.Inner.Writing.{HasNulls, HasNumbers, HasStarts, HasValues, KeepsBelow, flags_from, is_null};
+ghost use Rattle.qw_linear.specs.Memory.{AreOctets, most_pages, page};
+ghost use Rattle.qw_map.specs.Columns.{HoldsColumn, HoldsTable, column_end, columns_end, placed_at};
+ghost use Rattle.qw_columns.specs.Inner.Writing.{AreColumnsAt, GrowsFrom, HasNulls, HasNumbers, HasStarts, HasValues, KeepsBelow, flags_from, is_null, pages_to};
 
-use crate::room::column_type;
-use qw_csv::{Cell, ColumnCells, Loaded};
-use qw_linear::linear::Linear;
+use crate::room::column_end;
+use qw_csv::{Cell, ColumnCells, LoadedColumn};
+use qw_linear::linear::{Linear, PAGE};
 use qw_map::layout::Placed;
-use qw_types::ColumnType;
 
-/// Writes the columns of a table where the map says.
-pub(crate) fn write_table(loaded: &Loaded, placed: &[Placed], memory: &mut Linear)
-    requires room { (at : ℕ) × (placed.now ≡ placed_columns at loaded.now.columns 0 loaded.now.rows)
-        × (columns_end at loaded.now.columns 0 loaded.now.rows ≤ length memory.old.octets) }
-    requires small { length memory.old.octets < 2 ^ 32 }
-    ensures holds { HoldsTable memory.new.octets placed.now loaded.now }
-    ensures keeps { (at : ℕ) → placed.now ≡ placed_columns at loaded.now.columns 0 loaded.now.rows → KeepsBelow memory.old memory.new at }
+/// Writes the columns of a table where the map says, one after another: the memory grows to the end of a column, the column is written,
+/// and what it was kept in is freed, before the memory grows for the next. So no more than one column stands twice.
+pub(crate) fn write_table(columns: Vec<LoadedColumn>, placed: &[Placed], memory: &mut Linear)
+    requires room { (at : ℕ) × (table : Contents) × AreColumnsAt at table columns.items placed.now
+        × (length memory.old.octets ≡ pages_to at * page) × (columns_end at table.columns 0 table.rows ≤ memory.old.reserved * page) }
+    requires limit { memory.old.reserved ≤ most_pages }
+    ensures holds { (at : ℕ) (table : Contents) → AreColumnsAt at table columns.items placed.now → HoldsTable memory.new.octets placed.now table }
+    ensures grows { (at : ℕ) (table : Contents) → AreColumnsAt at table columns.items placed.now → GrowsFrom memory.old memory.new at }
+    ensures len { (at : ℕ) (table : Contents) → AreColumnsAt at table columns.items placed.now → length memory.old.octets ≡ pages_to at * page
+        → length memory.new.octets ≡ pages_to (columns_end at table.columns 0 table.rows) * page }
 {
-    for column in 0..loaded.width() {
-        write_column(loaded, column, &placed[column], memory);
+    let mut index = 0;
+    for column in columns {
+        place_column(column, &placed[index], memory);
+        index += 1;
+    }
+}
+
+/// Grows the memory to the end of a column, writes the column there, and frees what it was kept in.
+fn place_column(column: LoadedColumn, placed: &Placed, memory: &mut Linear)
+    requires placed { placed.now ≡ placed_at placed.now.values column.type.ty column.values }
+    requires room { column_end column.type.not_null placed.now ≤ memory.old.reserved * page }
+    requires len { length memory.old.octets ≡ pages_to placed.now.values * page }
+    requires limit { memory.old.reserved ≤ most_pages }
+    ensures holds { HoldsColumn memory.new.octets column.type.ty column.type.not_null placed.now column.values }
+    ensures grows { GrowsFrom memory.old memory.new placed.now.values }
+    ensures len { length memory.new.octets ≡ pages_to (column_end column.type.not_null placed.now) * page }
+{
+    grow_to(memory, column_end(column.column_type().not_null, placed));
+    write_column(&column, placed, memory);
+}
+
+/// Grows the memory to the whole pages of so many octets, where it has fewer.
+pub(crate) fn grow_to(memory: &mut Linear, end: u64)
+    requires { end ≤ memory.old.reserved * page }
+    ensures grows { (at : ℕ) → GrowsFrom memory.old memory.new at }
+    ensures len { (at : ℕ) → at ≤ end → length memory.old.octets ≡ pages_to at * page → length memory.new.octets ≡ pages_to end * page }
+    ensures small { length memory.new.octets < 2 ^ 32 }
+{
+    let held = u64::from(memory.size());
+    let pages = end.div_ceil(PAGE as u64);
+    if held < pages {
+        memory.grow((pages - held) as u32).unwrap();
     }
 }
 
 /// Writes a column.
-fn write_column(loaded: &Loaded, column: usize, placed: &Placed, memory: &mut Linear)
-    requires loaded { AreLoaded loaded.now }
-    requires column { column < length loaded.now.columns }
-    requires placed { (type : ColumnType) → slice_get loaded.now.columns column ≡ Some type
-        → placed.now ≡ placed_at placed.now.values type.ty (column_values loaded.now.rows column) }
-    requires room { (type : ColumnType) → slice_get loaded.now.columns column ≡ Some type
-        → column_end type.not_null placed.now ≤ length memory.old.octets }
+fn write_column(column: &LoadedColumn, placed: &Placed, memory: &mut Linear)
+    requires placed { placed.now ≡ placed_at placed.now.values column.now.type.ty column.now.values }
+    requires room { column_end column.now.type.not_null placed.now ≤ length memory.old.octets }
     requires small { length memory.old.octets < 2 ^ 32 }
-    ensures holds { (type : ColumnType) → slice_get loaded.now.columns column ≡ Some type
-        → HoldsColumn memory.new.octets type.ty type.not_null placed.now (column_values loaded.now.rows column) }
+    ensures holds { HoldsColumn memory.new.octets column.now.type.ty column.now.type.not_null placed.now column.now.values }
     ensures keeps { KeepsBelow memory.old memory.new placed.now.values }
 {
-    let column_type = column_type(loaded, column);
-    write_values(loaded, column, column_type, placed, memory);
+    let column_type = column.column_type();
+    write_values(column, placed, memory);
     if !column_type.not_null {
-        write_nulls(loaded, column, placed.nulls, memory);
+        write_nulls(column, placed.nulls, memory);
     }
 }
 
 /// Writes the values of a column, or the offsets of its texts and their octets.
-fn write_values(
-    loaded: &Loaded,
-    column: usize,
-    column_type: ColumnType,
-    placed: &Placed,
-    memory: &mut Linear,
-)
-    requires column_type { slice_get loaded.now.columns column ≡ Some column_type }
-    requires placed { placed.now ≡ placed_at placed.now.values column_type.ty (column_values loaded.now.rows column) }
+fn write_values(column: &LoadedColumn, placed: &Placed, memory: &mut Linear)
+    requires placed { placed.now ≡ placed_at placed.now.values column.now.type.ty column.now.values }
     requires room { placed.now.nulls ≤ length memory.old.octets }
     requires small { length memory.old.octets < 2 ^ 32 }
-    ensures values { HasValues memory.new.octets column_type.ty placed.now (column_values loaded.now.rows column) }
+    ensures values { HasValues memory.new.octets column.now.type.ty placed.now column.now.values }
     ensures keeps { KeepsBelow memory.old memory.new placed.now.values }
 {
-    match loaded.cells(column) {
+    match column.cells() {
         ColumnCells::Short(numbers) => write_short(numbers, placed.values, memory),
         ColumnCells::Long(numbers) => write_long(numbers, placed.values, memory),
         ColumnCells::Texts { ends, octets } => {
@@ -128,36 +147,33 @@ fn copy_octets(memory: &mut Linear, at: u64, octets: &[u8])
 }
 
 /// Writes the null bits of a column from an address on.
-fn write_nulls(loaded: &Loaded, column: usize, at: u64, memory: &mut Linear)
-    requires column { column < length loaded.now.columns }
-    requires room { at + (length loaded.now.rows + 7) / 8 ≤ length memory.old.octets }
+fn write_nulls(column: &LoadedColumn, at: u64, memory: &mut Linear)
+    requires room { at + (length column.now.values + 7) / 8 ≤ length memory.old.octets }
     requires small { length memory.old.octets < 2 ^ 32 }
-    ensures nulls { HasNulls memory.new.octets at (column_values loaded.now.rows column) ((length loaded.now.rows + 7) / 8) }
+    ensures nulls { HasNulls memory.new.octets at column.now.values ((length column.now.values + 7) / 8) }
     ensures keeps { KeepsBelow memory.old memory.new at }
 {
-    for group in 0..loaded.len().div_ceil(8) {
-        let octet = null_octet(loaded, column, group);
+    for group in 0..column.len().div_ceil(8) {
+        let octet = null_octet(column, group);
         memory.store8(at + group as u64, u64::from(octet)).unwrap();
     }
 }
 
 /// The null bits of eight rows, the first of them in the lowest bit.
-fn null_octet(loaded: &Loaded, column: usize, group: usize) -> u8
-    requires column { column < length loaded.now.columns }
-    requires group { group ≤ 125_000 }
-    ensures { result ≡ flags_from (column_values loaded.now.rows column) (8 * group) 8 }
+fn null_octet(column: &LoadedColumn, group: usize) -> u8
+    requires { group ≤ 125_000 }
+    ensures { result ≡ flags_from column.now.values (8 * group) 8 }
 {
     let mut octet = 0;
     for bit in 0..8 {
-        octet = 2 * octet + u8::from(is_null(loaded, column, 8 * group + 7 - bit));
+        octet = 2 * octet + u8::from(is_null(column, 8 * group + 7 - bit));
     }
     octet
 }
 
 /// Whether there is such a row, and its value is null.
-fn is_null(loaded: &Loaded, column: usize, row: usize) -> bool
-    requires { column < length loaded.now.columns }
-    ensures { result ≡ is_null (slice_get (column_values loaded.now.rows column) row) }
+fn is_null(column: &LoadedColumn, row: usize) -> bool
+    ensures { result ≡ is_null (slice_get column.now.values row) }
 {
-    row < loaded.len() && matches!(loaded.cell(row, column), Cell::Null)
+    row < column.len() && matches!(column.cell(row), Cell::Null)
 }

@@ -4,4 +4,5 @@ pub mod Cells
 pub mod Contents
 pub mod Field
 pub mod Inner
+pub mod LoadedColumn
 pub mod Loading

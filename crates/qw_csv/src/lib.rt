@@ -3,6 +3,7 @@
 //! - [`loading::load`]: the rows that the octets stand for, or the first fault of the file.
 //! - [`loader::Loader`]: the same of a file that comes in pieces.
 //! - [`loaded::Loaded`]: rows in memory, their values by row and column.
+//! - [`loaded_column::LoadedColumn`]: one column of them by itself, so that columns can be freed one after another.
 //! - [`cell::Cell`]: a value, its text lent; [`cell::CellFault`]: why a field stands for none.
 //! - [`column_cells::ColumnCells`]: all values of a column, lent as they are kept.
 #![tactic(auto)]
@@ -10,6 +11,7 @@
 pub mod cell;
 pub mod column_cells;
 pub mod loaded;
+pub mod loaded_column;
 pub mod loader;
 pub mod loading;
 mod place;
@@ -19,5 +21,6 @@ mod wide;
 pub use cell::{Cell, CellFault};
 pub use column_cells::ColumnCells;
 pub use loaded::Loaded;
+pub use loaded_column::LoadedColumn;
 pub use loader::Loader;
 pub use qw_types::ColumnType;

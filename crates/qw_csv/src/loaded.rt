@@ -1,6 +1,6 @@
 //! `Loaded`: the rows of a table, kept column by column.
 
-ghost use Rattle.std.specs.Prelude.{◌≡◌, ◌<◌, ◌↔◌, ℕ, List, [], length, map, IsTrue, Some, slice_get};
+ghost use Rattle.std.specs.Prelude.{◌≡◌, ◌<◌, ◌↔◌, ℕ, List, [], length, map, IsTrue, IfOk, Some, slice_get};
 ghost use Rattle.std.specs.List.{AllByRecursion, AllZip};
 ghost use Rattle.qw_types.specs.Kind.{IsRowOf, type_kind};
 ghost use Rattle.qw_types.specs.Schema.{AreColumns};
@@ -15,12 +15,15 @@ ghost use Rattle.qw_csv.specs.Cells.{AreCellsFor, values_of};
 ghost use Rattle.qw_csv.specs.Contents.{integer_column};
 ghost use Rattle.qw_csv.specs.Field.{val_of};
 ghost use Rattle.qw_csv.specs.Loading.{Loads};
+ghost use Rattle.qw_csv.specs.LoadedColumn.{ColumnContents, columns_of};
 ghost use Rattle.qw_csv.specs.Inner.Rows.{AreStored, rows_in};
 
 use crate::cell::Cell;
 use crate::column_cells::ColumnCells;
+use crate::loaded_column::LoadedColumn;
 use crate::storage::Values;
-use qw_types::ColumnType;
+use qw_types::{ColumnType, NoMemory};
+use std::alloc::Global;
 use std::marker::Model;
 
 /// The rows of a table. Contracts see the types of its columns, and the rows as lists of values.
@@ -66,6 +69,23 @@ impl Loaded {
         ensures rows { rows_in result.2 result.1.items ≡ self.rows }
     {
         (self.columns, self.values, self.len)
+    }
+
+    /// The columns one by one, in their order. The values stay where they are kept, so that this takes memory for the list alone.
+    ///
+    /// # Errors
+    ///
+    /// [`NoMemory`] where the list doesn't fit memory. The rows are dropped.
+    pub fn into_columns(self, alloc: Global) -> Result<Vec<LoadedColumn>, NoMemory>
+        ensures { IfOk result (λ columns. columns.items ≡ columns_of self) }
+    {
+        let (types, values, len) = self.into_parts();
+        let mut columns = Vec::with_capacity(alloc, types.len())?;
+        for kept in values {
+            let column = LoadedColumn::new(types[columns.len()], kept, len);
+            columns.push(column)?;
+        }
+        Ok(columns)
     }
 
     /// The types of the columns, and which may be null.

@@ -1,9 +1,11 @@
 // The octets of columns, written out by hand from docs/FORMATS.md, and values read back.
 
-ghost use Rattle.std.specs.Prelude.{◌≡◌, IfOk, IsTrue, length};
+ghost use Rattle.std.specs.Prelude.{◌≡◌, IfOk, IsSome, IsTrue, List, length};
+ghost use Rattle.std.specs.List.{AllByRecursion};
+ghost use Rattle.qw_types.specs.Contents.{Contents};
 ghost use Rattle.qw_types.specs.Schema.{AreColumns};
 ghost use Rattle.qw_types.specs.Value.{IsSized};
-ghost use Rattle.qw_columns.specs.Mapped.{IsMapOf};
+ghost use Rattle.qw_columns.specs.Mapped.{IsMapOf, value_in};
 
 use qw_columns::{ColumnMap, PlaceFault, pages_needed, place, value_at};
 use qw_csv::loading::load;
@@ -175,31 +177,35 @@ fn is_zero_from(memory: &Linear, at: u64) -> bool {
     true
 }
 
-/// The value of a row, if there is such a row.
-fn read(
-    alloc: Global,
-    tables: &[Loaded],
-    memory: &Linear,
-    map: &ColumnMap,
-    at: (usize, usize, usize),
-) -> Result<Option<Val>, NoMemory>
-    requires { IsMapOf map.now memory.now.octets tables.now }
+/// Whether there is such a row of a column of a table.
+fn is_there(tables: &[Loaded], at: (usize, usize, usize)) -> bool
+    ensures { IsTrue result → IsSome (value_in tables.now at.0 at.1 at.2) }
 {
     let (table, column, row) = at;
     if table < tables.len() && column < tables[table].width() && row < tables[table].len() {
         let _cell = tables[table].cell(row, column);
-        return Ok(Some(value_at(alloc, memory, map, table, column, row)?));
+        return true;
     }
-    Ok(None)
+    false
 }
 
-/// Whether there is a value, and it is that of the cell.
-fn is_same(value: &Option<Val>, cell: &Cell<'_>) -> bool {
+/// Whether there are all of these rows.
+fn are_there(tables: &[Loaded], values: &[((usize, usize, usize), Cell<'static>)]) -> bool
+    ensures { IsTrue result → AllByRecursion (λ value. IsSome (value_in tables.now value.0.0 value.0.1 value.0.2)) values.now }
+{
+    match values {
+        [] => true,
+        [one, others @ ..] => is_there(tables, one.0) && are_there(tables, others),
+    }
+}
+
+/// Whether a value is that of the cell.
+fn is_same(value: &Val, cell: &Cell<'_>) -> bool {
     match (value, cell) {
-        (Some(Val::Null), Cell::Null) => true,
-        (Some(Val::Num(one)), Cell::Num(other)) => *one == *other,
-        (Some(Val::Date(one)), Cell::Date(other)) => *one == *other,
-        (Some(Val::Text(one)), Cell::Text(other)) => one.as_str().as_bytes() == *other,
+        (Val::Null, Cell::Null) => true,
+        (Val::Num(one), Cell::Num(other)) => *one == *other,
+        (Val::Date(one), Cell::Date(other)) => *one == *other,
+        (Val::Text(one), Cell::Text(other)) => one.as_str().as_bytes() == *other,
         _ => false,
     }
 }
@@ -223,7 +229,7 @@ fn loaded(alloc: Global, table: &Table, file: &[u8]) -> Result<Vec<Loaded>, Fail
 fn placed(alloc: Global, table: &Table, file: &[u8]) -> Result<Linear, Fail> {
     let tables = loaded(alloc, table, file)?;
     let mut memory = Linear::new(alloc, 2)?;
-    place(alloc, tables.as_slice(), &mut memory)?;
+    place(alloc, tables, &mut memory)?;
     Ok(memory)
 }
 
@@ -248,33 +254,34 @@ fn two_loaded(alloc: Global) -> Result<Vec<Loaded>, Fail>
     Ok(vec![in alloc; first, second]?)
 }
 
-/// Asserts the value of a row.
-fn assert_value(
+/// Asserts the values of rows.
+fn assert_values(
     rt: &impl Abort,
     alloc: Global,
-    tables: &[Loaded],
     memory: &Linear,
     map: &ColumnMap,
-    at: (usize, usize, usize),
-    cell: &Cell<'_>,
+    values: &[((usize, usize, usize), Cell<'static>)],
 ) -> Result<(), NoMemory>
-    requires { IsMapOf map.now memory.now.octets tables.now }
+    requires { (tables : List Contents) × IsMapOf map.now memory.now.octets tables
+        × AllByRecursion (λ value. IsSome (value_in tables value.0.0 value.0.1 value.0.2)) values.now }
 {
-    let value = read(alloc, tables, memory, map, at)?;
-    assert!(rt; is_same(&value, cell), "{at:?}");
-    Ok(())
+    let [one, others @ ..] = values else {
+        return Ok(());
+    };
+    let (table, column, row) = one.0;
+    let value = value_at(alloc, memory, map, table, column, row)?;
+    assert!(rt; is_same(&value, &one.1), "{:?}", one.0);
+    assert_values(rt, alloc, memory, map, others)
 }
 
 #[test]
 fn two_tables(rt: HostRuntime) -> Result<(), Fail> {
     let tables = two_loaded(rt.alloc())?;
+    assert!(rt; are_there(&tables, &VALUES));
     let mut memory = Linear::new(rt.alloc(), 1)?;
-    let map = place(rt.alloc(), tables.as_slice(), &mut memory)?;
+    let map = place(rt.alloc(), tables, &mut memory)?;
     assert_octets(&rt, &memory, TWO_TABLES);
-    for (at, cell) in &VALUES {
-        assert_value(&rt, rt.alloc(), &tables, &memory, &map, *at, cell)?;
-    }
-    Ok(())
+    Ok(assert_values(&rt, rt.alloc(), &memory, &map, &VALUES)?)
 }
 
 #[test]
@@ -283,7 +290,7 @@ fn no_room(rt: HostRuntime) -> Result<(), Fail> {
     let tables = loaded(rt.alloc(), &table, b"A\n")?;
     assert!(rt; pages_needed(tables.as_slice()) == 1);
     let mut memory = Linear::new(rt.alloc(), 0)?;
-    let fault = place(rt.alloc(), tables.as_slice(), &mut memory).err();
+    let fault = place(rt.alloc(), tables, &mut memory).err();
     assert!(rt; fault == Some(PlaceFault::TooManyPages { need: 1 }));
     assert!(rt; memory.size() == 0);
     Ok(())

@@ -90,7 +90,7 @@ pub fn bench_over(
 ) -> Result<Result<Bench, BenchFault>, Fail> {
     let tables = tables_of(alloc, schema, file)?;
     let queries = queries_of(alloc, schema, script)?;
-    bench_of_queries(alloc, schema, tables.as_slice(), queries.as_slice(), limits)
+    bench_of_queries(alloc, schema, tables, queries.as_slice(), limits)
 }
 
 /// The same over the files of a schema's two tables.
@@ -103,7 +103,7 @@ pub fn bench_over_two(
 ) -> Result<Result<Bench, BenchFault>, Fail> {
     let tables = two_tables_of(alloc, schema, first, second)?;
     let queries = queries_of(alloc, schema, script)?;
-    bench_of_queries(alloc, schema, tables.as_slice(), queries.as_slice(), limits)
+    bench_of_queries(alloc, schema, tables, queries.as_slice(), limits)
 }
 
 fn tables_of(alloc: Global, schema: &Schema, file: &[u8]) -> Result<Vec<Loaded>, Fail>
@@ -141,12 +141,12 @@ fn loaded_of(alloc: Global, table: &Table, file: &[u8]) -> Result<Loaded, LoadFa
 fn bench_of_queries(
     alloc: Global,
     schema: &Schema,
-    tables: &[Loaded],
+    tables: Vec<Loaded>,
     queries: &[TypedQuery],
     limits: &[Limits],
 ) -> Result<Result<Bench, BenchFault>, Fail>
     requires over { AllByRecursion (IsOver schema.now) queries.now }
-    requires tables { AreContentsOf schema.now tables.now }
+    requires tables { AreContentsOf schema.now tables.items }
 {
     let mut jobs = Vec::new(alloc);
     for query in queries {

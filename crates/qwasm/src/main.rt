@@ -17,7 +17,7 @@
 //!
 //! What each choice costs, as measured in docs/ARCHITECTURE.md ("Speed"), over a million records of four columns (46 MB of text):
 //!
-//! - a run loads each table of the schema, whichever the queries name: 0.22 s of processor time and 63 MiB, 1.4 times the text, with a query
+//! - a run loads each table of the schema, whichever the queries name: 0.22 s of processor time and 47 MiB, 1.1 times the text, with a query
 //!   that keeps no row. Twice the records take up to twice the time. So a schema should have the tables that are wanted, and no more;
 //! - ten queries over one such table took 0.63 s, its loading included: a script loads once, and ten runs would load ten times;
 //! - a query reads only the columns that it names, and those that a conjunct is the first to name only at rows that reach it: write the

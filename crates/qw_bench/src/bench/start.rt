@@ -31,17 +31,17 @@ use std::alloc::Global;
 /// [`NoMemory`] where that does not fit memory.
 pub(super) fn place_all(
     alloc: Global,
-    loaded: &[Loaded],
+    loaded: Vec<Loaded>,
     memory: &mut Linear,
 ) -> Result<ColumnMap, NoMemory>
-    requires tables { length loaded.now ≤ MAX_TABLES }
+    requires tables { length loaded.items ≤ MAX_TABLES }
     requires empty { length memory.old.octets ≡ 0 }
-    requires room { column_pages loaded.now ≤ memory.old.reserved }
-    ensures placed { IfOk result (λ map. map.placed ≡ map_of loaded.now) }
-    ensures loaded { IfOk result (λ map. AllByRecursion AreLoaded loaded.now) }
-    ensures holds { IfOk result (λ map. Holds (map_of loaded.now) memory.new.octets loaded.now) }
+    requires room { column_pages loaded.items ≤ memory.old.reserved }
+    ensures placed { IfOk result (λ map. map.placed ≡ map_of loaded.items) }
+    ensures loaded { IfOk result (λ map. AllByRecursion AreLoaded loaded.items) }
+    ensures holds { IfOk result (λ map. Holds (map_of loaded.items) memory.new.octets loaded.items) }
     ensures octets { IfOk result (λ map. AreOctets memory.new.octets) }
-    ensures len { IfOk result (λ map. length memory.new.octets ≡ column_pages loaded.now * page) }
+    ensures len { IfOk result (λ map. length memory.new.octets ≡ column_pages loaded.items * page) }
     ensures reserved { memory.new.reserved ≡ memory.old.reserved }
 {
     match place(alloc, loaded, memory) {

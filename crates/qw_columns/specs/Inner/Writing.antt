@@ -1,14 +1,18 @@
--- Mirrors what the functions of `writing` leave in the memory.
-use Rattle.std.specs.Prelude.{◌≡◌, ℕ, zero, suc, ◌+◌, ◌*◌, ◌%◌, ◌^◌, ◌<◌, List, length, take, drop, Option, Some, None, Bool, true, false, slice_get}
+-- Mirrors what the functions of `columns` and `writing` take, and leave in the memory.
+use Rattle.std.specs.Prelude.{◌≡◌, ℕ, zero, suc, ◌+◌, ◌-◌, ◌*◌, ◌/◌, ◌%◌, ◌^◌, ◌<◌, ◌≤◌, List, length, map, take, drop, Option, Some, None, Bool, true, false, slice_get}
+use Rattle.std.specs.Global.{Vec}
 use Rattle.std.specs.Int.{cast_unsigned, w64}
+use Rattle.qw_types.specs.Contents.{Contents}
 use Rattle.qw_types.specs.Value.{text_octets}
 use Rattle.qw_types.specs.declared.value.Ty.{Ty}
 use Rattle.qw_types.specs.declared.value.Ty.TheVariants as ty
 use Rattle.qw_types.specs.declared.value.Val.{Val}
 use Rattle.qw_types.specs.declared.value.Val.TheVariants as val
 use Rattle.qw_csv.specs.Cells.{number_in, octets_in}
+use Rattle.qw_csv.specs.LoadedColumn.{ColumnContents, columns_of}
 use Rattle.qw_linear.specs.Linear.{Octets}
-use Rattle.qw_linear.specs.Memory.{AreOctets, SameBelow, number_at}
+use Rattle.qw_linear.specs.Memory.{AreOctets, SameBelow, number_at, page}
+use Rattle.qw_map.specs.Columns.{placed_columns}
 use Rattle.qw_map.specs.declared.layout.Placed.{Placed}
 
 -- a memory that was written to from an address on
@@ -17,6 +21,26 @@ pub record KeepsBelow (before after : Octets) (at : ℕ) : Type 0 where
   pub octets : AreOctets before.octets → AreOctets after.octets
   pub len : length after.octets ≡ length before.octets
   pub reserved : after.reserved ≡ before.reserved
+
+-- a memory that grew, and was written to from an address on
+pub record GrowsFrom (before after : Octets) (at : ℕ) : Type 0 where
+  pub below : SameBelow before.octets after.octets at
+  pub octets : AreOctets before.octets → AreOctets after.octets
+  pub len : length before.octets ≤ length after.octets
+  pub reserved : after.reserved ≡ before.reserved
+
+-- how many pages so many octets take
+abbrev pub pages_to : ℕ → ℕ
+pages_to end = (end + page - 1) / page
+
+-- the columns of a table, and where they stand that begin at an address
+pub record AreColumnsAt (at : ℕ) (table : Contents) (columns : List ColumnContents) (placed : List Placed) : Type 0 where
+  pub columns_are : columns ≡ columns_of table
+  pub placed_are : placed ≡ placed_columns at table.columns 0 table.rows
+
+-- the columns of tables, table by table
+abbrev pub AreColumnsOf : List (Vec ColumnContents) → List Contents → Type 0
+AreColumnsOf tables loaded = map (λ (columns : Vec ColumnContents). columns.items) tables ≡ map columns_of loaded
 
 -- ---- of one value
 

@@ -1,4 +1,4 @@
--- Mirrors how `loaded::Loaded` keeps rows: column by column.
+-- Mirrors how `loaded::Loaded` keeps rows: column by column, and `loaded_column::LoadedColumn` one of these.
 use Rattle.std.specs.Prelude.{◌≡◌, ◌≤◌, ℕ, zero, suc, List, [], ◌∷◌, ◌++◌, length, map, slice_index_or}
 use Rattle.std.specs.List.{AllByRecursion}
 use Rattle.qw_types.specs.Limits.{most_columns, most_rows}
@@ -30,3 +30,10 @@ pub record AreStored (count : ℕ) (types : List ColumnType) (columns : List Val
   pub sized : AllByRecursion (λ (type : ColumnType). IsSized type.ty) types
   pub few : count ≤ most_rows
   pub kept : AreAllKept count types columns
+
+-- one column of so many values, kept by its type
+pub record IsStoredColumn (count : ℕ) (type : ColumnType) (values : Values) : Type 0 where
+  pub sized : IsSized type.ty
+  pub few : count ≤ most_rows
+  pub kept : AreKept type values
+  pub long : length (values_in values) ≡ count

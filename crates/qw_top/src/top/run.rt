@@ -58,13 +58,7 @@ pub fn run<'a, F: Shelf>(
         tables,
         queries,
     } = prepare(alloc, names, files)?;
-    let bench = finished(
-        alloc,
-        &schema,
-        tables.as_slice(),
-        queries.as_slice(),
-        names.options,
-    )?;
+    let bench = finished(alloc, &schema, tables, queries.as_slice(), names.options)?;
     Ok(Turned { queries, bench })
 }
 
@@ -72,17 +66,17 @@ pub fn run<'a, F: Shelf>(
 fn finished<'a>(
     alloc: Global,
     schema: &Schema,
-    tables: &[Loaded],
+    tables: Vec<Loaded>,
     queries: &[TypedQuery],
     options: RunOptions,
 ) -> Result<Bench, Stop<'a>>
     requires few { length schema.now ≤ most_tables }
     requires over { AllByRecursion (IsOver schema.now) queries.now }
     requires few_queries { length queries.now ≤ 64 }
-    requires tables { AreContentsOf schema.now tables.now }
-    requires read { AllByRecursion (λ (asked : Asked). AreOfEntries (entries_of (sources_in asked.whole.body)) (rows_in_tables tables.now)) (map asked_of queries.now) }
-    ensures ran { IfOk result (λ bench. HasRun (limits_of (options_of options)) options.quantum tables.now (map asked_of queries.now) bench) }
-    ensures stops { IfErr result (λ stop. StopsToRun (limits_of (options_of options)) tables.now (map asked_of queries.now) stop) }
+    requires tables { AreContentsOf schema.now tables.items }
+    requires read { AllByRecursion (λ (asked : Asked). AreOfEntries (entries_of (sources_in asked.whole.body)) (rows_in_tables tables.items)) (map asked_of queries.now) }
+    ensures ran { IfOk result (λ bench. HasRun (limits_of (options_of options)) options.quantum tables.items (map asked_of queries.now) bench) }
+    ensures stops { IfErr result (λ stop. StopsToRun (limits_of (options_of options)) tables.items (map asked_of queries.now) stop) }
 {
     let jobs = jobs_of(alloc, schema, queries)?;
     let limits = Limits {
@@ -97,19 +91,19 @@ fn finished<'a>(
 /// The bench of programs over loaded tables, each under these limits.
 fn begun<'a>(
     alloc: Global,
-    tables: &[Loaded],
+    tables: Vec<Loaded>,
     jobs: Vec<Job>,
     limits: Limits,
 ) -> Result<Bench, Stop<'a>>
-    requires few { length tables.now ≤ most_tables }
+    requires few { length tables.items ≤ most_tables }
     requires few_jobs { length jobs.items ≤ 64 }
     requires limits { AreLimits limits }
-    requires columns { AllByRecursion (λ (job : Program). AllByRecursion (IsColumnIn tables.now) job.layout.columns) jobs.items }
+    requires columns { AllByRecursion (λ (job : Program). AllByRecursion (IsColumnIn tables.items) job.layout.columns) jobs.items }
     ensures tasks { IfOk result (λ bench. AreTasksOf jobs.items (replicate (length jobs.items) limits) bench.tasks) }
-    ensures start { IfOk result (λ bench. IsStart tables.now bench.tasks bench.shared) }
-    ensures room { OnOk result (pages_in_all tables.now (replicate (length jobs.items) limits) ≤ most_pages) }
+    ensures start { IfOk result (λ bench. IsStart tables.items bench.tasks bench.shared) }
+    ensures room { OnOk result (pages_in_all tables.items (replicate (length jobs.items) limits) ≤ most_pages) }
     ensures stops { IfErr result (λ stop. (stop ≡ Stop.NoMemory)
-        ⊎ StopsForPages (pages_in_all tables.now (replicate (length jobs.items) limits)) stop) }
+        ⊎ StopsForPages (pages_in_all tables.items (replicate (length jobs.items) limits)) stop) }
 {
     let each = vec![in alloc; limits; jobs.len()].map_err(|_| Stop::NoMemory)?;
     match Bench::new(alloc, tables, jobs, &each) {

@@ -1,6 +1,5 @@
 use Rattle.std.proofs.Common.{◌≡◌, ◌≤◌, ◌+◌, ◌*◌, ◌∙◌, add-one, arith, length}
 use Rattle.qw_linear.proofs.AccessFacts.{stored-inside}
-use Rattle.qw_map.specs.Columns.{column_values}
 use Rattle.qw_columns.specs.Inner.Writing.{flags_from}
 use Rattle.qw_columns.proofs.WriteLemmas.{keeps_number, keeps_then, nulls_more}
 use Rattle.qw_columns.proofs.writing.write_nulls.Goals as goal
@@ -9,7 +8,7 @@ pub loop-group-preserved : goal.loop-group-preserved
 loop-group-preserved c =
     let memory = c.loop-group.memory in
     let group = c.loop-group.group in
-    let values = column_values c.args.loaded.now.rows c.args.column in
+    let values = c.args.column.now.values in
     let room : c.args.at + group + 1 ≤ length memory.octets =
     omega (arith, c.requires.room, c.div_ceil-group-end.ensures, c.len.ensures.rows, c.loop-group-test.true, c.loop-group.invariant.keeps.len) in
     let octet : c.from.result ≡ flags_from values (8 * group) 8 = c.from.ensures ∙ c.null_octet-octet.ensures in

@@ -1,9 +1,8 @@
-use Rattle.qw_map.specs.Columns.{column_values}
 use Rattle.qw_columns.specs.Inner.Writing.{HasNulls, KeepsBelow}
 use Rattle.qw_columns.proofs.writing.write_nulls.Given as goal
 
 abbrev pub invariant-loop-group : goal.invariant-loop-group
 invariant-loop-group l = record {
-  nulls : HasNulls l.memory.octets l.at (column_values l.loaded.rows l.column) l.group;
+  nulls : HasNulls l.memory.octets l.at l.column.values l.group;
   keeps : KeepsBelow l.fn.memory l.memory l.at;
 }

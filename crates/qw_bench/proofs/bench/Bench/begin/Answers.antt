@@ -16,12 +16,12 @@ use Rattle.qw_bench.proofs.bench.Bench.begin.Goals.{In_ok-seats}
 pub first_seats-requires-clause-columns : goal.first_seats-requires-clause-columns
 first_seats-requires-clause-columns c =
     subst (λ (map : List (List Placed)). AllByRecursion (λ (program : Program). AreInMap map program.layout.columns) c.args.jobs.items) (sym c.in_ok-map.ensures.placed)
-    (all-in-map c.args.loaded.now c.place_all.new.memory.octets c.in_ok-map.ensures.holds c.args.jobs.items c.requires.columns)
+    (all-in-map c.args.loaded.items c.place_all.new.memory.octets c.in_ok-map.ensures.holds c.args.jobs.items c.requires.columns)
 
 pub first_seats-requires-clause-addresses : goal.first_seats-requires-clause-addresses
 first_seats-requires-clause-addresses c =
     subst IsAddressable (sym c.in_ok-map.ensures.placed)
-    (addressable c.args.loaded.now c.place_all.new.memory.octets c.in_ok-map.ensures.holds c.in_ok-map.ensures.loaded (omega (arith, c.requires.pages.0, c.requires.pages.1)))
+    (addressable c.args.loaded.items c.place_all.new.memory.octets c.in_ok-map.ensures.holds c.in_ok-map.ensures.loaded (omega (arith, c.requires.pages.0, c.requires.pages.1)))
 
 pub first_seats-requires-clause-room : goal.first_seats-requires-clause-room
 first_seats-requires-clause-room c =
@@ -30,22 +30,22 @@ first_seats-requires-clause-room c =
 
 -- ---- the bench
 first : (c : goal.In_ok-seats) →
-    AreFirstSeats (map_of c.args.loaded.now) c.first_seats.new.memory.octets (length c.place_all.new.memory.octets) c.args.jobs.items c.args.limits.now c.in_ok-seats.seats.items
+    AreFirstSeats (map_of c.args.loaded.items) c.first_seats.new.memory.octets (length c.place_all.new.memory.octets) c.args.jobs.items c.args.limits.now c.in_ok-seats.seats.items
 first c = subst (λ (map : List (List Placed)). AreFirstSeats map c.first_seats.new.memory.octets (length c.place_all.new.memory.octets) c.args.jobs.items
     c.args.limits.now c.in_ok-seats.seats.items) c.in_ok-map.ensures.placed c.in_ok-seats.ensures.seats
 
-fits : (c : goal.In_ok-seats) → total_pages c.args.loaded.now c.args.limits.now ≤ 65535
+fits : (c : goal.In_ok-seats) → total_pages c.args.loaded.items c.args.limits.now ≤ 65535
 fits c = omega (arith, c.requires.pages.0, c.requires.pages.1)
 
-reserved : (c : goal.In_ok-seats) → c.first_seats.new.memory.reserved ≡ total_pages c.args.loaded.now c.args.limits.now
+reserved : (c : goal.In_ok-seats) → c.first_seats.new.memory.reserved ≡ total_pages c.args.loaded.items c.args.limits.now
 reserved c =
     c.first_seats.ensures.reserved ∙ c.place_all.ensures.reserved ∙ ap (λ (m : Octets). m.reserved) c.in_ok-memory.ensures ∙ c.requires.pages.0
 
 whole : (c : goal.In_ok-seats) →
     AreTasksOf c.args.jobs.items c.args.limits.now (map task_of c.in_ok-seats.seats.items)
-    × IsStart c.args.loaded.now (map task_of c.in_ok-seats.seats.items) (standing_of c.first_seats.new.memory c.in_ok-seats.seats.items).shared
+    × IsStart c.args.loaded.items (map task_of c.in_ok-seats.seats.items) (standing_of c.first_seats.new.memory c.in_ok-seats.seats.items).shared
     × AreSeats c.first_seats.new.memory c.in_ok-seats.seats.items
-whole c = begins c.args.loaded.now c.args.jobs.items c.args.limits.now c.place_all.new.memory c.first_seats.new.memory c.in_ok-seats.seats.items
+whole c = begins c.args.loaded.items c.args.jobs.items c.args.limits.now c.place_all.new.memory c.first_seats.new.memory c.in_ok-seats.seats.items
     c.in_ok-map.ensures.loaded c.requires.columns c.requires.limits c.requires.many c.in_ok-map.ensures.holds c.in_ok-map.ensures.octets c.in_ok-map.ensures.len
     (first c) c.in_ok-seats.ensures.below c.in_ok-seats.ensures.octets c.in_ok-seats.ensures.len (fits c) (reserved c)
 

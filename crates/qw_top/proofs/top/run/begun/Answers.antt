@@ -18,5 +18,5 @@ returns-clause-stops c =
     let is : c.new.result ≡ Err (TotalPages need) = grind (arith, common_steps) in
     let limits : c.deref.result.now ≡ replicate (length c.args.jobs.items) c.args.limits = grind (arith, common_steps) in
     let total = (c.new.ensures.total_pages need).0 is in
-    let pages : need ≡ pages_in_all c.args.tables.now (replicate (length c.args.jobs.items) c.args.limits) = rw limits at total.0 in
+    let pages : need ≡ pages_in_all c.args.tables.items (replicate (length c.args.jobs.items) c.args.limits) = rw limits at total.0 in
     inr (subst (λ (n : ℕ). StopsForPages n c.refused.result) pages (total.1, c.refused.ensures))

@@ -10,7 +10,7 @@ use Rattle.qw_top.proofs.top.run.finished.Goals as goal
 
 pub begun-requires-clause-few : goal.begun-requires-clause-few
 begun-requires-clause-few c =
-    let many = same_many c.args.schema.now c.args.tables.now c.requires.tables in
+    let many = same_many c.args.schema.now c.args.tables.items c.requires.tables in
     let few = c.requires.few in
     omega (arith, many, few)
 
@@ -21,7 +21,7 @@ begun-requires-clause-few_jobs c =
     omega (arith, many, few)
 
 pub begun-requires-clause-columns : goal.begun-requires-clause-columns
-begun-requires-clause-columns c = jobs_columns c.args.schema.now c.args.tables.now c.args.queries.now c.in_ok-jobs.jobs.items c.requires.tables c.in_ok-jobs.ensures
+begun-requires-clause-columns c = jobs_columns c.args.schema.now c.args.tables.items c.args.queries.now c.in_ok-jobs.jobs.items c.requires.tables c.in_ok-jobs.ensures
 
 pub returns-in_err-bench-clause-stops : goal.returns-in_err-bench-clause-stops
 returns-in_err-bench-clause-stops c =
@@ -37,6 +37,6 @@ returns-clause-ran c =
     let jobs = c.in_ok-jobs.jobs.items in
     let limits : replicate (length jobs) (limits_of (options_of c.args.options)) ≡ same_limits (limits_of (options_of c.args.options)) (map asked_of queries) =
     ap (λ (n : ℕ). replicate n (limits_of (options_of c.args.options))) (many_jobs c.args.schema.now queries jobs c.in_ok-jobs.ensures) ∙ each_limits (limits_of (options_of c.args.options)) queries in
-    HasRun-from (limits_of (options_of c.args.options)) c.args.options.quantum c.args.tables.now (map asked_of queries) jobs c.in_ok-bench.bench c.run_all.new.self
+    HasRun-from (limits_of (options_of c.args.options)) c.args.options.quantum c.args.tables.items (map asked_of queries) jobs c.in_ok-bench.bench c.run_all.new.self
     (rw limits at c.in_ok-bench.ensures.room) c.requires.read (jobs_compiled c.args.schema.now queries jobs c.in_ok-jobs.ensures) (rw limits at c.in_ok-bench.ensures.tasks) c.in_ok-bench.ensures.start c.run_all.ensures.tasks
     c.run_all.ensures.rounds c.run_all.ensures.ended
