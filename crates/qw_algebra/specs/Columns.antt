@@ -1,7 +1,7 @@
 -- The entries of FROM whose columns expressions name. Column c of entry e is number 64 * e + c.
 use Rattle.std.specs.Prelude.{ℕ, ◌/◌, Bool, true, not, ◌&&◌, nat_eq, List, [], ◌∷◌, ◌++◌}
 use Rattle.std.specs.List.{list_any}
-use Rattle.qw_scalar.specs.Expression.{Expression, Condition, null, number, date, text, column, arithmetic, negative, extract, brought, choice, comparison, is_null, both, either, negation_of, is}
+use Rattle.qw_scalar.specs.Expression.{Expression, Condition, null, number, date, text, column, arithmetic, negative, extract, brought, choice, comparison, predicate, both, either, negation_of, is}
 use Rattle.qw_algebra.specs.Node.{Node, scan, filter, join, project}
 
 -- the entry that a column is of
@@ -39,7 +39,7 @@ abbrev mutual
 
   pub condition_names_only : (ℕ → Bool) → Condition → Bool
   condition_names_only test (comparison op a b) = names_only test a && names_only test b
-  condition_names_only test (is_null a) = names_only test a
+  condition_names_only test (predicate p a) = names_only test a
   condition_names_only test (both c d) = condition_names_only test c && condition_names_only test d
   condition_names_only test (either c d) = condition_names_only test c && condition_names_only test d
   condition_names_only test (negation_of c) = condition_names_only test c

@@ -5,7 +5,7 @@ use Rattle.qw_token.specs.Token.{Lexeme}
 use Rattle.qw_ast.specs.Quoted.{string_value}
 use Rattle.qw_ast.specs.SchemaGrammar.{IsTooDeep}
 use Rattle.qw_ast.specs.ScriptGrammar.{IsSelectOf}
-use Rattle.qw_ast.specs.Syntax.{Expression, null, number, text, date, column, signed, arithmetic, extract, searched_case, simple_case, coalesce, null_if, count_rows, set_function, Condition, comparison, between, among, is_null, both, either, negation_of, is, bracketed, Clause, condition, expression, Expressions, last, further, Branching, otherwise, when, SelectItem, Selected, all_columns, items, Entry, Joined, Source, Select}
+use Rattle.qw_ast.specs.Syntax.{Expression, null, number, text, date, column, signed, arithmetic, extract, searched_case, simple_case, call, count_rows, set_function, Condition, comparison, between, among, predicate, both, either, negation_of, is, bracketed, Clause, condition, expression, Expressions, last, further, Branching, otherwise, when, SelectItem, Selected, all_columns, items, Entry, Joined, Source, Select}
 
 -- ---- how large a query is
 
@@ -23,8 +23,7 @@ abbrev mutual
   nodes (extract field a) = 1 + nodes a
   nodes (searched_case branches) = 1 + nodes_branches branches
   nodes (simple_case x branches) = 1 + (nodes x + nodes_branches branches)
-  nodes (coalesce es) = 1 + nodes_all es
-  nodes (null_if a b) = 1 + (nodes a + nodes b)
+  nodes (call function es) = 1 + nodes_all es
   nodes (count_rows place) = 1
   nodes (set_function place f a) = 1 + nodes a
 
@@ -32,7 +31,7 @@ abbrev mutual
   nodes_condition (comparison op a b) = 1 + (nodes a + nodes b)
   nodes_condition (between negated x a b) = 1 + (nodes x + (nodes a + nodes b))
   nodes_condition (among negated x es) = 1 + (nodes x + nodes_all es)
-  nodes_condition (is_null negated a) = 1 + nodes a
+  nodes_condition (predicate p negated a) = 1 + nodes a
   nodes_condition (both c d) = 1 + (nodes_condition c + nodes_condition d)
   nodes_condition (either c d) = 1 + (nodes_condition c + nodes_condition d)
   nodes_condition (negation_of c) = 1 + nodes_condition c
@@ -64,8 +63,7 @@ abbrev mutual
   octets (extract field a) = octets a
   octets (searched_case branches) = octets_branches branches
   octets (simple_case x branches) = octets x + octets_branches branches
-  octets (coalesce es) = octets_all es
-  octets (null_if a b) = octets a + octets b
+  octets (call function es) = octets_all es
   octets (count_rows place) = 0
   octets (set_function place f a) = octets a
 
@@ -73,7 +71,7 @@ abbrev mutual
   octets_condition (comparison op a b) = octets a + octets b
   octets_condition (between negated x a b) = octets x + (octets a + octets b)
   octets_condition (among negated x es) = octets x + octets_all es
-  octets_condition (is_null negated a) = octets a
+  octets_condition (predicate p negated a) = octets a
   octets_condition (both c d) = octets_condition c + octets_condition d
   octets_condition (either c d) = octets_condition c + octets_condition d
   octets_condition (negation_of c) = octets_condition c

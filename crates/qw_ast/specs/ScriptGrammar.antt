@@ -1,6 +1,6 @@
 -- The grammar of a script (ISO/IEC 9075:1992; the section stands at each rule). A rule tells what stands at the front of some
 -- tokens, and the tokens that follow it. A data type is a rule of the standard, and a constructor one of its alternatives.
-use Rattle.std.specs.Prelude.{◌≡◌, ℕ, zero, suc, Bool, true, false, ◌&&◌, ◌||◌, not, if◌then◌else◌, IsTrue, List, [], ◌∷◌, ◌++◌, length, Option, Some, None, codes}
+use Rattle.std.specs.Prelude.{◌≡◌, ℕ, zero, suc, Bool, true, false, ◌&&◌, ◌||◌, not, if◌then◌else◌, IsTrue, nat_le, ◌==◌, List, [], ◌∷◌, ◌++◌, length, Option, Some, None, codes}
 use Rattle.std.specs.List.{list_any}
 use Rattle.std.specs.Str.{bytes_eq}
 use Rattle.qw_types.specs.Digits.{are_digits}
@@ -10,6 +10,10 @@ use Rattle.qw_scalar.specs.declared.expression.Operator.{Operator}
 use Rattle.qw_scalar.specs.declared.expression.Operator.TheVariants.{Add, Subtract, Multiply, Divide}
 use Rattle.qw_scalar.specs.declared.expression.Field.{Field}
 use Rattle.qw_scalar.specs.declared.expression.Field.TheVariants.{Year, Month, Day}
+use Rattle.qw_scalar.specs.declared.expression.Function.{Function}
+use Rattle.qw_scalar.specs.declared.expression.Function.TheVariants.{Coalesce, NullIf}
+use Rattle.qw_scalar.specs.declared.expression.Predicate.{Predicate}
+use Rattle.qw_scalar.specs.declared.expression.Predicate.TheVariants.{IsNull}
 use Rattle.qw_scalar.specs.declared.comparison.Comparison.{Comparison}
 use Rattle.qw_scalar.specs.declared.comparison.Comparison.TheVariants.{Equal, NotEqual, Less, LessOrEqual, Greater, GreaterOrEqual, Like, NotLike}
 use Rattle.qw_token.specs.declared.token.Kind.{Kind}
@@ -20,7 +24,7 @@ use Rattle.qw_ast.specs.declared.script.Sign.TheVariants.{Plus, Minus}
 use Rattle.qw_ast.specs.declared.script.SetFunction.{SetFunction}
 use Rattle.qw_ast.specs.declared.script.SetFunction.TheVariants.{Count, Sum, Avg, Min, Max}
 use Rattle.qw_ast.specs.Grammar.{folded, reserved}
-use Rattle.qw_ast.specs.Syntax.{Days, Expression, null, number, text, date, column, signed, arithmetic, extract, searched_case, simple_case, coalesce, null_if, count_rows, set_function, Condition, comparison, between, among, is_null, both, either, negation_of, is, bracketed, Clause, condition, expression, Expressions, last, further, Branching, otherwise, when, SelectItem, Selected, all_columns, items, Entry, Joined, Source, Reference, Key, ordinal, result_column, SortSpecification, Select}
+use Rattle.qw_ast.specs.Syntax.{Days, Expression, null, number, text, date, column, signed, arithmetic, extract, searched_case, simple_case, call, count_rows, set_function, Condition, comparison, between, among, predicate, both, either, negation_of, is, bracketed, Clause, condition, expression, Expressions, last, further, Branching, otherwise, when, SelectItem, Selected, all_columns, items, Entry, Joined, Source, Reference, Key, ordinal, result_column, SortSpecification, Select}
 
 -- ---- tokens (5.2, 5.4)
 
@@ -104,6 +108,21 @@ set_function_of t =
     else (if is_word (codes "MIN") t then Some Min
     else (if is_word (codes "MAX") t then Some Max
     else None))))
+
+-- a function, and how many arguments it takes behind the first (6.9)
+abbrev pub function_of : Lexeme → Option Function
+function_of t =
+    if is_word (codes "COALESCE") t then Some Coalesce
+    else (if is_word (codes "NULLIF") t then Some NullIf
+    else None)
+
+abbrev pub takes : Function → ℕ → Bool
+takes Coalesce n = nat_le 1 n
+takes NullIf n = n == 1
+
+-- what stands behind IS [NOT] of a predicate of one value (8.6)
+abbrev pub predicate_of : Lexeme → Option Predicate
+predicate_of t = if is_word (codes "NULL") t then Some IsNull else None
 
 abbrev pub truth_of : Lexeme → Option Truth
 truth_of t =
@@ -243,10 +262,8 @@ pub data IsPrimary (Inner : Clause → List Lexeme → List Lexeme → Type 0) :
       → AreBranches Inner true (b ∷ bs) ts us → IsElse Inner other us rest → IsPrimary Inner (searched_case (branching (b ∷ bs) other)) (word ∷ ts) rest
   a_simple_case : (x : Expression) (b : Branch) (bs : List Branch) (other : Expression) (word : Lexeme) (ts us vs rest : List Lexeme) → IsTrue (is_word (codes "CASE") word)
       → Inner (expression x) ts us → AreBranches Inner false (b ∷ bs) us vs → IsElse Inner other vs rest → IsPrimary Inner (simple_case x (branching (b ∷ bs) other)) (word ∷ ts) rest
-  a_coalesce : (e f : Expression) (es : List Expression) (word opening closing : Lexeme) (ts us rest : List Lexeme) → IsTrue (is_word (codes "COALESCE") word) → IsTrue (is_symbol (codes "(") opening)
-      → Inner (expression e) ts us → AreFurther (IsExpressionOf Inner) (f ∷ es) us (closing ∷ rest) → IsTrue (is_symbol (codes ")") closing) → IsPrimary Inner (coalesce (arguments e (f ∷ es))) (word ∷ opening ∷ ts) rest
-  a_null_if : (a b : Expression) (word opening comma closing : Lexeme) (ts us rest : List Lexeme) → IsTrue (is_word (codes "NULLIF") word) → IsTrue (is_symbol (codes "(") opening)
-      → Inner (expression a) ts (comma ∷ us) → IsTrue (is_symbol (codes ",") comma) → Inner (expression b) us (closing ∷ rest) → IsTrue (is_symbol (codes ")") closing) → IsPrimary Inner (null_if a b) (word ∷ opening ∷ ts) rest
+  a_call : (f : Function) (e : Expression) (es : List Expression) (word opening closing : Lexeme) (ts us rest : List Lexeme) → function_of word ≡ Some f → IsTrue (is_symbol (codes "(") opening)
+      → Inner (expression e) ts us → AreFurther (IsExpressionOf Inner) es us (closing ∷ rest) → IsTrue (is_symbol (codes ")") closing) → IsTrue (takes f (length es)) → IsPrimary Inner (call f (arguments e es)) (word ∷ opening ∷ ts) rest
   an_extract : (field : Field) (e : Expression) (word opening name from closing : Lexeme) (ts rest : List Lexeme) → IsTrue (is_word (codes "EXTRACT") word) → IsTrue (is_symbol (codes "(") opening) → field_of name ≡ Some field
       → IsTrue (is_word (codes "FROM") from) → Inner (expression e) ts (closing ∷ rest) → IsTrue (is_symbol (codes ")") closing) → IsPrimary Inner (extract field e) (word ∷ opening ∷ name ∷ from ∷ ts) rest
   a_row_count : (word opening star closing : Lexeme) (rest : List Lexeme) → IsTrue (is_word (codes "COUNT") word) → IsTrue (is_symbol (codes "(") opening) → IsTrue (is_symbol (codes "*") star)
@@ -283,12 +300,12 @@ pub data IsPredicate (Inner : Clause → List Lexeme → List Lexeme → Type 0)
       → IsTrue (is_symbol (codes "(") opening) → Inner (expression e) vs ws → AreFurther (IsExpressionOf Inner) es ws (closing ∷ rest) → IsTrue (is_symbol (codes ")") closing) → IsPredicate Inner (among negated x (arguments e es)) ts rest
   a_like : (x : Expression) (negated : Bool) (word t : Lexeme) (ts us rest : List Lexeme) → IsValueExpression Inner x ts us → IsOptionalNot negated us (word ∷ t ∷ rest) → IsTrue (is_word (codes "LIKE") word) → IsTrue (is_string t)
       → IsPredicate Inner (comparison (likeness negated) x (text t.octets)) ts rest
-  a_null_test : (x : Expression) (negated : Bool) (word null_word : Lexeme) (ts us rest : List Lexeme) → IsValueExpression Inner x ts (word ∷ us) → IsTrue (is_word (codes "IS") word) → IsOptionalNot negated us (null_word ∷ rest)
-      → IsTrue (is_word (codes "NULL") null_word) → IsPredicate Inner (is_null negated x) ts rest
+  a_value_test : (x : Expression) (p : Predicate) (negated : Bool) (word t : Lexeme) (ts us rest : List Lexeme) → IsValueExpression Inner x ts (word ∷ us) → IsTrue (is_word (codes "IS") word) → IsOptionalNot negated us (t ∷ rest)
+      → predicate_of t ≡ Some p → IsPredicate Inner (predicate p negated x) ts rest
 
 -- a boolean primary (8.12): a predicate, or a condition in brackets
 pub data IsBooleanPrimary (Inner : Clause → List Lexeme → List Lexeme → Type 0) : Condition → List Lexeme → List Lexeme → Type 0 where
-  predicate : (c : Condition) (ts rest : List Lexeme) → IsPredicate Inner c ts rest → IsBooleanPrimary Inner c ts rest
+  a_predicate : (c : Condition) (ts rest : List Lexeme) → IsPredicate Inner c ts rest → IsBooleanPrimary Inner c ts rest
   condition_brackets : (c : Condition) (opening closing : Lexeme) (ts rest : List Lexeme) → IsTrue (is_symbol (codes "(") opening) → Inner (condition c) ts (closing ∷ rest) → IsTrue (is_symbol (codes ")") closing) → IsBooleanPrimary Inner (bracketed c) (opening ∷ ts) rest
 
 -- a boolean test (8.12)

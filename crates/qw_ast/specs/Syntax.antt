@@ -3,6 +3,8 @@ use Rattle.std.specs.Prelude.{ℕ, Bool, List, Option}
 use Rattle.qw_types.specs.declared.truth.Truth.{Truth}
 use Rattle.qw_scalar.specs.declared.expression.Operator.{Operator}
 use Rattle.qw_scalar.specs.declared.expression.Field.{Field}
+use Rattle.qw_scalar.specs.declared.expression.Function.{Function}
+use Rattle.qw_scalar.specs.declared.expression.Predicate.{Predicate}
 use Rattle.qw_scalar.specs.declared.comparison.Comparison.{Comparison}
 use Rattle.qw_ast.specs.declared.script.Sign.{Sign}
 use Rattle.qw_ast.specs.declared.script.SetFunction.{SetFunction}
@@ -31,8 +33,8 @@ mutual
     -- CASE, in front of its branches an operand or none (6.9)
     searched_case : Branching → Expression
     simple_case : Expression → Branching → Expression
-    coalesce : Expressions → Expression
-    null_if : Expression → Expression → Expression
+    -- a function of arguments (6.9)
+    call : Function → Expressions → Expression
     -- COUNT(*), and its place: how many tokens stand behind it, which tells it from every other of the query (6.5)
     count_rows : ℕ → Expression
     -- a set function of an argument, and its place (6.5)
@@ -44,7 +46,8 @@ mutual
     comparison : Comparison → Expression → Expression → Condition
     between : Bool → Expression → Expression → Expression → Condition
     among : Bool → Expression → Expressions → Condition
-    is_null : Bool → Expression → Condition
+    -- a predicate of one value, as IS NULL (8.6)
+    predicate : Predicate → Bool → Expression → Condition
     both : Condition → Condition → Condition
     either : Condition → Condition → Condition
     negation_of : Condition → Condition

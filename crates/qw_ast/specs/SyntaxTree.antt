@@ -19,9 +19,9 @@ use Rattle.qw_ast.specs.declared.script.SortSpecification as coded_sort
 use Rattle.qw_ast.specs.declared.script.SelectList.{SelectList}
 use Rattle.qw_ast.specs.declared.script.SelectList.TheVariants.{All, Items}
 use Rattle.qw_ast.specs.declared.script.Statement.{Statement}
-use Rattle.qw_ast.specs.declared.script.Expr.TheVariants.{Null, Number, Text, Date, Column, Signed', Arithmetic', Extract', Case', Match', Coalesce', NullIf', CountRows, SetFunction'}
-use Rattle.qw_ast.specs.declared.script.Cond.TheVariants.{Compare', Between', In', IsNull', And', Or', Not', Is', Bracketed'}
-use Rattle.qw_ast.specs.Syntax.{Days, Expression, null, number, text, date, column, signed, arithmetic, extract, searched_case, simple_case, coalesce, null_if, count_rows, set_function, Condition, comparison, between, among, is_null, both, either, negation_of, is, bracketed, Clause, condition, expression, Expressions, last, further, Branching, otherwise, when, SelectItem, Selected, all_columns, items, Entry, Joined, Source, Reference, Key, ordinal, result_column, SortSpecification, Select}
+use Rattle.qw_ast.specs.declared.script.Expr.TheVariants.{Null, Number, Text, Date, Column, Signed', Arithmetic', Extract', Case', Match', Call', CountRows, SetFunction'}
+use Rattle.qw_ast.specs.declared.script.Cond.TheVariants.{Compare', Between', In', Predicate', And', Or', Not', Is', Bracketed'}
+use Rattle.qw_ast.specs.Syntax.{Days, Expression, null, number, text, date, column, signed, arithmetic, extract, searched_case, simple_case, call, count_rows, set_function, Condition, comparison, between, among, predicate, both, either, negation_of, is, bracketed, Clause, condition, expression, Expressions, last, further, Branching, otherwise, when, SelectItem, Selected, all_columns, items, Entry, Joined, Source, Reference, Key, ordinal, result_column, SortSpecification, Select}
 
 -- octets that may be there
 abbrev pub octets_of : Option (Bor (List ℕ)) → Option (List ℕ)
@@ -42,8 +42,7 @@ abbrev mutual
   expression_of (Extract' field _ a) = extract field (expression_of a)
   expression_of (Case' _ branches) = searched_case (branching_of branches)
   expression_of (Match' _ x _ branches) = simple_case (expression_of x) (branching_of branches)
-  expression_of (Coalesce' _ arguments) = coalesce (expressions_of arguments)
-  expression_of (NullIf' _ a _ b) = null_if (expression_of a) (expression_of b)
+  expression_of (Call' function _ arguments) = call function (expressions_of arguments)
   expression_of (CountRows place) = count_rows place
   expression_of (SetFunction' place f _ a) = set_function place f (expression_of a)
 
@@ -51,7 +50,7 @@ abbrev mutual
   condition_of (Compare' op _ a _ b) = comparison op (expression_of a) (expression_of b)
   condition_of (Between' negated _ x _ a _ b) = between negated (expression_of x) (expression_of a) (expression_of b)
   condition_of (In' negated _ x _ values) = among negated (expression_of x) (expressions_of values)
-  condition_of (IsNull' negated _ a) = is_null negated (expression_of a)
+  condition_of (Predicate' p negated _ a) = predicate p negated (expression_of a)
   condition_of (And' _ c _ d) = both (condition_of c) (condition_of d)
   condition_of (Or' _ c _ d) = either (condition_of c) (condition_of d)
   condition_of (Not' _ c) = negation_of (condition_of c)

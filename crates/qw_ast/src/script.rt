@@ -5,7 +5,7 @@ ghost use Rattle.qw_ast.specs.Limits.{AreQueries};
 ghost use Rattle.qw_ast.specs.SyntaxTree.{selects_of};
 
 use qw_scalar::comparison::Comparison;
-use qw_scalar::expression::{Field, Operator};
+use qw_scalar::expression::{Field, Function, Operator, Predicate};
 use qw_types::Truth;
 use std::marker::Model;
 
@@ -57,10 +57,8 @@ pub enum Expr<'a> {
     Case(Box<Branches<'a>>),
     /// `CASE operand branches END` (6.9 "simple case"); each WHEN has an expression.
     Match(Box<Expr<'a>>, Box<Branches<'a>>),
-    /// `COALESCE(arguments)`, of two arguments or more (6.9).
-    Coalesce(Box<Exprs<'a>>),
-    /// `NULLIF(left, right)` (6.9).
-    NullIf(Box<Expr<'a>>, Box<Expr<'a>>),
+    /// `function(arguments)`, of as many arguments as the function takes (6.9).
+    Call(Function, Box<Exprs<'a>>),
     /// `COUNT(*)` (6.5).
     CountRows(usize),
     /// `function([ALL] argument)` (6.5).
@@ -76,8 +74,8 @@ pub enum Cond<'a> {
     Between(bool, Box<Expr<'a>>, Box<Expr<'a>>, Box<Expr<'a>>),
     /// `operand [NOT] IN (values)` (8.4).
     In(bool, Box<Expr<'a>>, Box<Exprs<'a>>),
-    /// `operand IS [NOT] NULL` (8.6).
-    IsNull(bool, Box<Expr<'a>>),
+    /// `operand IS [NOT] predicate`, as `operand IS NULL` (8.6).
+    Predicate(Predicate, bool, Box<Expr<'a>>),
     /// `left AND right`.
     And(Box<Cond<'a>>, Box<Cond<'a>>),
     /// `left OR right`.
@@ -250,8 +248,7 @@ impl<'a> Drop for Expr<'a> {
                 Expr::Extract(_, _date) => return,
                 Expr::Case(_branches) => return,
                 Expr::Match(_operand, _branches) => return,
-                Expr::Coalesce(_arguments) => return,
-                Expr::NullIf(_left, _right) => return,
+                Expr::Call(_, _arguments) => return,
                 Expr::SetFunction(_, _, _argument) => return,
             }
         }
@@ -266,7 +263,7 @@ impl<'a> Drop for Cond<'a> {
                 Cond::Compare(_, _left, _right) => return,
                 Cond::Between(_, _operand, _least, _greatest) => return,
                 Cond::In(_, _operand, _values) => return,
-                Cond::IsNull(_, _operand) => return,
+                Cond::Predicate(_, _, _operand) => return,
                 Cond::And(left, _right) => self = Box::into_inner(left),
                 Cond::Or(left, _right) => self = Box::into_inner(left),
                 Cond::Not(_operand) => return,

@@ -8,8 +8,8 @@ use Rattle.qw_scalar.specs.declared.expression.Cond.{Cond}
 use Rattle.qw_scalar.specs.declared.expression.Exprs.{Exprs}
 use Rattle.qw_scalar.specs.declared.expression.Branches.{Branches}
 use Rattle.qw_scalar.specs.declared.expression.Matches.{Matches}
-use Rattle.qw_scalar.specs.declared.expression.Expr.TheVariants.{Null, Number, Date, Text, Column, Arithmetic', Negative', Extract', Case', Match', Coalesce', NullIf'}
-use Rattle.qw_scalar.specs.declared.expression.Cond.TheVariants.{Compare', Between', In', IsNull', And', Or', Not', Is'}
+use Rattle.qw_scalar.specs.declared.expression.Expr.TheVariants.{Null, Number, Date, Text, Column, Arithmetic', Negative', Extract', Case', Match', Call'}
+use Rattle.qw_scalar.specs.declared.expression.Cond.TheVariants.{Compare', Between', In', Predicate', And', Or', Not', Is'}
 use Rattle.qw_scalar.specs.declared.expression.Exprs.TheVariants as Exprs
 use Rattle.qw_scalar.specs.declared.expression.Branches.TheVariants as Branches
 use Rattle.qw_scalar.specs.declared.expression.Matches.TheVariants as Matches
@@ -44,8 +44,7 @@ mutual
   texts_there (Extract' field _ a) = texts_there a
   texts_there (Case' _ branches) = branches_there branches
   texts_there (Match' _ x _ matches) = texts_of_both (leaves_in x) (leaves_of_matches matches) (texts_in x) (texts_of_matches matches) (texts_there x) (matches_there matches)
-  texts_there (Coalesce' _ arguments) = all_there arguments
-  texts_there (NullIf' _ a _ b) = texts_of_both (leaves_in a) (leaves_in b) (texts_in a) (texts_in b) (texts_there a) (texts_there b)
+  texts_there (Call' function _ arguments) = all_there arguments
 
   pub texts_at : (c : Cond) → texts_among (leaves_within c) ≡ texts_of_condition c
   texts_at (Compare' op _ a _ b) = texts_of_both (leaves_in a) (leaves_in b) (texts_in a) (texts_in b) (texts_there a) (texts_there b)
@@ -53,7 +52,7 @@ mutual
       texts_of_both (leaves_in x) (leaves_in a ++ leaves_in b) (texts_in x) (texts_in a ++ texts_in b) (texts_there x)
       (texts_of_both (leaves_in a) (leaves_in b) (texts_in a) (texts_in b) (texts_there a) (texts_there b))
   texts_at (In' _ x _ values) = texts_of_both (leaves_in x) (leaves_of_all values) (texts_in x) (texts_of_all values) (texts_there x) (all_there values)
-  texts_at (IsNull' _ a) = texts_there a
+  texts_at (Predicate' p _ a) = texts_there a
   texts_at (And' _ c _ d) = texts_of_both (leaves_within c) (leaves_within d) (texts_of_condition c) (texts_of_condition d) (texts_at c) (texts_at d)
   texts_at (Or' _ c _ d) = texts_of_both (leaves_within c) (leaves_within d) (texts_of_condition c) (texts_of_condition d) (texts_at c) (texts_at d)
   texts_at (Not' _ c) = texts_at c

@@ -7,7 +7,7 @@ use Rattle.qw_scalar.specs.declared.expression.Matches.{Matches}
 use Rattle.qw_scalar.specs.declared.expression.Matches.TheVariants as Matches
 use Rattle.qw_scalar.specs.Columns.{HasColumns, HaveColumns, HoldsIn}
 use Rattle.qw_scalar.specs.Evaluation.{Environment, truth_of, value_of}
-use Rattle.qw_scalar.specs.Expression.{Expression, Condition, Expressions, last, more, Choices, otherwise, when, scale_of, among, between, case, cases, largest_result, choice, comparison, is_null, negation_of, null_if}
+use Rattle.qw_scalar.specs.Expression.{Expression, Condition, Expressions, last, more, Choices, otherwise, when, scale_of, among, between, case, cases, largest_result, choice, comparison, is_there, unless_among}
 use Rattle.qw_scalar.specs.Tree.{matches_of}
 use Rattle.qw_scalar.specs.Typing.{AreTyped, IsTyped}
 use Rattle.qw_expr.specs.Bindings.{TakeKnown, TakesKnown}
@@ -35,14 +35,15 @@ pub among_first : (x : Expression) (values : Expressions) → First x (among x v
 among_first x (last v) = record { raises = λ env code h. rw h refl; weighs = λ env. omega arith; columns = λ row h. h.0 }
 among_first x (more v vs) = record { raises = λ env code h. rw h refl; weighs = λ env. omega arith; columns = λ row h. h.0.0 }
 
-pub null_if_before : (x b : Expression) → Before x (null_if x b)
-null_if_before x b = record { raises = λ env code h. rw h refl; weighs = λ env. omega arith; columns = λ row h. h.0.0 }
+pub among_before : (x : Expression) (others : Expressions) → Before x (unless_among (more x others))
+among_before x (last v) = record { raises = λ env code h. rw h refl; weighs = λ env. omega arith; columns = λ row h. h.0.0 }
+among_before x (more v vs) = record { raises = λ env code h. rw h refl; weighs = λ env. omega arith; columns = λ row h. h.0.0.0 }
 
 pub matched_before : (s : ℕ) (matches : Matches) (x : Expression) → Before x (cases s (matches_of matches x))
 matched_before s (Matches.Last' _ v _ e _ other) x = record { raises = λ env code h. rw h refl; weighs = λ env. omega arith; columns = λ row h. h.0.0 }
 matched_before s (Matches.When' _ v _ e _ rest) x = record { raises = λ env code h. rw h refl; weighs = λ env. omega arith; columns = λ row h. h.0.0 }
 
-pub coalesced_before : (x a b : Expression) → Before x (choice (negation_of (is_null x)) a b)
+pub coalesced_before : (x a b : Expression) → Before x (choice (is_there x) a b)
 coalesced_before x a b = record { raises = λ env code h. rw h refl; weighs = λ env. omega arith; columns = λ row h. h.0 }
 
 -- the scale of a CASE is that of its results

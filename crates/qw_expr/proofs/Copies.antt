@@ -174,9 +174,9 @@ module _ (most fuel N : ℕ) (some : 1 ≤ N) where
   null_copied : (x y w m : ℕ) (t : LowState) (from : Cell) (v : Val) (null : Option ℕ) → v ≡ val.Null → HoldsValue from v t → IsBelow (length t.locals) from → m ≤ w → x < w → y < w → w < length t.locals →
       (null ≡ Some w) ⊎ ((null ≡ None) × (from.null ≡ None)) →
       Comes most fuel N (λ a z. Kept m t z × HoldsValue (record { value = x; length = y; null = null }) a z) (Ok v) (seq skip (assign w (unknown_word from.null))) t
-  null_copied x y w m t from v null is_null holds low le low_x low_y room nulls =
+  null_copied x y w m t from v null is_val holds low le low_x low_y room nulls =
       at_state (λ a z. Kept m t z × HoldsValue (record { value = x; length = y; null = null }) a z) (Ok v) skip (assign w (unknown_word from.null)) t t (comes_skip most fuel N some {A = ℕ} (λ n u. u ≡ t) 0 t refl)
-      (word_last m t from v holds low x y w null nulls t (Kept-same m t) le low_x low_y room (subst (λ (a : Val). HoldsPart x y a t) (sym is_null) tt) (λ z is. refl))
+      (word_last m t from v holds low x y w null nulls t (Kept-same m t) le low_x low_y room (subst (λ (a : Val). HoldsPart x y a t) (sym is_val) tt) (λ z is. refl))
 
   -- a text
   text_copied : (m : ℕ) (t : LowState) (from : Cell) (v : Val) (null : Option ℕ) → IsValueOf (Some kind.Text) v → HoldsValue from v t → IsBelow (length t.locals) from → m + 2 < length t.locals →

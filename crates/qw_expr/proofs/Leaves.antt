@@ -5,7 +5,7 @@ use Rattle.std.specs.List.{AllByRecursion}
 use Rattle.qw_types.specs.declared.value.Val.{Val}
 use Rattle.qw_types.specs.declared.value.Val.TheVariants as val
 use Rattle.qw_scalar.specs.Evaluation.{value_of, at_row}
-use Rattle.qw_scalar.specs.Expression.{Expression, Condition, null, number, date, text, column, arithmetic, negative, extract, brought, choice, comparison, is_null, both, either, negation_of, scale_of}
+use Rattle.qw_scalar.specs.Expression.{Expression, Condition, null, number, date, text, column, arithmetic, negative, extract, brought, choice, comparison, predicate, both, either, negation_of, scale_of}
 use Rattle.qw_scalar.specs.Expression as scalar
 use Rattle.qw_scalar.specs.Typing.{kind_of}
 use Rattle.qw_module.specs.declared.instruction.ValType.{ValType}
@@ -67,7 +67,7 @@ mutual
 
   pub take_more : (known more : List Known) (c : Condition) → Includes more known → TakeKnown known c → TakeKnown more c
   take_more known more (comparison op a b) all takes = (takes_more known more a all takes.0, takes_more known more b all takes.1)
-  take_more known more (is_null a) all takes = takes_more known more a all takes
+  take_more known more (predicate p a) all takes = takes_more known more a all takes
   take_more known more (both c d) all takes = (take_more known more c all takes.0, take_more known more d all takes.1)
   take_more known more (either c d) all takes = (take_more known more c all takes.0, take_more known more d all takes.1)
   take_more known more (negation_of c) all takes = take_more known more c all takes

@@ -6,8 +6,10 @@ use Rattle.qw_types.specs.declared.truth.Truth.{Truth}
 use Rattle.qw_types.specs.declared.truth.Truth.TheVariants.{True, False, Unknown}
 use Rattle.qw_types.specs.declared.value.Val.{Val}
 use Rattle.qw_types.specs.declared.value.Val.TheVariants as val
+use Rattle.qw_scalar.specs.declared.expression.Predicate.{Predicate}
+use Rattle.qw_scalar.specs.declared.expression.Predicate.TheVariants.{IsNull}
 use Rattle.qw_scalar.specs.Evaluation.{same_truth, tested_null, truth_if, truth_of, value_of, at_row}
-use Rattle.qw_scalar.specs.Expression.{Expression, Condition, is_null, is}
+use Rattle.qw_scalar.specs.Expression.{Expression, Condition, predicate, is}
 use Rattle.qw_map.proofs.TurnFacts.{slice_get-set_same}
 use Rattle.qw_module.specs.declared.instruction.ValType.{ValType}
 use Rattle.qw_module.specs.declared.instruction.ValType.TheVariants.{I32}
@@ -54,7 +56,7 @@ never o (val.Date d) u none holds = refl
 never o (val.Text t) u none holds = refl
 
 module _ (known : List Known) (next : ℕ) (a : Expression) (o : Operand) (sa : Statement) (owna : List ValType) (ca : Computes known a next o sa owna) where
-  pub word_decides : (n : ℕ) → o.cell.null ≡ Some n → Decides known (is_null a) next (sure n) sa owna
+  pub word_decides : (n : ℕ) → o.cell.null ≡ Some n → Decides known (predicate IsNull a) next (sure n) sa owna
   word_decides n there = record {
     below =
         let low : n < next + length owna = subst (IsBelowNull (next + length owna)) there ca.below.2 in
@@ -70,7 +72,7 @@ module _ (known : List Known) (next : ℕ) (a : Expression) (o : Operand) (sa : 
   abbrev m : ℕ
   m = next + length owna
 
-  pub never_decides : o.cell.null ≡ None → Decides known (is_null a) next (sure m) (seq sa (assign m (i32 0))) (owna ++ I32 ∷ [])
+  pub never_decides : o.cell.null ≡ None → Decides known (predicate IsNull a) next (sure m) (seq sa (assign m (i32 0))) (owna ++ I32 ∷ [])
   never_decides none = record {
     below =
         let long = one_long owna I32 in
@@ -90,7 +92,11 @@ module _ (known : List Known) (next : ℕ) (a : Expression) (o : Operand) (sa : 
         ((first.0, (I32, free, (omega arith, refl))), (free, tt));
   }
 
-pub word_emits : (known : List Known) (a : Expression) (start now : Emitter) (o : Operand) (n : ℕ) → o.cell.null ≡ Some n → Emits known a start now o → EmitsTruth known (is_null a) start now (sure n)
+-- there is no other predicate
+pub null_alone : (p : Predicate) → IsNull ≡ p
+null_alone IsNull = refl
+
+pub word_emits : (known : List Known) (a : Expression) (start now : Emitter) (o : Operand) (n : ℕ) → o.cell.null ≡ Some n → Emits known a start now o → EmitsTruth known (predicate IsNull a) start now (sure n)
 word_emits known a start now o n there ea = record {
   first_is = ea.first_is;
   statement = ea.statement;
@@ -100,7 +106,7 @@ word_emits known a start now o n there ea = record {
   decides = word_decides known (free_of start) a o ea.statement ea.own ea.computes n there;
 }
 
-pub never_emits : (known : List Known) (a : Expression) (start old new : Emitter) (o : Operand) (t : ℕ) → o.cell.null ≡ None → Emits known a start old o → AddsTest (i32 0) old new t → EmitsTruth known (is_null a) start new (sure t)
+pub never_emits : (known : List Known) (a : Expression) (start old new : Emitter) (o : Operand) (t : ℕ) → o.cell.null ≡ None → Emits known a start old o → AddsTest (i32 0) old new t → EmitsTruth known (predicate IsNull a) start new (sure t)
 never_emits known a start old new o t none ea adds =
     let m : ℕ = free_of start + length ea.own in
     let place : t ≡ m = adds.local_is ∙ free_after known a start old o ea in
@@ -111,7 +117,7 @@ never_emits known a start old new o t none ea adds =
       code_is = two start.block.code.items old.block.code.items new.block.code.items (steps_of ea.statement) (steps_of (assign m (i32 0))) ea.code_is
           (subst (λ k. new.block.code.items ≡ old.block.code.items ++ steps_of (assign k (i32 0))) place adds.code_is);
       own_is = two start.own.items old.own.items new.own.items ea.own (I32 ∷ []) ea.own_is adds.own_is;
-      decides = subst (λ k. Decides known (is_null a) (free_of start) (sure k) (seq ea.statement (assign m (i32 0))) (ea.own ++ I32 ∷ [])) (sym place) (never_decides known (free_of start) a o ea.statement ea.own ea.computes none);
+      decides = subst (λ k. Decides known (predicate IsNull a) (free_of start) (sure k) (seq ea.statement (assign m (i32 0))) (ea.own ++ I32 ∷ [])) (sym place) (never_decides known (free_of start) a o ea.statement ea.own ea.computes none);
     }
 
 -- ---- IS UNKNOWN

@@ -118,6 +118,6 @@ module _ (most fuel N : ℕ) (some : 1 ≤ N) where
 
   pub unless : {A : Type 0} (P : A → LowState → Type 0) (r : Result A Code) (null : Option ℕ) (g : Bool) (body : Statement) (s : LowState) → Says s null g →
       (g ≡ true → Comes most fuel N P r skip s) → (g ≡ false → Comes most fuel N P r body s) → Comes most fuel N P r (unless_null null body) s
-  unless P r None true body s says is_null is_value = absurd says
-  unless P r None false body s says is_null is_value = is_value refl
-  unless P r (Some n) g body s says is_null is_value = comes_choose most fuel N some P r (local n) g skip body s (says_word s n g says) is_null is_value
+  unless P r None true body s says where_null is_value = absurd says
+  unless P r None false body s says where_null is_value = is_value refl
+  unless P r (Some n) g body s says where_null is_value = comes_choose most fuel N some P r (local n) g skip body s (says_word s n g says) where_null is_value

@@ -1,6 +1,7 @@
 -- What the functions over trees make of choices.
 use Rattle.std.proofs.Common.{◌≡◌, ℕ, ◌+◌, ◌≤◌, Bool, List, length, length-append, ap, ◌∙◌, arith}
-use Rattle.qw_scalar.specs.Expression.{Expression, Condition, brought, choice, is_null, negation_of, null}
+use Rattle.qw_scalar.specs.declared.expression.Predicate.{Predicate}
+use Rattle.qw_scalar.specs.Expression.{Expression, Condition, brought, choice, is_there, negation_of, null, predicate}
 use Rattle.qw_scalar.specs.Typing.{IsTyped}
 use Rattle.qw_low.specs.declared.cell.Cell.{Cell}
 use Rattle.qw_expr.specs.declared.choice.Place.{Place}
@@ -76,12 +77,12 @@ choice_made known c a b text old mid cur new to first second out typed served st
     (λ more include low. goes more low (starts.starts more include low) (mb.emits more include (known_below_more (free_of old) (free_of mid) more starts.grows low)))
 
 -- ---- a known value, and what stands in for null
-pub coalesced_made : (known : List Known) (e b : Expression) (to : ℕ) (text : Bool) (old valued mid cur new : Emitter) (x : Operand) (begun : Started) (second out : Operand) → IsTyped (choice (negation_of (is_null e)) (brought e to) b) → IsServed (free_of old) known →
+pub coalesced_made : (known : List Known) (e b : Expression) (to : ℕ) (text : Bool) (old valued mid cur new : Emitter) (x : Operand) (begun : Started) (second out : Operand) → IsTyped (choice (is_there e) (brought e to) b) → IsServed (free_of old) known →
     Made known e old valued x → StartsUnlessNull known e x to text valued mid begun → Made known b mid cur second →
-    ((more : List Known) → AreBelow (free_of valued) more → HasFirst more (negation_of (is_null e)) (brought e to) text valued mid begun.place begun.first → Emits more b mid cur second → Emits more (choice (negation_of (is_null e)) (brought e to) b) valued new out) →
-    Made known (choice (negation_of (is_null e)) (brought e to) b) old new out
+    ((more : List Known) → AreBelow (free_of valued) more → HasFirst more (is_there e) (brought e to) text valued mid begun.place begun.first → Emits more b mid cur second → Emits more (choice (is_there e) (brought e to) b) valued new out) →
+    Made known (choice (is_there e) (brought e to) b) old new out
 coalesced_made known e b to text old valued mid cur new x begun second out typed served mx starts mb goes =
-    let whole : Expression = choice (negation_of (is_null e)) (brought e to) b in
+    let whole : Expression = choice (is_there e) (brought e to) b in
     let before = coalesced_before e (brought e to) b in
     shared_made known e whole old valued new x out typed served mx
     (made_of (with_operand e x known) whole valued new out typed (with_served known e old valued x mx)
@@ -99,9 +100,9 @@ null_where_made known c e x out old tested new test typed served mc goes =
 
 -- a choice begins with a known value where it isn't null
 pub unless_null_made : (known : List Known) (e : Expression) (x first : Operand) (to : ℕ) (text : Bool) (old begun cur new : Emitter) (test : Cell) (place : Place) → IsServed (free_of old) (with_operand e x known) → (tested : Emitter) →
-    MadeTruth (with_operand e x known) (negation_of (is_null e)) old tested test → BeginsChoice test.value text tested begun place →
+    MadeTruth (with_operand e x known) (is_there e) old tested test → BeginsChoice test.value text tested begun place →
     ((more : List Known) → AreBelow (free_of begun) more → Emits more e begun begun x → Emits more (brought e to) begun cur first) → free_of new ≡ free_of cur →
-    ((more : List Known) → EmitsTruth more (negation_of (is_null e)) old tested test → Emits more (brought e to) begun cur first → HasFirst more (negation_of (is_null e)) (brought e to) text old new place first) →
+    ((more : List Known) → EmitsTruth more (is_there e) old tested test → Emits more (brought e to) begun cur first → HasFirst more (is_there e) (brought e to) text old new place first) →
     StartsUnlessNull known e x to text old new (record { place = place; first = first })
 unless_null_made known e x first to text old begun cur new test place served tested mc begins brings same goes =
     let with = with_operand e x known in
@@ -115,7 +116,8 @@ unless_null_made known e x first to text old begun cur new test place served tes
       served = served_more (free_of old) (free_of new) with (omega (arith, far, end, same)) served;
     }
 
-pub null_tested : (known : List Known) (e : Expression) (x : Operand) (old mid new : Emitter) (one t : Cell) → IsServed (free_of old) (with_operand e x known) → ((more : List Known) (a : Expression) (start : Emitter) → Emits more a start old x → EmitsTruth more (is_null a) start mid one) →
-    ((more : List Known) (c : Condition) (start : Emitter) → EmitsTruth more c start mid one → EmitsTruth more (negation_of c) start new t) → MadeTruth (with_operand e x known) (negation_of (is_null e)) old new t
-null_tested known e x old mid new one t served nulls turns =
-    truth_made_of (with_operand e x known) (negation_of (is_null e)) old new t served (λ more include low. turns more (is_null e) old (nulls more e old (operand_emits known more e x old served include low)))
+-- a predicate of a known value that doesn't hold
+pub denied_made : (known : List Known) (p : Predicate) (e : Expression) (x : Operand) (old mid new : Emitter) (one t : Cell) → IsServed (free_of old) (with_operand e x known) → ((more : List Known) (a : Expression) (start : Emitter) → Emits more a start old x → EmitsTruth more (predicate p a) start mid one) →
+    ((more : List Known) (c : Condition) (start : Emitter) → EmitsTruth more c start mid one → EmitsTruth more (negation_of c) start new t) → MadeTruth (with_operand e x known) (negation_of (predicate p e)) old new t
+denied_made known p e x old mid new one t served tests turns =
+    truth_made_of (with_operand e x known) (negation_of (predicate p e)) old new t served (λ more include low. turns more (predicate p e) old (tests more e old (operand_emits known more e x old served include low)))

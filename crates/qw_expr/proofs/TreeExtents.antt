@@ -21,8 +21,8 @@ extract_extent a b c m p q = omega (arith, p, q)
 pub brought_extent : (a b c m : ℕ) → b ≤ a + 400 * m → c ≤ b + 85 → c ≤ a + 400 * (1 + m)
 brought_extent a b c m p q = omega (arith, p, q)
 
-pub is_null_extent : (a b c m : ℕ) → b ≤ a + 400 * m → c ≤ b + 3 → c ≤ a + 400 * (1 + m)
-is_null_extent a b c m p q = omega (arith, p, q)
+pub predicate_extent : (a b c m : ℕ) → b ≤ a + 400 * m → c ≤ b + 3 → c ≤ a + 400 * (1 + m)
+predicate_extent a b c m p q = omega (arith, p, q)
 
 pub turned_extent : (a b c m : ℕ) → b ≤ a + 400 * m → c ≤ b + 6 → c ≤ a + 400 * (1 + m)
 turned_extent a b c m p q = omega (arith, p, q)
@@ -34,8 +34,8 @@ last_extent a b m p = omega (arith, p)
 pub arithmetic_extent : (a b c d m n : ℕ) → b ≤ a + 400 * m → c ≤ b + 400 * n → d ≤ c + 75 → d ≤ a + 400 * (1 + m + n)
 arithmetic_extent a b c d m n p q r = omega (arith, p, q, r)
 
-pub null_if_extent : (a b c d m n : ℕ) → b ≤ a + 400 * m → c ≤ b + (400 * n + 130) → d ≤ c + 25 → d ≤ a + 400 * (1 + m + n)
-null_if_extent a b c d m n p q r = omega (arith, p, q, r)
+pub chosen_extent : (a b c d m n : ℕ) → b ≤ a + 400 * m → c ≤ b + 400 * n → d ≤ c + 25 → d ≤ a + 400 * (1 + m + n)
+chosen_extent a b c d m n p q r = omega (arith, p, q, r)
 
 pub compared_extent : (a b c m n k : ℕ) → k ≤ 200 → b ≤ a + 400 * m → c ≤ b + (400 * n + k) → c ≤ a + 400 * (1 + m + n)
 compared_extent a b c m n k few p q = omega (arith, few, p, q)

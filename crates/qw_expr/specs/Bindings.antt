@@ -1,7 +1,7 @@
 -- What is known of columns and literals that are in locals, and which expressions take no others.
 use Rattle.std.specs.Prelude.{◌≡◌, ◌⊎◌, ℕ, List, [], ◌∷◌}
 use Rattle.std.specs.List.{AllByRecursion}
-use Rattle.qw_scalar.specs.Expression.{Expression, Condition, null, number, date, text, column, arithmetic, negative, extract, brought, choice, comparison, is_null, both, either, negation_of, is, scale_of}
+use Rattle.qw_scalar.specs.Expression.{Expression, Condition, null, number, date, text, column, arithmetic, negative, extract, brought, choice, comparison, predicate, both, either, negation_of, is, scale_of}
 use Rattle.qw_scalar.specs.Typing.{kind_of}
 use Rattle.qw_expr.specs.declared.known.Leaf.{Leaf}
 use Rattle.qw_expr.specs.declared.known.Leaf.TheVariants as leaf
@@ -43,7 +43,7 @@ abbrev mutual
 
   pub TakeKnown : List Known → Condition → Type 0
   TakeKnown known (comparison op a b) = TakesKnown known a × TakesKnown known b
-  TakeKnown known (is_null a) = TakesKnown known a
+  TakeKnown known (predicate p a) = TakesKnown known a
   TakeKnown known (both c d) = TakeKnown known c × TakeKnown known d
   TakeKnown known (either c d) = TakeKnown known c × TakeKnown known d
   TakeKnown known (negation_of c) = TakeKnown known c

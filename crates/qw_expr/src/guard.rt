@@ -67,8 +67,7 @@ fn leaf_of(expr: &Expr, known: &[Binding]) -> Option<Binding>
         | Expr::Extract(_, _)
         | Expr::Case(_)
         | Expr::Match(_, _)
-        | Expr::Coalesce(_)
-        | Expr::NullIf(_, _) => None,
+        | Expr::Call(_, _) => None,
     }
 }
 
@@ -161,8 +160,7 @@ impl Sure {
             | Expr::Extract(_, _)
             | Expr::Case(_)
             | Expr::Match(_, _)
-            | Expr::Coalesce(_)
-            | Expr::NullIf(_, _) => Ok(None),
+            | Expr::Call(_, _) => Ok(None),
         }
     }
 
@@ -318,7 +316,7 @@ impl Sure {
             }
             Cond::Not(operand) => self.gather_condition(operand, known),
             Cond::In(operand, values) => self.gather_in(operand, values, known),
-            Cond::IsNull(_) | Cond::And(_, _) | Cond::Or(_, _) | Cond::Is(_, _) => Ok(false),
+            Cond::Predicate(_, _) | Cond::And(_, _) | Cond::Or(_, _) | Cond::Is(_, _) => Ok(false),
         }
     }
 }

@@ -39,8 +39,7 @@ fn leaf_of(expr: &Expr, known: &[Binding]) -> Option<Operand>
         | Expr::Extract(_, _)
         | Expr::Case(_)
         | Expr::Match(_, _)
-        | Expr::Coalesce(_)
-        | Expr::NullIf(_, _) => None,
+        | Expr::Call(_, _) => None,
     }
 }
 
@@ -158,6 +157,6 @@ pub(crate) fn plain(alloc: Global, cond: &Cond, known: &[Binding]) -> Result<Opt
             };
             Ok(Some(first.either(alloc, second)?))
         }
-        Cond::IsNull(_) | Cond::Is(_, _) => Ok(None),
+        Cond::Predicate(_, _) | Cond::Is(_, _) => Ok(None),
     }
 }

@@ -70,8 +70,7 @@ fn literal_of(operand: &Expr, x: Operand, value: &Expr, known: &[Binding]) -> Op
         | Expr::Extract(_, _)
         | Expr::Case(_)
         | Expr::Match(_, _)
-        | Expr::Coalesce(_)
-        | Expr::NullIf(_, _) => None,
+        | Expr::Call(_, _) => None,
     }
 }
 

@@ -275,7 +275,7 @@ pub(crate) fn test_of(
             Some(second) => test_of(alloc, emitter, left, known)?.either(alloc, second),
             None => emitter.test_truth(cond, known),
         },
-        Cond::IsNull(_) | Cond::Is(_, _) => emitter.test_truth(cond, known),
+        Cond::Predicate(_, _) | Cond::Is(_, _) => emitter.test_truth(cond, known),
     }
 }
 

@@ -3,7 +3,7 @@
 //! What an abbreviation names twice, as the operand of BETWEEN, IN, CASE and NULLIF, is evaluated once: its operand is handed on.
 
 ghost use Rattle.std.specs.Prelude.{◌≡◌, ◌≤◌, IfOk, IsTrue, ◌+◌, ◌*◌, length, OnOk};
-ghost use Rattle.qw_scalar.specs.Expression.{among, between, brought, cases, coalesced, comparison, scale_of};
+ghost use Rattle.qw_scalar.specs.Expression.{among, between, brought, cases, coalesced, comparison, scale_of, unless_among};
 ghost use Rattle.qw_scalar.specs.Nodes.{nodes, nodes_of, nodes_of_all, nodes_of_branches, nodes_of_matches};
 ghost use Rattle.qw_scalar.specs.Tree.{choices_of, condition_of, expression_of, expressions_of, matches_of};
 ghost use Rattle.qw_scalar.specs.Typing.{AreTyped, IsTyped, kind_of};
@@ -20,7 +20,7 @@ use crate::operand::Operand;
 use qw_low::cell::Cell;
 use qw_scalar::comparison::Comparison;
 use qw_scalar::evaluate::scale;
-use qw_scalar::expression::{Branches, Cond, Expr, Exprs, Matches};
+use qw_scalar::expression::{Branches, Cond, Expr, Exprs, Function, Matches, Predicate};
 use qw_scalar::kind::of_expression;
 use qw_types::{Kind, NoMemory};
 
@@ -64,12 +64,10 @@ fn expression(emitter: &mut Emitter, expr: &Expr, known: &[Binding]) -> Result<O
             let x = expression(emitter, operand, known)?;
             matched(emitter, matches, operand, x, Form::of(expr), known)
         }
-        Expr::Coalesce(arguments) => coalesce(emitter, arguments, Form::of(expr), known),
-        Expr::NullIf(left, right) => {
-            let x = expression(emitter, left, known)?;
-            let t = against(emitter, Comparison::Equal, right, left, x, known)?;
-            emitter.null_where(t, x, Form::of(expr).text)
-        }
+        Expr::Call(function, arguments) => match function {
+            Function::Coalesce => coalesce(emitter, arguments, Form::of(expr), known),
+            Function::NullIf => unless_among(emitter, arguments, Form::of(expr), known),
+        },
     }
 }
 
@@ -171,6 +169,34 @@ fn coalesce(
     }
 }
 
+/// Adds the first argument, and null where it equals one of the others.
+#[cycle(tree)]
+fn unless_among(
+    emitter: &mut Emitter,
+    arguments: &Exprs,
+    form: Form,
+    known: &[Binding],
+) -> Result<Operand, NoMemory>
+    requires typed { IsTyped (unless_among (expressions_of arguments.now)) }
+    requires known { TakesKnown (known_of known.now) (unless_among (expressions_of arguments.now)) }
+    requires served { IsServed (free_of emitter.old) (known_of known.now) }
+    requires suits { Suits form.text (kind_of (unless_among (expressions_of arguments.now))) }
+    ensures emits { IfOk result (λ out. Made (known_of known.now) (unless_among (expressions_of arguments.now)) emitter.old emitter.new out) }
+    ensures short { OnOk result (extent emitter.new ≤ extent emitter.old + 400 * nodes_of_all arguments.now) }
+{
+    match arguments {
+        Exprs::Last(argument) => {
+            let a = expression(emitter, argument, known)?;
+            emitter.brought(a, a.scale)
+        }
+        Exprs::More(argument, others) => {
+            let x = expression(emitter, argument, known)?;
+            let t = among(emitter, others, argument, x, known)?;
+            emitter.null_where(t, x, form.text)
+        }
+    }
+}
+
 /// Adds a condition.
 #[cycle(tree)]
 fn condition(emitter: &mut Emitter, cond: &Cond, known: &[Binding]) -> Result<Cell, NoMemory>
@@ -210,9 +236,9 @@ fn condition(emitter: &mut Emitter, cond: &Cond, known: &[Binding]) -> Result<Ce
             let x = expression(emitter, operand, known)?;
             among(emitter, values, operand, x, known)
         }
-        Cond::IsNull(operand) => {
+        Cond::Predicate(wanted, operand) => {
             let x = expression(emitter, operand, known)?;
-            emitter.is_null(x)
+            emitter.predicate(*wanted, x)
         }
         Cond::And(left, right) => {
             let t = condition(emitter, left, known)?;
@@ -296,7 +322,7 @@ fn unless_null(
     ensures emits { IfOk result (λ begun. StartsUnlessNull (known_of known.now) (expression_of operand.now) x form.scale form.text emitter.old emitter.new begun) }
     ensures short { OnOk result (extent emitter.new ≤ extent emitter.old + 110) }
 {
-    let null = emitter.is_null(x)?;
+    let null = emitter.predicate(Predicate::IsNull, x)?;
     let t = emitter.negation(null)?;
     let place = emitter.begin_choice(t, form.text)?;
     let first = emitter.brought(x, form.scale)?;

@@ -1,8 +1,8 @@
-//! Conditions of one operand (ISO/IEC 9075:1992, 8.12): NOT, IS TRUE, IS FALSE, IS UNKNOWN, and IS NULL (8.6).
+//! Conditions of one operand (ISO/IEC 9075:1992, 8.12): NOT, IS TRUE, IS FALSE, IS UNKNOWN, and predicates of one value.
 
 ghost use Rattle.std.specs.Prelude.{◌≡◌, ◌++◌, List, None, IfOk, OnOk, ◌≤◌, ◌+◌, length};
 ghost use Rattle.qw_types.specs.declared.truth.Truth.TheVariants.{True, False, Unknown};
-ghost use Rattle.qw_scalar.specs.Expression.{Expression, Condition, is_null, negation_of, is};
+ghost use Rattle.qw_scalar.specs.Expression.{Expression, Condition, predicate, negation_of, is};
 ghost use Rattle.qw_low.specs.Syntax.{assign};
 ghost use Rattle.qw_low.specs.Steps.{steps_of};
 ghost use Rattle.qw_expr.specs.declared.emitter.Emitter.{Emitter};
@@ -15,6 +15,7 @@ use crate::operand::Operand;
 use qw_low::cell::{Cell, Local};
 use qw_low::step::LowStep;
 use qw_module::instruction::{Binary, Const, Op, ValType};
+use qw_scalar::expression::Predicate;
 use qw_types::{NoMemory, Truth};
 
 /// The truth of a condition's being true, where the condition's own is: it has the same word, and is never unknown.
@@ -104,17 +105,19 @@ impl Emitter {
         Ok(t)
     }
 
-    /// Adds IS NULL of an expression that was emitted before (8.6): its null word, and 0 where it has none.
-    pub fn is_null(&mut self, operand: Operand) -> Result<Cell, NoMemory>
-        ensures emits { IfOk result (λ out. (known : List Known) (a : Expression) (start : Emitter) → Emits known a start self.old operand → EmitsTruth known (is_null a) start self.new out) }
+    /// Adds a predicate of an expression that was emitted before: IS NULL (8.6) is its null word, and 0 where it has none.
+    pub fn predicate(&mut self, wanted: Predicate, operand: Operand) -> Result<Cell, NoMemory>
+        ensures emits { IfOk result (λ out. (known : List Known) (a : Expression) (start : Emitter) → Emits known a start self.old operand → EmitsTruth known (predicate wanted a) start self.new out) }
         ensures short { OnOk result (extent self.new ≤ extent self.old + 3) }
     {
-        match operand.cell.null {
-            Some(n) => Ok(sure(n)),
-            None => {
-                let t = self.flag(0)?;
-                Ok(sure(t))
-            }
+        match wanted {
+            Predicate::IsNull => match operand.cell.null {
+                Some(n) => Ok(sure(n)),
+                None => {
+                    let t = self.flag(0)?;
+                    Ok(sure(t))
+                }
+            },
         }
     }
 

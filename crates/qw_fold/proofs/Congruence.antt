@@ -3,8 +3,9 @@ use Rattle.std.proofs.Common.{ℕ, refl, ◌∙◌}
 use Rattle.qw_types.specs.declared.truth.Truth.{Truth}
 use Rattle.qw_scalar.specs.declared.expression.Operator.{Operator}
 use Rattle.qw_scalar.specs.declared.expression.Field.{Field}
+use Rattle.qw_scalar.specs.declared.expression.Predicate.{Predicate}
 use Rattle.qw_scalar.specs.declared.comparison.Comparison.{Comparison}
-use Rattle.qw_scalar.specs.Expression.{Condition, Expression, arithmetic, negative, extract, brought, choice, comparison, is_null, both, either, negation_of, is}
+use Rattle.qw_scalar.specs.Expression.{Condition, Expression, arithmetic, negative, extract, brought, choice, comparison, predicate, both, either, negation_of, is}
 use Rattle.qw_fold.specs.Inner.Made.{Follows, FollowsTruth}
 
 pub itself : (e : Expression) → Follows e e
@@ -110,11 +111,11 @@ comparison_follows op a b x y p q = record {
   columns = λ columns h. (p.columns columns h.0, q.columns columns h.1);
 }
 
-pub is_null_follows : (a x : Expression) → Follows a x → FollowsTruth (is_null a) (is_null x)
-is_null_follows a x p = record {
-  same = record { truth = λ env. rw (p.same.value env) refl; units = p.same.units };
-  typed = p.typed;
-  columns = p.columns;
+pub predicate_follows : (p : Predicate) (a x : Expression) → Follows a x → FollowsTruth (predicate p a) (predicate p x)
+predicate_follows p a x f = record {
+  same = record { truth = λ env. rw (f.same.value env) refl; units = f.same.units };
+  typed = f.typed;
+  columns = f.columns;
 }
 
 pub both_follows : (c d e f : Condition) → FollowsTruth c e → FollowsTruth d f → FollowsTruth (both c d) (both e f)

@@ -1,12 +1,11 @@
 -- Predicates and choices over operands that stand for others (ISO/IEC 9075:1992, 6.9, 8.2 to 8.4).
-use Rattle.std.proofs.Common.{◌≡◌, ℕ, ◌≤◌, max, refl, arith}
+use Rattle.std.proofs.Common.{◌≡◌, ℕ, ◌≤◌, max, inl, inr, refl, sym, ap, subst, arith}
 use Rattle.qw_scalar.specs.declared.comparison.Comparison.{Comparison}
 use Rattle.qw_scalar.specs.declared.comparison.Comparison.TheVariants.{Equal, GreaterOrEqual, LessOrEqual}
-use Rattle.qw_scalar.specs.Expression.{Choices, Condition, Expression, Expressions, last, more, otherwise, when, among, between, case, coalesced, comparison, is_null, largest_result, negation_of, null, null_if, scale_of}
-use Rattle.qw_fold.specs.Inner.Made.{AllStandAt, Follows, FollowsResults, FollowsTruth, StandsAt}
-use Rattle.qw_fold.proofs.Congruence.{both_follows, choice_follows, comparison_follows, either_follows, itself, negation_follows, truth_then}
+use Rattle.qw_scalar.specs.Expression.{Choices, Condition, Expression, Expressions, last, more, brought, otherwise, when, among, between, case, coalesced, comparison, is_there, largest_result, null, scale_of, unless_among}
+use Rattle.qw_fold.specs.Inner.Made.{AllStandAt, Follows, FollowsResults, FollowsTruth, IsBrought, StandsAt}
+use Rattle.qw_fold.proofs.Congruence.{both_follows, brought_follows, choice_follows, comparison_follows, either_follows, itself, truth_then}
 use Rattle.qw_fold.proofs.Literals.{compared_brought, result_stands}
-use Rattle.std.proofs.Common.{inl}
 
 -- a comparison whose right operand may have been brought
 pub compared_stands : (op : Comparison) (s : ℕ) (a b x y : Expression) → Follows a x → StandsAt s b y → FollowsTruth (comparison op a b) (comparison op x y)
@@ -24,8 +23,27 @@ among_stands s x y (more v vs) (last w) p h = absurd h
 among_stands s x y (more v vs) (more w ws) p h =
     either_follows _ _ _ _ (compared_stands Equal s x v y w p h.0) (among_stands s x y vs ws p h.1)
 
-pub null_if_stands : (s : ℕ) (a b x y : Expression) → Follows a x → StandsAt s b y → Follows (null_if a b) (null_if x y)
-null_if_stands s a b x y p q = choice_follows _ _ _ _ _ _ (compared_stands Equal s a b x y p q) (itself null) p
+-- at its own scale nothing is brought
+own_stays : (s : ℕ) (e b f : Expression) → s ≤ scale_of e → Follows e b → IsBrought s b f → Follows e f
+own_stays s e b f own p (inl q) = subst (Follows e) (sym q) p
+own_stays s e b f own p (inr r) =
+    let scale : scale_of b ≡ r.scale = ap scale_of r.is in
+    let same : scale_of e ≡ scale_of b = p.same.scale in
+    absurd (omega (arith, r.up, scale, same, own))
+
+own_stands : (s : ℕ) (e f : Expression) → s ≤ scale_of e → StandsAt s e f → Follows e f
+own_stands s e f own h = own_stays s e h.between f own h.follows h.brought
+
+pub unless_among_stand : (s : ℕ) (arguments others : Expressions) → s ≡ scale_of (unless_among arguments) → AllStandAt s arguments others → Follows (unless_among arguments) (unless_among others)
+unless_among_stand s (last a) (last x) is h =
+    let first = own_stands s a x (omega (arith, is)) h in
+    subst (λ (k : ℕ). Follows (brought a (scale_of a)) (brought x k)) first.same.scale (brought_follows (scale_of a) a x first)
+unless_among_stand s (last a) (more x xs) is h = absurd h
+unless_among_stand s (more a others) (last x) is h = absurd h
+unless_among_stand s (more a others) (more x xs) is h =
+    let own : s ≡ max 0 (scale_of a) = is in
+    let first = own_stands s a x (omega (arith, own)) h.0 in
+    choice_follows _ _ _ _ _ _ (among_stands s a x others xs first h.1) (itself null) first
 
 pub otherwise_stands : (s : ℕ) (e f : Expression) → StandsAt s e f → FollowsResults s (otherwise e) (otherwise f)
 otherwise_stands s e f h =
@@ -57,7 +75,7 @@ coalesced_stand s (last e) (more f fs) h = absurd h
 coalesced_stand s (more e es) (last f) h = absurd h
 coalesced_stand s (more e es) (more f fs) h =
     let r = result_stands s e f h.0 in
-    when_stands s (negation_of (is_null e)) (negation_of (is_null f)) e f (coalesced es) (coalesced fs) (negation_follows _ _ r.null') h.0 (coalesced_stand s es fs h.1)
+    when_stands s (is_there e) (is_there f) e f (coalesced es) (coalesced fs) r.there h.0 (coalesced_stand s es fs h.1)
 
 -- the choice's scale stays
 pub largest_stays : (s : ℕ) (cs ds : Choices) → s ≡ largest_result cs → FollowsResults s cs ds → largest_result ds ≡ s

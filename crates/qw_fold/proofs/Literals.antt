@@ -11,12 +11,12 @@ use Rattle.qw_scalar.specs.declared.expression.Operator.{Operator}
 use Rattle.qw_scalar.specs.declared.expression.Operator.TheVariants.{Add, Subtract}
 use Rattle.qw_scalar.specs.declared.comparison.Comparison.{Comparison}
 use Rattle.qw_scalar.specs.Evaluation.{as_number, combined, compared, value_of}
-use Rattle.qw_scalar.specs.Expression.{Expression, number, arithmetic, brought, comparison, is_null, scale_after, scale_of}
+use Rattle.qw_scalar.specs.Expression.{Expression, number, arithmetic, brought, comparison, is_there, scale_after, scale_of}
 use Rattle.qw_scalar.specs.Typing.{IsTyped, ScalesAllowed, are_comparable, kind_of}
 use Rattle.qw_scalar.specs.Units.{octets_of}
 use Rattle.qw_fold.specs.Inner.Made.{Follows, FollowsTruth, IsBrought, IsRaised, StandsAt}
 use Rattle.qw_fold.proofs.Bringing.{brought_again, difference_left, difference_right, order_left, order_right, sum_left, sum_right}
-use Rattle.qw_fold.proofs.Congruence.{brought_follows, is_null_follows, itself, then, truth_itself, truth_then}
+use Rattle.qw_fold.proofs.Congruence.{brought_follows, negation_follows, predicate_follows, itself, then, truth_itself, truth_then}
 
 -- ---- values
 
@@ -167,8 +167,8 @@ result_brought v w t s near h e = record {
   columns = λ columns k. tt;
 }
 
-null_tested : (v w : ℤ) (t s : ℕ) → s ≤ 18 → IsTrue (fits w) → FollowsTruth (is_null (number v t)) (is_null (number w s))
-null_tested v w t s near h = record {
+there_tested : (v w : ℤ) (t s : ℕ) → s ≤ 18 → IsTrue (fits w) → FollowsTruth (is_there (number v t)) (is_there (number w s))
+there_tested v w t s near h = record {
   same = record { truth = λ env. refl; units = λ env. refl };
   typed = λ k. (h, near);
   columns = λ columns k. tt;
@@ -216,17 +216,17 @@ brought_typed s e f (inr r) h = rw r.made_is (r.fit, r.near)
 -- a result that is brought to the scale of a choice
 pub record IsResultFor (s : ℕ) (e f : Expression) : Type 0 where
   pub brought' : Follows (brought e s) (brought f s)
-  pub null' : FollowsTruth (is_null e) (is_null f)
+  pub there : FollowsTruth (is_there e) (is_there f)
   pub least : scale_of e ≤ scale_of f
   pub most : scale_of e ≤ s → scale_of f ≤ s
 
 result_of : (s : ℕ) (e f : Expression) → IsBrought s e f → IsResultFor s e f
-result_of s e f (inl q) = rw q (record { brought' = itself (brought e s); null' = truth_itself (is_null e); least = le_refl (scale_of e); most = λ h. h })
+result_of s e f (inl q) = rw q (record { brought' = itself (brought e s); there = truth_itself (is_there e); least = le_refl (scale_of e); most = λ h. h })
 result_of s e f (inr r) =
     let up : r.scale ≤ s = omega (arith, r.up) in
     rw (r.is, r.made_is) (record {
       brought' = result_brought r.value r.made r.scale s r.near r.fit r.brought;
-      null' = null_tested r.value r.made r.scale s r.near r.fit;
+      there = there_tested r.value r.made r.scale s r.near r.fit;
       least = up;
       most = λ h. le_refl s;
     })
@@ -237,7 +237,7 @@ result_stands s e f h =
     let same : scale_of e ≡ scale_of h.between = h.follows.same.scale in
     record {
       brought' = then _ _ _ (brought_follows s e h.between h.follows) r.brought';
-      null' = truth_then _ _ _ (is_null_follows e h.between h.follows) r.null';
+      there = truth_then _ _ _ (negation_follows _ _ (predicate_follows _ e h.between h.follows)) r.there;
       least = rw same r.least;
       most = λ k. r.most (rw (← same) k);
     }

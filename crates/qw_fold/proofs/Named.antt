@@ -4,7 +4,7 @@ use Rattle.std.proofs.lemmas.List.Elements.{Contains-append_cases, Contains-appe
 use Rattle.qw_types.specs.declared.value.Ty.{Ty}
 use Rattle.qw_scalar.proofs.ColumnLemmas.{columns_more, conditions_more}
 use Rattle.qw_scalar.specs.Columns.{HasColumns, HaveColumns}
-use Rattle.qw_scalar.specs.Expression.{Condition, Expression, null, number, date, text, column, arithmetic, negative, extract, brought, choice, comparison, is_null, both, either, negation_of, is}
+use Rattle.qw_scalar.specs.Expression.{Condition, Expression, null, number, date, text, column, arithmetic, negative, extract, brought, choice, comparison, predicate, both, either, negation_of, is}
 use Rattle.qw_fold.specs.Inner.Made.{Follows, FollowsTruth, IsAmong}
 
 -- the columns that it names, listed
@@ -86,7 +86,7 @@ mutual
   listed_truth Holds (comparison op a b) h =
       let two = listed_two Holds a b (listed Holds a h.0) (listed Holds b h.1) in
       record { columns = two.0; hold = two.1.0; named = two.1.1 }
-  listed_truth Holds (is_null a) h = let x = listed Holds a h in record { columns = x.columns; hold = x.hold; named = x.named }
+  listed_truth Holds (predicate p a) h = let x = listed Holds a h in record { columns = x.columns; hold = x.hold; named = x.named }
   listed_truth Holds (both c d) h =
       let two = listed_conditions Holds c d (listed_truth Holds c h.0) (listed_truth Holds d h.1) in
       record { columns = two.0; hold = two.1.0; named = two.1.1 }

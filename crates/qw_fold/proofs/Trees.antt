@@ -8,18 +8,20 @@ use Rattle.qw_scalar.specs.declared.expression.Branches.{Branches}
 use Rattle.qw_scalar.specs.declared.expression.Matches.{Matches}
 use Rattle.qw_scalar.specs.declared.expression.Matches.TheVariants as Matches
 use Rattle.qw_scalar.specs.declared.expression.Operator.{Operator}
+use Rattle.qw_scalar.specs.declared.expression.Function.{Function}
+use Rattle.qw_scalar.specs.declared.expression.Function.TheVariants.{Coalesce, NullIf}
 use Rattle.qw_scalar.specs.declared.comparison.Comparison.{Comparison}
 use Rattle.qw_scalar.specs.declared.comparison.Comparison.TheVariants.{Equal}
-use Rattle.qw_scalar.specs.Expression.{Choices, Condition, Expression, Expressions, last, more, otherwise, when, among, arithmetic, between, both, case, cases, coalesced, comparison, either, largest_result, null_if, scale_of}
+use Rattle.qw_scalar.specs.Expression.{Choices, Condition, Expression, Expressions, last, more, otherwise, when, among, arithmetic, between, both, called, case, cases, coalesced, comparison, either, largest_result, scale_of}
 use Rattle.qw_scalar.specs.Nodes.{nodes, nodes_of, nodes_of_all, nodes_of_branches, nodes_of_matches}
 use Rattle.qw_scalar.specs.Tree.{choices_of, condition_of, expression_of, expressions_of, matches_of}
 use Rattle.qw_scalar.specs.Typing.{AreTyped, IsTyped}
 use Rattle.qw_fold.specs.Folded.{AllFolded, AreAtOneScale, AreFolded, BranchesFolded, IsAtScale, IsFolded, MatchesFolded}
 use Rattle.qw_scalar.specs.Texts.{texts_in, texts_of_all, texts_of_branches, texts_of_matches, texts_within}
-use Rattle.qw_fold.specs.Inner.Made.{AllFoldAt, AreBuilt, AreFoldOf, BranchesFold, BroughtTogether, ChoicesBuilt, Follows, FollowsTruth, IsBuilt, IsFoldAt, IsFoldOf, MatchesBuilt, MatchesFold, StandsAt}
+use Rattle.qw_fold.specs.Inner.Made.{AllFoldAt, AllStandAt, AreBuilt, AreFoldOf, BranchesFold, BroughtTogether, ChoicesBuilt, Follows, FollowsTruth, IsBuilt, IsFoldAt, IsFoldOf, MatchesBuilt, MatchesFold, StandsAt}
 use Rattle.qw_fold.specs.Inner.Typed.{AllTyped, ChoicesTyped, MatchesTyped}
 use Rattle.qw_fold.proofs.Congruence.{arithmetic_follows, both_follows, comparison_follows, either_follows, then, truth_then}
-use Rattle.qw_fold.proofs.Constructs.{among_stands, between_stands, case_follows, coalesced_stand, compared_stands, largest_stays, null_if_stands, otherwise_stands, when_stands}
+use Rattle.qw_fold.proofs.Constructs.{among_stands, between_stands, case_follows, coalesced_stand, compared_stands, largest_stays, otherwise_stands, unless_among_stand, when_stands}
 use Rattle.qw_fold.proofs.Literals.{compared_brought}
 
 -- ---- types
@@ -36,9 +38,9 @@ pub match_operand_typed : (s : ℕ) (m : Matches) (x : Expression) → IsTyped (
 match_operand_typed s (Matches.Last' _ v _ e _ other) x h = h.0.0.0
 match_operand_typed s (Matches.When' _ v _ e _ rest) x h = h.0.0.0
 
-pub arguments_typed : (s : ℕ) (es : Expressions) → IsTyped (cases s (coalesced es)) → AllTyped es
-arguments_typed s (last e) h = h.0
-arguments_typed s (more e es) h = (h.0, arguments_typed s es h.1.0.1)
+coalesced_typed : (s : ℕ) (es : Expressions) → IsTyped (cases s (coalesced es)) → AllTyped es
+coalesced_typed s (last e) h = h.0
+coalesced_typed s (more e es) h = (h.0, coalesced_typed s es h.1.0.1)
 
 pub values_typed : (x : Expression) (vs : Expressions) → AreTyped (among x vs) → AllTyped vs
 values_typed x (last v) h = h.0.1
@@ -47,6 +49,11 @@ values_typed x (more v vs) h = (h.0.0.1, values_typed x vs h.1)
 pub among_operand_typed : (x : Expression) (vs : Expressions) → AreTyped (among x vs) → IsTyped x
 among_operand_typed x (last v) h = h.0.0
 among_operand_typed x (more v vs) h = h.0.0.0
+
+pub arguments_typed : (function : Function) (es : Expressions) → IsTyped (called function es) → AllTyped es
+arguments_typed Coalesce es h = coalesced_typed (largest_result (coalesced es)) es h
+arguments_typed NullIf (last a) h = h.0
+arguments_typed NullIf (more a others) h = (h.1.0.1, values_typed a others h.0)
 
 -- a choice's results are brought to one scale, which is its own
 cases_scale : (s : ℕ) (cs : Choices) → scale_of (cases s cs) ≡ s
@@ -128,28 +135,22 @@ match_made a old new n t q s x r iq is p m h k =
     (omega (arith, p.short, m.short)) (two _ _ _ _ p.same_texts m.same_texts) built
     (folded p.folded (subst (λ (j : ℕ). MatchesFolded j (largest_result (matches_of new (expression_of x))) new) (sym scale) (subst (λ (j : ℕ). MatchesFolded q j new) (sym stays) m.folded)))) h k
 
-pub coalesce_made : (es : Expressions) (n : ℕ) (t : List (List ℕ)) (s : ℕ) (new : Exprs) (r : Result Expr NoMemory) → s ≡ largest_result (coalesced es) → AllFoldAt s es n t new →
-    IfOk r (λ z. IsBuilt (case (coalesced (expressions_of new))) (1 + nodes_of_all new) (texts_of_all new) z) →
-    IfOk r (λ z. AllFolded (largest_result (coalesced (expressions_of new))) new → IsFolded z) →
-    IfOk r (λ z. IsFoldOf (case (coalesced es)) (1 + n) t z)
-coalesce_made es n t s new r is p h k =
-    let results = coalesced_stand s es (expressions_of new) p.stand in
-    if_both _ _ _ r
-    (λ z built folded.
-    built_stands (case (coalesced es)) (case (coalesced (expressions_of new))) _ _ _ _ z (case_follows s (coalesced es) (coalesced (expressions_of new)) is results) (omega (arith, p.short)) p.same_texts built
-    (folded (subst (λ (q : ℕ). AllFolded q new) (sym (largest_stays s (coalesced es) (coalesced (expressions_of new)) is results)) p.folded))) h k
+-- a function's arguments are at its own scale
+call_follows : (function : Function) (s : ℕ) (arguments others : Expressions) → s ≡ scale_of (called function arguments) → AllStandAt s arguments others → Follows (called function arguments) (called function others)
+call_follows Coalesce s arguments others is h = case_follows s (coalesced arguments) (coalesced others) (is ∙ case_scale (coalesced arguments)) (coalesced_stand s arguments others h)
+call_follows NullIf s arguments others is h = unless_among_stand s arguments others is h
 
-pub null_if_made : (a b : Expression) (n m : ℕ) (t u : List (List ℕ)) (s : ℕ) (x y : Expr) (r : Result Expr NoMemory) → s ≡ scale_of a → IsFoldOf a n t x → IsFoldAt s b m u y →
-    IfOk r (λ z. IsBuilt (null_if (expression_of x) (expression_of y)) (1 + nodes x + nodes y) (texts_in x ++ texts_in y) z) →
-    IfOk r (λ z. IsFolded x × IsFolded y → IsAtScale (scale_of (expression_of x)) y → IsFolded z) →
-    IfOk r (λ z. IsFoldOf (null_if a b) (1 + n + m) (t ++ u) z)
-null_if_made a b n m t u s x y r is p q h k =
-    let scale : scale_of (expression_of x) ≡ s = sym p.follows.same.scale ∙ sym is in
+pub call_made : (function : Function) (es : Expressions) (n : ℕ) (t : List (List ℕ)) (s : ℕ) (new : Exprs) (r : Result Expr NoMemory) → s ≡ scale_of (called function es) → AllFoldAt s es n t new →
+    IfOk r (λ z. IsBuilt (called function (expressions_of new)) (1 + nodes_of_all new) (texts_of_all new) z) →
+    IfOk r (λ z. AllFolded (scale_of (called function (expressions_of new))) new → IsFolded z) →
+    IfOk r (λ z. IsFoldOf (called function es) (1 + n) t z)
+call_made function es n t s new r is p h k =
+    let follows = call_follows function s es (expressions_of new) is p.stand in
+    let stays : scale_of (called function (expressions_of new)) ≡ s = sym follows.same.scale ∙ sym is in
     if_both _ _ _ r
     (λ z built folded.
-    built_stands (null_if a b) (null_if (expression_of x) (expression_of y)) _ _ _ _ z (null_if_stands s a b (expression_of x) (expression_of y) p.follows q.stands)
-    (omega (arith, p.short, q.short)) (two _ _ _ _ p.same_texts q.same_texts) built
-    (folded (p.folded, q.folded.0) (subst (λ (j : ℕ). IsAtScale j y) (sym scale) q.folded.1))) h k
+    built_stands (called function es) (called function (expressions_of new)) _ _ _ _ z follows (omega (arith, p.short)) p.same_texts built
+    (folded (subst (λ (q : ℕ). AllFolded q new) (sym stays) p.folded))) h k
 
 -- ---- conditions
 

@@ -11,13 +11,13 @@ use Rattle.qw_scalar.specs.declared.expression.Cond.{Cond}
 use Rattle.qw_scalar.specs.declared.expression.Exprs.{Exprs}
 use Rattle.qw_scalar.specs.declared.expression.Branches.{Branches}
 use Rattle.qw_scalar.specs.declared.expression.Matches.{Matches}
-use Rattle.qw_scalar.specs.declared.expression.Expr.TheVariants.{Null, Number, Date, Text, Column, Arithmetic', Negative', Extract', Case', Match', Coalesce', NullIf'}
-use Rattle.qw_scalar.specs.declared.expression.Cond.TheVariants.{Compare', Between', In', IsNull', And', Or', Not', Is'}
+use Rattle.qw_scalar.specs.declared.expression.Expr.TheVariants.{Null, Number, Date, Text, Column, Arithmetic', Negative', Extract', Case', Match', Call'}
+use Rattle.qw_scalar.specs.declared.expression.Cond.TheVariants.{Compare', Between', In', Predicate', And', Or', Not', Is'}
 use Rattle.qw_scalar.specs.declared.expression.Exprs.TheVariants as Exprs
 use Rattle.qw_scalar.specs.declared.expression.Branches.TheVariants as Branches
 use Rattle.qw_scalar.specs.declared.expression.Matches.TheVariants as Matches
 use Rattle.qw_scalar.specs.Evaluation.{applied}
-use Rattle.qw_scalar.specs.Expression.{coalesced, largest_result, scale_of}
+use Rattle.qw_scalar.specs.Expression.{called, largest_result, scale_of}
 use Rattle.qw_scalar.specs.Tree.{choices_of, expression_of, expressions_of, matches_of}
 
 -- A literal of a number is of this scale or of a larger one, or has no value of 18 digits at it.
@@ -64,15 +64,14 @@ abbrev mutual
   IsFolded (Case' _ branches) = BranchesFolded (largest_result (choices_of branches)) branches
   IsFolded (Match' _ x _ matches) =
       IsFolded x × MatchesFolded (scale_of (expression_of x)) (largest_result (matches_of matches (expression_of x))) matches
-  IsFolded (Coalesce' _ arguments) = AllFolded (largest_result (coalesced (expressions_of arguments))) arguments
-  IsFolded (NullIf' _ a _ b) = (IsFolded a × IsFolded b) × IsAtScale (scale_of (expression_of a)) b
+  IsFolded (Call' function _ arguments) = AllFolded (scale_of (called function (expressions_of arguments))) arguments
 
   pub AreFolded : Cond → Type 0
   AreFolded (Compare' op _ a _ b) = (IsFolded a × IsFolded b) × AreAtOneScale a b
   AreFolded (Between' _ x _ a _ b) =
       (IsFolded x × (IsFolded a × IsFolded b)) × (IsAtScale (scale_of (expression_of x)) a × IsAtScale (scale_of (expression_of x)) b)
   AreFolded (In' _ x _ values) = IsFolded x × AllFolded (scale_of (expression_of x)) values
-  AreFolded (IsNull' _ a) = IsFolded a
+  AreFolded (Predicate' p _ a) = IsFolded a
   AreFolded (And' _ c _ d) = AreFolded c × AreFolded d
   AreFolded (Or' _ c _ d) = AreFolded c × AreFolded d
   AreFolded (Not' _ c) = AreFolded c

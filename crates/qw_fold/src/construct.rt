@@ -2,7 +2,7 @@
 
 ghost use Rattle.std.specs.Prelude.{◌≡◌, ◌+◌, ◌++◌, ℕ, IfOk};
 ghost use Rattle.qw_scalar.specs.declared.comparison.Comparison.TheVariants.{Equal};
-ghost use Rattle.qw_scalar.specs.Expression.{Expression, among, arithmetic, between, both, case, coalesced, comparison, either, extract, is, is_null, largest_result, last, more, negation_of, negative, null_if, otherwise, scale_of, when};
+ghost use Rattle.qw_scalar.specs.Expression.{Expression, among, arithmetic, between, both, called, case, comparison, either, extract, is, largest_result, last, more, negation_of, negative, otherwise, predicate, scale_of, when};
 ghost use Rattle.qw_scalar.specs.Nodes.{nodes, nodes_of, nodes_of_all, nodes_of_branches, nodes_of_matches};
 ghost use Rattle.qw_scalar.specs.Tree.{choices_of, condition_of, expression_of, expressions_of, matches_of};
 ghost use Rattle.qw_fold.specs.Folded.{AllFolded, AreAtOneScale, AreFolded, AreOperands, BranchesFolded, IsAtScale, IsFolded, IsLeft, IsNoDate, IsNoNumber, MatchesFolded};
@@ -10,7 +10,9 @@ ghost use Rattle.qw_scalar.specs.Texts.{texts_in, texts_of_all, texts_of_branche
 ghost use Rattle.qw_fold.specs.Inner.Made.{AllBuilt, AreBuilt, ChoicesBuilt, IsBuilt, MatchesBuilt};
 
 use qw_scalar::comparison::Comparison;
-use qw_scalar::expression::{Branches, Cond, Expr, Exprs, Field, Matches, Operator};
+use qw_scalar::expression::{
+    Branches, Cond, Expr, Exprs, Field, Function, Matches, Operator, Predicate,
+};
 use qw_types::{NoMemory, Truth};
 use std::alloc::Global;
 
@@ -85,21 +87,16 @@ pub(crate) fn match_tree(alloc: Global, operand: Expr, matches: Matches) -> Resu
     Ok(Expr::Match(operand, matches))
 }
 
-/// `COALESCE(arguments)`.
-pub(crate) fn coalesce_tree(alloc: Global, arguments: Exprs) -> Result<Expr, NoMemory>
-    ensures built { IfOk result (λ made. IsBuilt (case (coalesced (expressions_of arguments))) (1 + nodes_of_all arguments) (texts_of_all arguments) made) }
-    ensures folded { IfOk result (λ made. AllFolded (largest_result (coalesced (expressions_of arguments))) arguments → IsFolded made) }
+/// `function(arguments)`.
+pub(crate) fn call_tree(
+    alloc: Global,
+    function: Function,
+    arguments: Exprs,
+) -> Result<Expr, NoMemory>
+    ensures built { IfOk result (λ made. IsBuilt (called function (expressions_of arguments)) (1 + nodes_of_all arguments) (texts_of_all arguments) made) }
+    ensures folded { IfOk result (λ made. AllFolded (scale_of (called function (expressions_of arguments))) arguments → IsFolded made) }
 {
-    Ok(Expr::Coalesce(Box::new(alloc, arguments)?))
-}
-
-/// `NULLIF(left, right)`.
-pub(crate) fn null_if_tree(alloc: Global, left: Expr, right: Expr) -> Result<Expr, NoMemory>
-    ensures built { IfOk result (λ made. IsBuilt (null_if (expression_of left) (expression_of right)) (1 + nodes left + nodes right) (texts_in left ++ texts_in right) made) }
-    ensures folded { IfOk result (λ made. IsFolded left × IsFolded right → IsAtScale (scale_of (expression_of left)) right → IsFolded made) }
-{
-    let (left, right) = two_boxes(alloc, left, right)?;
-    Ok(Expr::NullIf(left, right))
+    Ok(Expr::Call(function, Box::new(alloc, arguments)?))
 }
 
 /// `left op right`.
@@ -139,12 +136,16 @@ pub(crate) fn in_tree(alloc: Global, operand: Expr, values: Exprs) -> Result<Con
     Ok(Cond::In(operand, values))
 }
 
-/// `operand IS NULL`.
-pub(crate) fn is_null_tree(alloc: Global, operand: Expr) -> Result<Cond, NoMemory>
-    ensures built { IfOk result (λ made. AreBuilt (is_null (expression_of operand)) (1 + nodes operand) (texts_in operand) made) }
+/// `operand predicate`.
+pub(crate) fn predicate_tree(
+    alloc: Global,
+    wanted: Predicate,
+    operand: Expr,
+) -> Result<Cond, NoMemory>
+    ensures built { IfOk result (λ made. AreBuilt (predicate wanted (expression_of operand)) (1 + nodes operand) (texts_in operand) made) }
     ensures folded { IfOk result (λ made. IsFolded operand → AreFolded made) }
 {
-    Ok(Cond::IsNull(Box::new(alloc, operand)?))
+    Ok(Cond::Predicate(wanted, Box::new(alloc, operand)?))
 }
 
 /// `left AND right`.

@@ -10,9 +10,9 @@ ghost use Rattle.qw_fold.specs.Inner.Made.{AllFoldAt, BranchesFold, MatchesFold}
 ghost use Rattle.qw_fold.specs.Inner.Typed.{AllTyped, ChoicesTyped, MatchesTyped};
 
 use crate::construct::{
-    and_tree, between_tree, case_tree, coalesce_tree, else_tree, in_tree, is_null_tree, is_tree,
-    last_match_tree, last_tree, match_tree, more_match_tree, more_tree, not_tree, null_if_tree,
-    or_tree, when_tree,
+    and_tree, between_tree, call_tree, case_tree, else_tree, in_tree, is_tree, last_match_tree,
+    last_tree, match_tree, more_match_tree, more_tree, not_tree, or_tree, predicate_tree,
+    when_tree,
 };
 use crate::literal::{at_scale, copy_of};
 use crate::operation::{arithmetic, compared, extract, negative};
@@ -59,14 +59,9 @@ pub fn expression(alloc: Global, expr: &Expr) -> Result<Expr, NoMemory>
             let folded = matches_at(alloc, matches, scale(operand), scale(expr))?;
             match_tree(alloc, x, folded)
         }
-        Expr::Coalesce(arguments) => {
+        Expr::Call(function, arguments) => {
             let folded = expressions_at(alloc, arguments, scale(expr))?;
-            coalesce_tree(alloc, folded)
-        }
-        Expr::NullIf(left, right) => {
-            let x = expression(alloc, left)?;
-            let y = at_scale(expression(alloc, right)?, scale(left));
-            null_if_tree(alloc, x, y)
+            call_tree(alloc, *function, folded)
         }
     }
 }
@@ -99,9 +94,9 @@ pub fn condition(alloc: Global, cond: &Cond) -> Result<Cond, NoMemory>
             let folded = expressions_at(alloc, values, scale(operand))?;
             in_tree(alloc, x, folded)
         }
-        Cond::IsNull(operand) => {
+        Cond::Predicate(wanted, operand) => {
             let x = expression(alloc, operand)?;
-            is_null_tree(alloc, x)
+            predicate_tree(alloc, *wanted, x)
         }
         Cond::And(left, right) => {
             let x = condition(alloc, left)?;

@@ -6,7 +6,7 @@ ghost use Rattle.qw_types.specs.declared.value.Ty.TheVariants.{Decimal};
 ghost use Rattle.qw_types.specs.declared.value.Val.TheVariants.{Null, Num, Text};
 ghost use Rattle.qw_scalar.specs.declared.comparison.Comparison.TheVariants.{Equal, Greater, Less};
 ghost use Rattle.qw_scalar.specs.declared.expression.Operator.TheVariants.{Add};
-ghost use Rattle.qw_scalar.specs.Expression.{arithmetic, column, comparison, is_null, number, text};
+ghost use Rattle.qw_scalar.specs.Expression.{arithmetic, column, comparison, number, text};
 ghost use Rattle.qw_scalar.specs.WorkedRows.{ink, pen};
 ghost use Rattle.qw_meaning.specs.Outcome.{Raises, Rows};
 ghost use Rattle.qw_meaning.specs.Select.{alone};

@@ -8,7 +8,8 @@ ghost use Rattle.qw_types.specs.declared.kind.Kind.TheVariants as kind;
 ghost use Rattle.qw_types.specs.declared.value.Ty.TheVariants as type;
 ghost use Rattle.qw_scalar.specs.declared.expression.Operator.TheVariants.{Divide, Subtract};
 ghost use Rattle.qw_scalar.specs.declared.comparison.Comparison.TheVariants.{Equal, Greater};
-ghost use Rattle.qw_scalar.specs.Expression.{arithmetic, case, coalesced, column, comparison, last, more, negative, null_if, number, otherwise, text, when};
+ghost use Rattle.qw_scalar.specs.declared.expression.Function.TheVariants.{Coalesce, NullIf};
+ghost use Rattle.qw_scalar.specs.Expression.{arithmetic, called, case, column, comparison, last, more, negative, number, otherwise, text, when};
 ghost use Rattle.qw_meaning.specs.Select.{IsSpecification, specification_of};
 ghost use Rattle.qw_scalar.specs.Tree.{condition_of, expression_of};
 ghost use Rattle.qw_meaning.specs.WorkedQueries.{item_entry};
@@ -17,7 +18,7 @@ use crate::assertions::assert_text;
 use qw_meaning::Select;
 use qw_plain::outcome::{Answer, plain_select_outcome};
 use qw_scalar::comparison::Comparison;
-use qw_scalar::expression::{Branches, Cond, Expr, Exprs, Operator};
+use qw_scalar::expression::{Branches, Cond, Expr, Exprs, Function, Operator};
 use qw_types::{ColumnType, NoMemory, Row, Text, Ty, Val};
 use std::alloc::Global;
 use std::process::Abort;
@@ -302,18 +303,23 @@ fn label_below(alloc: Global) -> Result<Answer, NoMemory> {
 
 /// `NULLIF(LABEL, octets)`.
 fn label_unless(alloc: Global, octets: &str) -> Result<Expr, NoMemory>
-    ensures { IfOk result (λ made. expression_of made ≡ null_if (column 3 (type.Varchar 20)) (text octets.now)) }
+    ensures { IfOk result (λ made. expression_of made ≡ called NullIf (more (column 3 (type.Varchar 20)) (last (text octets.now)))) }
 {
-    Ok(Expr::NullIf(label(alloc)?, literal(alloc, octets)?))
+    let others = Box::new(alloc, Exprs::Last(literal(alloc, octets)?))?;
+    let arguments = Exprs::More(label(alloc)?, others);
+    Ok(Expr::Call(Function::NullIf, Box::new(alloc, arguments)?))
 }
 
 /// `COALESCE(NULLIF(LABEL, octets), other)`.
 fn label_or(alloc: Global, octets: &str, other: &str) -> Result<Expr, NoMemory>
-    ensures { IfOk result (λ made. expression_of made ≡ case (coalesced (more (null_if (column 3 (type.Varchar 20)) (text octets.now)) (last (text other.now))))) }
+    ensures { IfOk result (λ made. expression_of made ≡ called Coalesce (more (called NullIf (more (column 3 (type.Varchar 20)) (last (text octets.now)))) (last (text other.now)))) }
 {
     let first = Box::new(alloc, label_unless(alloc, octets)?)?;
     let rest = Box::new(alloc, Exprs::Last(literal(alloc, other)?))?;
-    Ok(Expr::Coalesce(Box::new(alloc, Exprs::More(first, rest))?))
+    Ok(Expr::Call(
+        Function::Coalesce,
+        Box::new(alloc, Exprs::More(first, rest))?,
+    ))
 }
 
 /// `SELECT LABEL, NULLIF(LABEL, 'pen'), COALESCE(NULLIF(LABEL, 'pen'), 'none') FROM ITEM`.

@@ -7,8 +7,8 @@ use Rattle.qw_types.specs.declared.value.Ty.{Ty}
 use Rattle.qw_types.specs.declared.value.Val.{Val}
 use Rattle.qw_types.specs.Truth.{negation}
 use Rattle.qw_scalar.specs.Columns.{HasColumns, HaveColumns}
-use Rattle.qw_scalar.specs.Evaluation.{and_then, at_row, cell_of, chosen, combined, compared, extracted, negated, or_else, raised, same_truth, tested_null, truth_if, truth_of, value_of}
-use Rattle.qw_scalar.specs.Expression.{Expression, Condition, null, number, date, text, column, arithmetic, negative, extract, brought, choice, comparison, is_null, both, either, negation_of, is, scale_of}
+use Rattle.qw_scalar.specs.Evaluation.{and_then, at_row, cell_of, chosen, combined, compared, extracted, negated, or_else, raised, same_truth, tested, truth_if, truth_of, value_of}
+use Rattle.qw_scalar.specs.Expression.{Expression, Condition, null, number, date, text, column, arithmetic, negative, extract, brought, choice, comparison, predicate, both, either, negation_of, is, scale_of}
 use Rattle.qw_scalar.specs.Units.{octets_of, units, units_of}
 
 abbrev pub value_at : List Val → ℕ → Val
@@ -37,7 +37,7 @@ module _ (row other : List Val) where
     pub truths_agree : (c : Condition) → HaveColumns Agrees c → truth_of c (at_row other) ≡ truth_of c (at_row row)
     truths_agree (comparison op a b) h =
         ap₂ (λ (p q : Result Val Code). p >>= (λ x. q >>= (λ y. let r : Result Truth Code = Ok (compared op x (scale_of a) y (scale_of b)) in r))) (values_agree a h.0) (values_agree b h.1)
-    truths_agree (is_null a) h = ap (λ (p : Result Val Code). p >>= (λ x. let r : Result Truth Code = Ok (tested_null x) in r)) (values_agree a h)
+    truths_agree (predicate p a) h = ap (λ (v : Result Val Code). v >>= (λ x. let r : Result Truth Code = Ok (tested p x) in r)) (values_agree a h)
     truths_agree (both c d) h = ap₂ (λ (p q : Result Truth Code). p >>= (λ t. and_then t q)) (truths_agree c h.0) (truths_agree d h.1)
     truths_agree (either c d) h = ap₂ (λ (p q : Result Truth Code). p >>= (λ t. or_else t q)) (truths_agree c h.0) (truths_agree d h.1)
     truths_agree (negation_of c) h = ap (λ (p : Result Truth Code). p >>= (λ t. let r : Result Truth Code = Ok (negation t) in r)) (truths_agree c h)
@@ -59,7 +59,7 @@ module _ (row other : List Val) where
     pub condition_units_agree : (c : Condition) → HaveColumns Agrees c → units_of c (at_row other) ≡ units_of c (at_row row)
     condition_units_agree (comparison op a b) h =
         ap₂ (λ (x y : ℕ). max x y) (ap₂ (λ (x y : ℕ). max x y) (units_agree a h.0) (units_agree b h.1)) (ap₂ (λ (p q : Result Val Code). octets_of op p q) (values_agree a h.0) (values_agree b h.1))
-    condition_units_agree (is_null a) h = units_agree a h
+    condition_units_agree (predicate p a) h = units_agree a h
     condition_units_agree (both c d) h = ap₂ (λ (x y : ℕ). max x y) (condition_units_agree c h.0) (condition_units_agree d h.1)
     condition_units_agree (either c d) h = ap₂ (λ (x y : ℕ). max x y) (condition_units_agree c h.0) (condition_units_agree d h.1)
     condition_units_agree (negation_of c) h = condition_units_agree c h

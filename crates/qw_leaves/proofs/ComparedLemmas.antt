@@ -2,9 +2,9 @@
 use Rattle.std.proofs.Common.{◌≡◌, Option, Some, None, refl}
 use Rattle.qw_scalar.specs.declared.comparison.Comparison.{Comparison}
 use Rattle.qw_scalar.specs.declared.expression.Cond.{Cond}
-use Rattle.qw_scalar.specs.declared.expression.Cond.TheVariants.{Compare', Between', In', IsNull', And', Or', Not', Is'}
+use Rattle.qw_scalar.specs.declared.expression.Cond.TheVariants.{Compare', Between', In', Predicate', And', Or', Not', Is'}
 use Rattle.qw_scalar.specs.declared.expression.Exprs.TheVariants as Exprs
-use Rattle.qw_scalar.specs.Expression.{Expression, Condition, comparison, is_null, both, either, negation_of, is}
+use Rattle.qw_scalar.specs.Expression.{Expression, Condition, comparison, predicate, both, either, negation_of, is}
 use Rattle.qw_scalar.specs.Tree.{condition_of}
 use Rattle.qw_scalar.specs.Typing.{AreTyped, IsTyped}
 use Rattle.qw_leaves.specs.Compared.{Compared, OfCompared, compared_by, compared_in, trees_compared}
@@ -12,7 +12,7 @@ use Rattle.qw_leaves.specs.Compared.{Compared, OfCompared, compared_by, compared
 module _ (P : Condition → Option Compared → Type 0) (one : (op : Comparison) (a b : Expression) → P (comparison op a b) (Some (record { operator = op; left = a; right = b }))) (none : (c : Condition) → P c None) where
   pub by_compared : (c : Condition) → P c (compared_in c)
   by_compared (comparison op a b) = one op a b
-  by_compared (is_null a) = none (is_null a)
+  by_compared (predicate p a) = none (predicate p a)
   by_compared (both c d) = none (both c d)
   by_compared (either c d) = none (either c d)
   by_compared (negation_of c) = none (negation_of c)
@@ -28,7 +28,7 @@ trees_are (Compare' op _ a _ b) = refl
 trees_are (Between' _ x _ a _ b) = refl
 trees_are (In' _ x _ (Exprs.Last' _ v)) = refl
 trees_are (In' _ x _ (Exprs.More' _ v _ vs)) = refl
-trees_are (IsNull' _ a) = refl
+trees_are (Predicate' p _ a) = refl
 trees_are (And' _ c _ d) = refl
 trees_are (Or' _ c _ d) = refl
 trees_are (Not' _ c) = refl

@@ -3,7 +3,7 @@ use Rattle.std.proofs.Common.{ℕ, ◌++◌}
 use Rattle.std.specs.List.{AllByRecursion}
 use Rattle.qw_types.specs.declared.value.Ty.{Ty}
 use Rattle.qw_scalar.specs.Columns.{HasColumns, HaveColumns}
-use Rattle.qw_scalar.specs.Expression.{Expression, Condition, null, number, date, text, column, arithmetic, negative, extract, brought, choice, comparison, is_null, both, either, negation_of, is}
+use Rattle.qw_scalar.specs.Expression.{Expression, Condition, null, number, date, text, column, arithmetic, negative, extract, brought, choice, comparison, predicate, both, either, negation_of, is}
 use Rattle.qw_scalar.specs.Typing.{AreTyped, IsTyped}
 use Rattle.qw_leaves.specs.declared.leaf.Leaf.{Leaf}
 use Rattle.qw_leaves.specs.declared.leaf.Leaf.TheVariants as leaf
@@ -27,7 +27,7 @@ module _ (P : Leaf → Type 0) where
 
     pub condition_listed : (c : Condition) → HaveLeaves P c → AllByRecursion P (condition_leaves c)
     condition_listed (comparison op a b) h = all_joined P (leaves a) (leaves b) (listed a h.0) (listed b h.1)
-    condition_listed (is_null a) h = listed a h
+    condition_listed (predicate p a) h = listed a h
     condition_listed (both c d) h = all_joined P (condition_leaves c) (condition_leaves d) (condition_listed c h.0) (condition_listed d h.1)
     condition_listed (either c d) h = all_joined P (condition_leaves c) (condition_leaves d) (condition_listed c h.0) (condition_listed d h.1)
     condition_listed (negation_of c) h = condition_listed c h
@@ -52,7 +52,7 @@ module _ (P : Leaf → Type 0) where
 
     pub condition_unlisted : (c : Condition) → AllByRecursion P (condition_leaves c) → HaveLeaves P c
     condition_unlisted (comparison op a b) h = (unlisted a (all_front P (leaves a) (leaves b) h), unlisted b (all_back P (leaves a) (leaves b) h))
-    condition_unlisted (is_null a) h = unlisted a h
+    condition_unlisted (predicate p a) h = unlisted a h
     condition_unlisted (both c d) h =
         (condition_unlisted c (all_front P (condition_leaves c) (condition_leaves d) h), condition_unlisted d (all_back P (condition_leaves c) (condition_leaves d) h))
     condition_unlisted (either c d) h =
@@ -94,7 +94,7 @@ module _ (P : ℕ → Ty → Type 0) where
 
     pub have_columns : (c : Condition) → HaveLeaves (OfColumn P) c → HaveColumns P c
     have_columns (comparison op a b) h = (has_columns a h.0, has_columns b h.1)
-    have_columns (is_null a) h = has_columns a h
+    have_columns (predicate p a) h = has_columns a h
     have_columns (both c d) h = (have_columns c h.0, have_columns d h.1)
     have_columns (either c d) h = (have_columns c h.0, have_columns d h.1)
     have_columns (negation_of c) h = have_columns c h
@@ -115,7 +115,7 @@ module _ (P : ℕ → Ty → Type 0) where
 
     pub condition_column_leaves : (c : Condition) → HaveColumns P c → HaveLeaves (OfColumn P) c
     condition_column_leaves (comparison op a b) h = (column_leaves a h.0, column_leaves b h.1)
-    condition_column_leaves (is_null a) h = column_leaves a h
+    condition_column_leaves (predicate p a) h = column_leaves a h
     condition_column_leaves (both c d) h = (condition_column_leaves c h.0, condition_column_leaves d h.1)
     condition_column_leaves (either c d) h = (condition_column_leaves c h.0, condition_column_leaves d h.1)
     condition_column_leaves (negation_of c) h = condition_column_leaves c h
@@ -170,7 +170,7 @@ mutual
 
   pub typed_conditions : (c : Condition) → AreTyped c → HaveLeaves IsTypedLeaf c
   typed_conditions (comparison op a b) h = (typed_leaves a h.0.0, typed_leaves b h.0.1)
-  typed_conditions (is_null a) h = typed_leaves a h
+  typed_conditions (predicate p a) h = typed_leaves a h
   typed_conditions (both c d) h = (typed_conditions c h.0, typed_conditions d h.1)
   typed_conditions (either c d) h = (typed_conditions c h.0, typed_conditions d h.1)
   typed_conditions (negation_of c) h = typed_conditions c h

@@ -4,15 +4,16 @@ use Rattle.std.specs.List.{AllByRecursion}
 use Rattle.std.proofs.lemmas.List.Sums.{sum_by-cons}
 use Rattle.qw_scalar.specs.declared.expression.Expr.{Expr}
 use Rattle.qw_scalar.specs.declared.expression.Cond.{Cond}
+use Rattle.qw_scalar.specs.declared.expression.Function.TheVariants.{Coalesce, NullIf}
 use Rattle.qw_scalar.specs.declared.expression.Exprs.{Exprs}
 use Rattle.qw_scalar.specs.declared.expression.Branches.{Branches}
 use Rattle.qw_scalar.specs.declared.expression.Matches.{Matches}
-use Rattle.qw_scalar.specs.declared.expression.Expr.TheVariants.{Null, Number, Date, Text, Column, Arithmetic', Negative', Extract', Case', Match', Coalesce', NullIf'}
-use Rattle.qw_scalar.specs.declared.expression.Cond.TheVariants.{Compare', Between', In', IsNull', And', Or', Not', Is'}
+use Rattle.qw_scalar.specs.declared.expression.Expr.TheVariants.{Null, Number, Date, Text, Column, Arithmetic', Negative', Extract', Case', Match', Call'}
+use Rattle.qw_scalar.specs.declared.expression.Cond.TheVariants.{Compare', Between', In', Predicate', And', Or', Not', Is'}
 use Rattle.qw_scalar.specs.declared.expression.Exprs.TheVariants as Exprs
 use Rattle.qw_scalar.specs.declared.expression.Branches.TheVariants as Branches
 use Rattle.qw_scalar.specs.declared.expression.Matches.TheVariants as Matches
-use Rattle.qw_scalar.specs.Expression.{Expression, among, cases, coalesced}
+use Rattle.qw_scalar.specs.Expression.{Expression, among, cases, coalesced, unless_among}
 use Rattle.qw_scalar.specs.Nodes.{nodes, nodes_of, nodes_of_all, nodes_of_branches, nodes_of_matches}
 use Rattle.qw_scalar.specs.Tree.{choices_of, condition_of, expression_of, expressions_of, matches_of}
 use Rattle.qw_leaves.specs.declared.leaf.Leaf.{Leaf}
@@ -34,11 +35,8 @@ module _ (P : Leaf → Type 0) where
     has_leaves (Case' _ branches) all = branches_have branches _ all
     has_leaves (Match' _ x _ matches) all =
         matches_have matches _ (expression_of x) (has_leaves x (all_front P (leaves_in x) (leaves_of_matches matches) all)) (all_back P (leaves_in x) (leaves_of_matches matches) all)
-    has_leaves (Coalesce' _ arguments) all = coalesced_have arguments _ all
-    has_leaves (NullIf' _ a _ b) all =
-        let x = has_leaves a (all_front P (leaves_in a) (leaves_in b) all) in
-        let y = has_leaves b (all_back P (leaves_in a) (leaves_in b) all) in
-        ((x, y), (tt, x))
+    has_leaves (Call' Coalesce _ arguments) all = coalesced_have arguments _ all
+    has_leaves (Call' NullIf _ arguments) all = unless_have arguments all
 
     pub have_leaves : (c : Cond) → AllByRecursion P (leaves_within c) → HaveLeaves P (condition_of c)
     have_leaves (Compare' op _ a _ b) all = (has_leaves a (all_front P (leaves_in a) (leaves_in b) all), has_leaves b (all_back P (leaves_in a) (leaves_in b) all))
@@ -48,11 +46,17 @@ module _ (P : Leaf → Type 0) where
         ((e, has_leaves a (all_front P (leaves_in a) (leaves_in b) rest)), (e, has_leaves b (all_back P (leaves_in a) (leaves_in b) rest)))
     have_leaves (In' _ x _ values) all =
         among_have values (expression_of x) (has_leaves x (all_front P (leaves_in x) (leaves_of_all values) all)) (all_back P (leaves_in x) (leaves_of_all values) all)
-    have_leaves (IsNull' _ a) all = has_leaves a all
+    have_leaves (Predicate' p _ a) all = has_leaves a all
     have_leaves (And' _ c _ d) all = (have_leaves c (all_front P (leaves_within c) (leaves_within d) all), have_leaves d (all_back P (leaves_within c) (leaves_within d) all))
     have_leaves (Or' _ c _ d) all = (have_leaves c (all_front P (leaves_within c) (leaves_within d) all), have_leaves d (all_back P (leaves_within c) (leaves_within d) all))
     have_leaves (Not' _ c) all = have_leaves c all
     have_leaves (Is' _ c t) all = have_leaves c all
+
+    unless_have : (es : Exprs) → AllByRecursion P (leaves_of_all es) → HasLeaves P (unless_among (expressions_of es))
+    unless_have (Exprs.Last' _ e) all = has_leaves e all
+    unless_have (Exprs.More' _ e _ es) all =
+        let x = has_leaves e (all_front P (leaves_in e) (leaves_of_all es) all) in
+        (among_have es (expression_of e) x (all_back P (leaves_in e) (leaves_of_all es) all), (tt, x))
 
     coalesced_have : (es : Exprs) (s : ℕ) → AllByRecursion P (leaves_of_all es) → HasLeaves P (cases s (coalesced (expressions_of es)))
     coalesced_have (Exprs.Last' _ e) s all = has_leaves e all
@@ -101,19 +105,23 @@ module _ (P : Leaf → Type 0) where
     leaves_have (Extract' field _ a) h = leaves_have a h
     leaves_have (Case' _ branches) h = branches_leaves branches _ h
     leaves_have (Match' _ x _ matches) h = let both = matches_leaves matches _ (expression_of x) h in joined (leaves_in x) (leaves_of_matches matches) (leaves_have x both.0) both.1
-    leaves_have (Coalesce' _ arguments) h = coalesced_leaves arguments _ h
-    leaves_have (NullIf' _ a _ b) h = joined (leaves_in a) (leaves_in b) (leaves_have a h.0.0) (leaves_have b h.0.1)
+    leaves_have (Call' Coalesce _ arguments) h = coalesced_leaves arguments _ h
+    leaves_have (Call' NullIf _ arguments) h = unless_leaves arguments h
 
     pub leaves_within_have : (c : Cond) → HaveLeaves P (condition_of c) → AllByRecursion P (leaves_within c)
     leaves_within_have (Compare' op _ a _ b) h = joined (leaves_in a) (leaves_in b) (leaves_have a h.0) (leaves_have b h.1)
     leaves_within_have (Between' _ x _ a _ b) h =
         joined (leaves_in x) (leaves_in a ++ leaves_in b) (leaves_have x h.0.0) (joined (leaves_in a) (leaves_in b) (leaves_have a h.0.1) (leaves_have b h.1.1))
     leaves_within_have (In' _ x _ values) h = let both = among_leaves values (expression_of x) h in joined (leaves_in x) (leaves_of_all values) (leaves_have x both.0) both.1
-    leaves_within_have (IsNull' _ a) h = leaves_have a h
+    leaves_within_have (Predicate' p _ a) h = leaves_have a h
     leaves_within_have (And' _ c _ d) h = joined (leaves_within c) (leaves_within d) (leaves_within_have c h.0) (leaves_within_have d h.1)
     leaves_within_have (Or' _ c _ d) h = joined (leaves_within c) (leaves_within d) (leaves_within_have c h.0) (leaves_within_have d h.1)
     leaves_within_have (Not' _ c) h = leaves_within_have c h
     leaves_within_have (Is' _ c t) h = leaves_within_have c h
+
+    unless_leaves : (es : Exprs) → HasLeaves P (unless_among (expressions_of es)) → AllByRecursion P (leaves_of_all es)
+    unless_leaves (Exprs.Last' _ e) h = leaves_have e h
+    unless_leaves (Exprs.More' _ e _ es) h = joined (leaves_in e) (leaves_of_all es) (leaves_have e h.1.1) (among_leaves es (expression_of e) h.0).1
 
     coalesced_leaves : (es : Exprs) (s : ℕ) → HasLeaves P (cases s (coalesced (expressions_of es))) → AllByRecursion P (leaves_of_all es)
     coalesced_leaves (Exprs.Last' _ e) s h = leaves_have e h
@@ -150,14 +158,13 @@ some_nodes (Negative' _ a) = omega arith
 some_nodes (Extract' field _ a) = omega arith
 some_nodes (Case' _ branches) = omega arith
 some_nodes (Match' _ x _ matches) = omega arith
-some_nodes (Coalesce' _ arguments) = omega arith
-some_nodes (NullIf' _ a _ b) = omega arith
+some_nodes (Call' function _ arguments) = omega arith
 
 pub some_nodes_of : (c : Cond) → 1 ≤ nodes_of c
 some_nodes_of (Compare' op _ a _ b) = omega arith
 some_nodes_of (Between' _ x _ a _ b) = omega arith
 some_nodes_of (In' _ x _ values) = omega arith
-some_nodes_of (IsNull' _ a) = omega arith
+some_nodes_of (Predicate' p _ a) = omega arith
 some_nodes_of (And' _ c _ d) = omega arith
 some_nodes_of (Or' _ c _ d) = omega arith
 some_nodes_of (Not' _ c) = omega arith
@@ -180,14 +187,13 @@ mutual
   leaves_few (Extract' field _ a) = omega (arith, leaves_few a)
   leaves_few (Case' _ branches) = omega (arith, branches_few branches)
   leaves_few (Match' _ x _ matches) = omega (arith, length-append (leaves_in x) (leaves_of_matches matches), leaves_few x, matches_few matches)
-  leaves_few (Coalesce' _ arguments) = omega (arith, all_few arguments)
-  leaves_few (NullIf' _ a _ b) = omega (arith, length-append (leaves_in a) (leaves_in b), leaves_few a, leaves_few b)
+  leaves_few (Call' function _ arguments) = omega (arith, all_few arguments)
 
   pub condition_few : (c : Cond) → length (leaves_within c) ≤ nodes_of c
   condition_few (Compare' op _ a _ b) = omega (arith, length-append (leaves_in a) (leaves_in b), leaves_few a, leaves_few b)
   condition_few (Between' _ x _ a _ b) = omega (arith, length-append (leaves_in x) (leaves_in a ++ leaves_in b), length-append (leaves_in a) (leaves_in b), leaves_few x, leaves_few a, leaves_few b)
   condition_few (In' _ x _ values) = omega (arith, length-append (leaves_in x) (leaves_of_all values), leaves_few x, all_few values)
-  condition_few (IsNull' _ a) = omega (arith, leaves_few a)
+  condition_few (Predicate' p _ a) = omega (arith, leaves_few a)
   condition_few (And' _ c _ d) = omega (arith, length-append (leaves_within c) (leaves_within d), condition_few c, condition_few d)
   condition_few (Or' _ c _ d) = omega (arith, length-append (leaves_within c) (leaves_within d), condition_few c, condition_few d)
   condition_few (Not' _ c) = omega (arith, condition_few c)

@@ -6,9 +6,9 @@ use Rattle.qw_scalar.specs.declared.comparison.Comparison.TheVariants.{Equal}
 use Rattle.qw_scalar.specs.declared.expression.Expr.{Expr}
 use Rattle.qw_scalar.specs.declared.expression.Cond.{Cond}
 use Rattle.qw_scalar.specs.declared.expression.Exprs.{Exprs}
-use Rattle.qw_scalar.specs.declared.expression.Cond.TheVariants.{Compare', Between', In', IsNull', And', Or', Not', Is'}
+use Rattle.qw_scalar.specs.declared.expression.Cond.TheVariants.{Compare', Between', In', Predicate', And', Or', Not', Is'}
 use Rattle.qw_scalar.specs.declared.expression.Exprs.TheVariants as Exprs
-use Rattle.qw_scalar.specs.Expression.{Expression, Condition, comparison, is_null, both, either, negation_of, is}
+use Rattle.qw_scalar.specs.Expression.{Expression, Condition, comparison, predicate, both, either, negation_of, is}
 use Rattle.qw_scalar.specs.Tree.{expression_of}
 
 -- a comparison of two expressions
@@ -20,7 +20,7 @@ pub record Compared : Type 0 where
 -- nothing of any other condition
 abbrev pub compared_in : Condition → Option Compared
 compared_in (comparison op a b) = Some (record { operator = op; left = a; right = b })
-compared_in (is_null a) = None
+compared_in (predicate p a) = None
 compared_in (both c d) = None
 compared_in (either c d) = None
 compared_in (negation_of c) = None
@@ -46,7 +46,7 @@ abbrev pub trees_compared : Cond → Option ComparedTrees
 trees_compared (Compare' op _ a _ b) = Some (record { operator = op; left = a; right = b })
 trees_compared (Between' _ x _ a _ b) = None
 trees_compared (In' _ x _ values) = value_compared x values
-trees_compared (IsNull' _ a) = None
+trees_compared (Predicate' p _ a) = None
 trees_compared (And' _ c _ d) = None
 trees_compared (Or' _ c _ d) = None
 trees_compared (Not' _ c) = None

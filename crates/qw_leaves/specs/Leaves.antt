@@ -8,12 +8,12 @@ use Rattle.qw_scalar.specs.declared.expression.Cond.{Cond}
 use Rattle.qw_scalar.specs.declared.expression.Exprs.{Exprs}
 use Rattle.qw_scalar.specs.declared.expression.Branches.{Branches}
 use Rattle.qw_scalar.specs.declared.expression.Matches.{Matches}
-use Rattle.qw_scalar.specs.declared.expression.Expr.TheVariants.{Null, Number, Date, Text, Column, Arithmetic', Negative', Extract', Case', Match', Coalesce', NullIf'}
-use Rattle.qw_scalar.specs.declared.expression.Cond.TheVariants.{Compare', Between', In', IsNull', And', Or', Not', Is'}
+use Rattle.qw_scalar.specs.declared.expression.Expr.TheVariants.{Null, Number, Date, Text, Column, Arithmetic', Negative', Extract', Case', Match', Call'}
+use Rattle.qw_scalar.specs.declared.expression.Cond.TheVariants.{Compare', Between', In', Predicate', And', Or', Not', Is'}
 use Rattle.qw_scalar.specs.declared.expression.Exprs.TheVariants as Exprs
 use Rattle.qw_scalar.specs.declared.expression.Branches.TheVariants as Branches
 use Rattle.qw_scalar.specs.declared.expression.Matches.TheVariants as Matches
-use Rattle.qw_scalar.specs.Expression.{Expression, Condition, null, number, date, text, column, arithmetic, negative, extract, brought, choice, comparison, is_null, both, either, negation_of, is}
+use Rattle.qw_scalar.specs.Expression.{Expression, Condition, null, number, date, text, column, arithmetic, negative, extract, brought, choice, comparison, predicate, both, either, negation_of, is}
 use Rattle.qw_leaves.specs.declared.leaf.Leaf.{Leaf}
 use Rattle.qw_leaves.specs.declared.leaf.Leaf.TheVariants as leaf
 
@@ -30,14 +30,13 @@ abbrev mutual
   leaves_in (Extract' field _ a) = leaves_in a
   leaves_in (Case' _ branches) = leaves_of_branches branches
   leaves_in (Match' _ x _ matches) = leaves_in x ++ leaves_of_matches matches
-  leaves_in (Coalesce' _ arguments) = leaves_of_all arguments
-  leaves_in (NullIf' _ a _ b) = leaves_in a ++ leaves_in b
+  leaves_in (Call' function _ arguments) = leaves_of_all arguments
 
   pub leaves_within : Cond → List Leaf
   leaves_within (Compare' op _ a _ b) = leaves_in a ++ leaves_in b
   leaves_within (Between' _ x _ a _ b) = leaves_in x ++ (leaves_in a ++ leaves_in b)
   leaves_within (In' _ x _ values) = leaves_in x ++ leaves_of_all values
-  leaves_within (IsNull' _ a) = leaves_in a
+  leaves_within (Predicate' p _ a) = leaves_in a
   leaves_within (And' _ c _ d) = leaves_within c ++ leaves_within d
   leaves_within (Or' _ c _ d) = leaves_within c ++ leaves_within d
   leaves_within (Not' _ c) = leaves_within c
@@ -71,7 +70,7 @@ abbrev mutual
 
   pub condition_leaves : Condition → List Leaf
   condition_leaves (comparison op a b) = leaves a ++ leaves b
-  condition_leaves (is_null a) = leaves a
+  condition_leaves (predicate p a) = leaves a
   condition_leaves (both c d) = condition_leaves c ++ condition_leaves d
   condition_leaves (either c d) = condition_leaves c ++ condition_leaves d
   condition_leaves (negation_of c) = condition_leaves c
@@ -100,7 +99,7 @@ abbrev mutual
 
   pub HaveLeaves : (Leaf → Type 0) → Condition → Type 0
   HaveLeaves Holds (comparison op a b) = HasLeaves Holds a × HasLeaves Holds b
-  HaveLeaves Holds (is_null a) = HasLeaves Holds a
+  HaveLeaves Holds (predicate p a) = HasLeaves Holds a
   HaveLeaves Holds (both c d) = HaveLeaves Holds c × HaveLeaves Holds d
   HaveLeaves Holds (either c d) = HaveLeaves Holds c × HaveLeaves Holds d
   HaveLeaves Holds (negation_of c) = HaveLeaves Holds c

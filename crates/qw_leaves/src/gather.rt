@@ -53,11 +53,7 @@ fn from_expression(alloc: Global, leaves: &mut Vec<Leaf>, expr: &Expr) -> Result
             from_expression(alloc, leaves, operand)?;
             from_matches(alloc, leaves, matches)
         }
-        Expr::Coalesce(arguments) => from_all(alloc, leaves, arguments),
-        Expr::NullIf(left, right) => {
-            from_expression(alloc, leaves, left)?;
-            from_expression(alloc, leaves, right)
-        }
+        Expr::Call(_, arguments) => from_all(alloc, leaves, arguments),
     }
 }
 
@@ -80,7 +76,7 @@ fn from_condition(alloc: Global, leaves: &mut Vec<Leaf>, cond: &Cond) -> Result<
             from_expression(alloc, leaves, operand)?;
             from_all(alloc, leaves, values)
         }
-        Cond::IsNull(operand) => from_expression(alloc, leaves, operand),
+        Cond::Predicate(_, operand) => from_expression(alloc, leaves, operand),
         Cond::And(left, right) => {
             from_condition(alloc, leaves, left)?;
             from_condition(alloc, leaves, right)

@@ -5,7 +5,8 @@ ghost use Rattle.std.specs.List.{AllByRecursion};
 ghost use Rattle.qw_types.specs.declared.value.Ty.TheVariants as type;
 ghost use Rattle.qw_scalar.specs.declared.expression.Cond.{Cond};
 ghost use Rattle.qw_scalar.specs.declared.expression.Expr.{Expr};
-ghost use Rattle.qw_scalar.specs.Expression.{Expression, between, case, coalesced, column, is_null, last, more, null_if, number};
+ghost use Rattle.qw_scalar.specs.declared.expression.Predicate.TheVariants.{IsNull};
+ghost use Rattle.qw_scalar.specs.Expression.{Expression, between, case, coalesced, column, last, more, number, predicate, unless_among};
 ghost use Rattle.qw_scalar.specs.Tree.{condition_of, expression_of};
 ghost use Rattle.qw_leaves.specs.declared.leaf.Leaf.{Leaf};
 ghost use Rattle.qw_leaves.specs.declared.leaf.Leaf.TheVariants as leaf;
@@ -25,10 +26,10 @@ pub fn leaves_of_trees()
 /// `ID IS NULL` has the leaf ID; `ID BETWEEN 1 AND 2`, which is `ID >= 1 AND ID <= 2`, has ID twice, and so have `COALESCE(ID, 1)` and
 /// `NULLIF(ID, 1)`, which test their first argument first (ISO/IEC 9075:1992, 6.9, 8.3).
 pub fn worked_leaves()
-    ensures test { condition_leaves (is_null (column 0 type.Integer)) ≡ leaf.Column 0 type.Integer ∷ [] }
+    ensures test { condition_leaves (predicate IsNull (column 0 type.Integer)) ≡ leaf.Column 0 type.Integer ∷ [] }
     ensures range { condition_leaves (between (column 0 type.Integer) (number (pos 1) 0) (number (pos 2) 0))
         ≡ leaf.Column 0 type.Integer ∷ leaf.Number (pos 1) 0 ∷ leaf.Column 0 type.Integer ∷ leaf.Number (pos 2) 0 ∷ [] }
-    ensures abbreviation { leaves (null_if (column 0 type.Integer) (number (pos 1) 0)) ≡ leaf.Column 0 type.Integer ∷ leaf.Number (pos 1) 0 ∷ leaf.Column 0 type.Integer ∷ [] }
+    ensures abbreviation { leaves (unless_among (more (column 0 type.Integer) (last (number (pos 1) 0)))) ≡ leaf.Column 0 type.Integer ∷ leaf.Number (pos 1) 0 ∷ leaf.Column 0 type.Integer ∷ [] }
     ensures choice { leaves (case (coalesced (more (column 0 type.Integer) (last (number (pos 1) 0)))))
         ≡ leaf.Column 0 type.Integer ∷ leaf.Column 0 type.Integer ∷ leaf.Number (pos 1) 0 ∷ [] }
 {}

@@ -7,7 +7,8 @@ ghost use Rattle.qw_types.specs.declared.value.Val.{Val};
 ghost use Rattle.qw_types.specs.declared.value.Val.TheVariants.{Null, Num, Date};
 ghost use Rattle.qw_scalar.specs.declared.comparison.Comparison.TheVariants.{Equal, Greater};
 ghost use Rattle.qw_scalar.specs.Evaluation.{cell_of};
-ghost use Rattle.qw_scalar.specs.Expression.{column, comparison, is_null, number};
+ghost use Rattle.qw_scalar.specs.declared.expression.Predicate.TheVariants.{IsNull};
+ghost use Rattle.qw_scalar.specs.Expression.{column, comparison, number, predicate};
 ghost use Rattle.qw_meaning.specs.From.{at_places, entry_flow, from_sources, joined, merged};
 ghost use Rattle.qw_meaning.specs.Outcome.{Raises, Rows, outcome};
 ghost use Rattle.qw_meaning.specs.Select.{alone};
@@ -55,7 +56,7 @@ pub fn worked_left_joins()
         ≡ Rows ((Num (pos 1) ∷ Null ∷ []) ∷ (Num (pos 1) ∷ Null ∷ []) ∷ (Null ∷ Null ∷ []) ∷ []) }
     ensures no_row { outcome (record { sources = a_left_joined_b 2 (comparison Equal (column 0 Integer) (column 64 Integer)) ∷ []; conjuncts = []; items = column 0 Integer ∷ column 64 Integer ∷ [] }) four_tables
         ≡ Rows ((Num (pos 1) ∷ Null ∷ []) ∷ (Num (pos 1) ∷ Null ∷ []) ∷ (Null ∷ Null ∷ []) ∷ []) }
-    ensures behind { outcome (record { sources = a_left_joined_b 1 (comparison Equal (column 0 Integer) (column 64 Integer)) ∷ []; conjuncts = is_null (column 64 Integer) ∷ []; items = column 0 Integer ∷ [] }) four_tables
+    ensures behind { outcome (record { sources = a_left_joined_b 1 (comparison Equal (column 0 Integer) (column 64 Integer)) ∷ []; conjuncts = predicate IsNull (column 64 Integer) ∷ []; items = column 0 Integer ∷ [] }) four_tables
         ≡ Rows ((Null ∷ []) ∷ []) }
 {}
 

@@ -6,7 +6,7 @@ use Rattle.qw_types.specs.Kind.{IsOfKind, type_kind}
 use Rattle.qw_types.specs.declared.value.Val.{Val}
 use Rattle.qw_types.specs.declared.value.Val.TheVariants as val
 use Rattle.qw_scalar.specs.Columns.{HasColumns, HoldsIn}
-use Rattle.qw_scalar.specs.Expression.{Expression, Condition, null, number, date, text, column, arithmetic, negative, extract, brought, choice, comparison, is_null, both, either, negation_of, is}
+use Rattle.qw_scalar.specs.Expression.{Expression, Condition, null, number, date, text, column, arithmetic, negative, extract, brought, choice, comparison, predicate, both, either, negation_of, is}
 use Rattle.qw_leaves.specs.declared.leaf.Leaf.{Leaf}
 use Rattle.qw_leaves.specs.declared.leaf.Leaf.TheVariants as leaf
 use Rattle.qw_leaves.specs.Leaves.{HasLeaves, HaveLeaves, OfColumn, stands_for}
@@ -35,7 +35,7 @@ module _ (known : List Known) where
 
     pub take_known : (c : Condition) → HaveLeaves IsKnown c → TakeKnown known c
     take_known (comparison op a b) h = (takes_known a h.0, takes_known b h.1)
-    take_known (is_null a) h = takes_known a h
+    take_known (predicate p a) h = takes_known a h
     take_known (both c d) h = (take_known c h.0, take_known d h.1)
     take_known (either c d) h = (take_known c h.0, take_known d h.1)
     take_known (negation_of c) h = take_known c h
@@ -56,7 +56,7 @@ module _ (known : List Known) where
 
     pub known_conditions : (c : Condition) → TakeKnown known c → HaveLeaves IsKnown c
     known_conditions (comparison op a b) h = (known_leaves a h.0, known_leaves b h.1)
-    known_conditions (is_null a) h = known_leaves a h
+    known_conditions (predicate p a) h = known_leaves a h
     known_conditions (both c d) h = (known_conditions c h.0, known_conditions d h.1)
     known_conditions (either c d) h = (known_conditions c h.0, known_conditions d h.1)
     known_conditions (negation_of c) h = known_conditions c h

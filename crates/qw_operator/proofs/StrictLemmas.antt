@@ -15,8 +15,8 @@ use Rattle.qw_scalar.specs.declared.comparison.Comparison.TheVariants.{Equal, Gr
 use Rattle.qw_scalar.specs.declared.expression.Operator.{Operator}
 use Rattle.qw_scalar.specs.declared.expression.Expr.{Expr}
 use Rattle.qw_scalar.specs.declared.expression.Cond.{Cond}
-use Rattle.qw_scalar.specs.declared.expression.Expr.TheVariants.{Null, Number, Date, Text, Column, Arithmetic', Negative', Extract', Case', Match', Coalesce', NullIf'}
-use Rattle.qw_scalar.specs.declared.expression.Cond.TheVariants.{Compare', Between', In', IsNull', And', Or', Not', Is'}
+use Rattle.qw_scalar.specs.declared.expression.Expr.TheVariants.{Null, Number, Date, Text, Column, Arithmetic', Negative', Extract', Case', Match', Call'}
+use Rattle.qw_scalar.specs.declared.expression.Cond.TheVariants.{Compare', Between', In', Predicate', And', Or', Not', Is'}
 use Rattle.qw_scalar.specs.Columns.{HaveColumns}
 use Rattle.qw_scalar.specs.Evaluation.{and_then, at_row, cell_of, combined, compared, extracted, negated, or_else, truth_of, value_of}
 use Rattle.qw_scalar.specs.Expression.{Expression, Expressions, among, comparison, last, more, scale_of}
@@ -34,8 +34,8 @@ use Rattle.qw_operator.specs.Guarded.{IsUnknownAt, picked}
 use Rattle.qw_operator.specs.Inner.Strict.{AreTestedBy, IsReadColumn, IsReadLeaf, is_tested, makes_null, makes_unknown}
 
 -- ---- operators on null
-abbrev IsNull : Result Val Code → Type 0
-IsNull r = (v : Val) → r ≡ Ok v → v ≡ val.Null
+abbrev GivesNull : Result Val Code → Type 0
+GivesNull r = (v : Val) → r ≡ Ok v → v ≡ val.Null
 
 abbrev IsUnknown : Result Truth Code → Type 0
 IsUnknown r = (t : Truth) → r ≡ Ok t → t ≡ Unknown
@@ -55,13 +55,13 @@ right_of operator (val.Text t) v sa sb is = cc
 right_null : (operator : Operator) (x y v : Val) (sa sb : ℕ) → y ≡ val.Null → combined operator x sa y sb ≡ Ok v → v ≡ val.Null
 right_null operator x y v sa sb null is = right_of operator x v sa sb (ap (λ (z : Val). combined operator x sa z sb) (sym null) ∙ is)
 
-combined_null : (operator : Operator) (a b : Result Val Code) (sa sb : ℕ) → IsNull a ⊎ IsNull b → IsNull (a >>= (λ x. b >>= (λ y. combined operator x sa y sb)))
+combined_null : (operator : Operator) (a b : Result Val Code) (sa sb : ℕ) → GivesNull a ⊎ GivesNull b → GivesNull (a >>= (λ x. b >>= (λ y. combined operator x sa y sb)))
 combined_null operator (Err c) b sa sb either v is = absurd cc
 combined_null operator (Ok x) (Err c) sa sb either v is = absurd cc
 combined_null operator (Ok x) (Ok y) sa sb (inl f) v is = left_null operator x y v sa sb (f x refl) is
 combined_null operator (Ok x) (Ok y) sa sb (inr f) v is = right_null operator x y v sa sb (f y refl) is
 
-mapped_null : (f : Val → Val) (a : Result Val Code) → f val.Null ≡ val.Null → IsNull a → IsNull (a >>= (λ x. Ok (f x)))
+mapped_null : (f : Val → Val) (a : Result Val Code) → f val.Null ≡ val.Null → GivesNull a → GivesNull (a >>= (λ x. Ok (f x)))
 mapped_null f (Err c) keeps null v is = absurd cc
 mapped_null f (Ok x) keeps null v is =
     let same : f x ≡ v = cc in
@@ -76,7 +76,7 @@ right_unknown op (val.Num n) sa sb = refl
 right_unknown op (val.Date d) sa sb = refl
 right_unknown op (val.Text t) sa sb = refl
 
-compared_unknown : (op : Comparison) (a b : Result Val Code) (sa sb : ℕ) → IsNull a ⊎ IsNull b → IsUnknown (a >>= (λ x. b >>= (λ y. Ok (compared op x sa y sb))))
+compared_unknown : (op : Comparison) (a b : Result Val Code) (sa sb : ℕ) → GivesNull a ⊎ GivesNull b → IsUnknown (a >>= (λ x. b >>= (λ y. Ok (compared op x sa y sb))))
 compared_unknown op (Err c) b sa sb either t is = absurd cc
 compared_unknown op (Ok x) (Err c) sa sb either t is = absurd cc
 compared_unknown op (Ok x) (Ok y) sa sb (inl f) t is =
@@ -108,7 +108,7 @@ not_unknown (Ok u) one t is =
 
 -- ---- trees
 module _ (row : List Val) (i : ℕ) (null_at : cell_of (slice_get row i) ≡ val.Null) where
-  null_of : (e : Expr) → makes_null e i ≡ true → IsNull (value_of (expression_of e) (at_row row))
+  null_of : (e : Expr) → makes_null e i ≡ true → GivesNull (value_of (expression_of e) (at_row row))
   null_of Null makes v is = absurd cc
   null_of (Number n s) makes v is = absurd cc
   null_of (Date d) makes v is = absurd cc
@@ -117,33 +117,32 @@ module _ (row : List Val) (i : ℕ) (null_at : cell_of (slice_get row i) ≡ val
       let same : cell_of (slice_get row j) ≡ v = cc in
       sym same ∙ (ap (λ (k : ℕ). cell_of (slice_get row k)) (eqb-true j i makes) ∙ null_at)
   null_of (Arithmetic' operator x a y b) makes v is =
-      let either : IsNull (value_of (expression_of a) (at_row row)) ⊎ IsNull (value_of (expression_of b) (at_row row)) = ⊎_elim (λ h. inl (null_of a h)) (λ h. inr (null_of b h)) (or_cases (makes_null a i) (makes_null b i) makes) in
+      let either : GivesNull (value_of (expression_of a) (at_row row)) ⊎ GivesNull (value_of (expression_of b) (at_row row)) = ⊎_elim (λ h. inl (null_of a h)) (λ h. inr (null_of b h)) (or_cases (makes_null a i) (makes_null b i) makes) in
       combined_null operator (value_of (expression_of a) (at_row row)) (value_of (expression_of b) (at_row row)) (scale_of (expression_of a)) (scale_of (expression_of b)) either v is
   null_of (Negative' x a) makes v is = mapped_null negated (value_of (expression_of a) (at_row row)) refl (null_of a makes) v is
   null_of (Extract' field x a) makes v is = mapped_null (extracted field) (value_of (expression_of a) (at_row row)) refl (null_of a makes) v is
   null_of (Case' x branches) makes v is = absurd cc
   null_of (Match' x a y matches) makes v is = absurd cc
-  null_of (Coalesce' x arguments) makes v is = absurd cc
-  null_of (NullIf' x a y b) makes v is = absurd cc
+  null_of (Call' function x arguments) makes v is = absurd cc
 
-  comparison_of : (op : Comparison) (a b : Expression) → IsNull (value_of a (at_row row)) ⊎ IsNull (value_of b (at_row row)) → IsUnknown (truth_of (comparison op a b) (at_row row))
+  comparison_of : (op : Comparison) (a b : Expression) → GivesNull (value_of a (at_row row)) ⊎ GivesNull (value_of b (at_row row)) → IsUnknown (truth_of (comparison op a b) (at_row row))
   comparison_of op a b either = compared_unknown op (value_of a (at_row row)) (value_of b (at_row row)) (scale_of a) (scale_of b) either
 
-  among_of : (x : Expression) (es : Expressions) → IsNull (value_of x (at_row row)) → IsUnknown (truth_of (among x es) (at_row row))
+  among_of : (x : Expression) (es : Expressions) → GivesNull (value_of x (at_row row)) → IsUnknown (truth_of (among x es) (at_row row))
   among_of x (last e) null = comparison_of Equal x e (inl null)
   among_of x (more e es) null =
       either_unknown (truth_of (comparison Equal x e) (at_row row)) (truth_of (among x es) (at_row row)) (comparison_of Equal x e (inl null)) (among_of x es null)
 
   pub unknown_of : (c : Cond) → makes_unknown c i ≡ true → IsUnknown (truth_of (condition_of c) (at_row row))
   unknown_of (Compare' op x a y b) makes t is =
-      let either : IsNull (value_of (expression_of a) (at_row row)) ⊎ IsNull (value_of (expression_of b) (at_row row)) = ⊎_elim (λ h. inl (null_of a h)) (λ h. inr (null_of b h)) (or_cases (makes_null a i) (makes_null b i) makes) in
+      let either : GivesNull (value_of (expression_of a) (at_row row)) ⊎ GivesNull (value_of (expression_of b) (at_row row)) = ⊎_elim (λ h. inl (null_of a h)) (λ h. inr (null_of b h)) (or_cases (makes_null a i) (makes_null b i) makes) in
       comparison_of op (expression_of a) (expression_of b) either t is
   unknown_of (Between' x e y a z b) makes t is =
       let null = null_of e makes in
       both_unknown (truth_of (comparison GreaterOrEqual (expression_of e) (expression_of a)) (at_row row)) (truth_of (comparison LessOrEqual (expression_of e) (expression_of b)) (at_row row))
       (comparison_of GreaterOrEqual (expression_of e) (expression_of a) (inl null)) (comparison_of LessOrEqual (expression_of e) (expression_of b) (inl null)) t is
   unknown_of (In' x e y values) makes t is = among_of (expression_of e) (expressions_of values) (null_of e makes) t is
-  unknown_of (IsNull' x a) makes t is = absurd cc
+  unknown_of (Predicate' p x a) makes t is = absurd cc
   unknown_of (And' x c y d) makes t is = absurd cc
   unknown_of (Or' x c y d) makes t is = absurd cc
   unknown_of (Not' x c) makes t is = not_unknown (truth_of (condition_of c) (at_row row)) (unknown_of c makes) t is

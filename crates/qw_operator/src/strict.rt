@@ -37,8 +37,7 @@ fn makes_null(expr: &Expr, column: usize) -> bool
         | Expr::Text(_)
         | Expr::Case(_)
         | Expr::Match(_, _)
-        | Expr::Coalesce(_)
-        | Expr::NullIf(_, _) => false,
+        | Expr::Call(_, _) => false,
     }
 }
 
@@ -51,7 +50,7 @@ fn makes_unknown(cond: &Cond, column: usize) -> bool
         Cond::Between(operand, _, _) => makes_null(operand, column),
         Cond::In(operand, _) => makes_null(operand, column),
         Cond::Not(operand) => makes_unknown(operand, column),
-        Cond::IsNull(_) | Cond::And(_, _) | Cond::Or(_, _) | Cond::Is(_, _) => false,
+        Cond::Predicate(_, _) | Cond::And(_, _) | Cond::Or(_, _) | Cond::Is(_, _) => false,
     }
 }
 

@@ -7,10 +7,11 @@ use Rattle.qw_types.specs.declared.truth.Truth.{Truth}
 use Rattle.qw_token.specs.Token.{Lexeme}
 use Rattle.qw_token.specs.declared.token.Kind.TheVariants.{Word}
 use Rattle.qw_scalar.specs.declared.comparison.Comparison.{Comparison}
+use Rattle.qw_scalar.specs.declared.expression.Predicate.{Predicate}
 use Rattle.qw_ast.specs.Grammar.{folded}
-use Rattle.qw_ast.specs.Syntax.{Expression, text, Condition, comparison, between, among, is_null, both, either, negation_of, is, bracketed, Clause, condition, expression}
-use Rattle.qw_ast.specs.ScriptGrammar.{is_word, is_symbol, is_string, comparison_of, truth_of, likeness, first, IsOperator, operator, AreFurther, IsExpressionOf, arguments, IsOptionalNot, not_absent, not_there, IsValueExpression, IsPredicate, a_comparison, a_between, an_in, a_like, a_null_test, IsBooleanPrimary, predicate, condition_brackets, IsBooleanTest, no_test, a_test, IsBooleanFactor, no_negation, a_negation, is_and, is_or, IsBooleanTerm, IsSearchCondition, IsClause, IsNested}
-use Rattle.qw_parse.specs.Inner.Readers.{token_at, word_at, octets_if, not_at, expression_at, listing_at, condition_at, the_expression, the_condition, sum_at, between_at, in_at, like_at, compare_at, null_test_at, condition_clause, ranged_at, tail_at, predicate_at, truth_test_at, test_at, boolean_factor_at, join_and, join_or, boolean_term_at, clause_at, nested_at}
+use Rattle.qw_ast.specs.Syntax.{Expression, text, Condition, comparison, between, among, predicate, both, either, negation_of, is, bracketed, Clause, condition, expression}
+use Rattle.qw_ast.specs.ScriptGrammar.{is_word, is_symbol, is_string, comparison_of, predicate_of, truth_of, likeness, first, IsOperator, operator, AreFurther, IsExpressionOf, arguments, IsOptionalNot, not_absent, not_there, IsValueExpression, IsPredicate, a_comparison, a_between, an_in, a_like, a_value_test, IsBooleanPrimary, a_predicate, condition_brackets, IsBooleanTest, no_test, a_test, IsBooleanFactor, no_negation, a_negation, is_and, is_or, IsBooleanTerm, IsSearchCondition, IsClause, IsNested}
+use Rattle.qw_parse.specs.Inner.Readers.{token_at, word_at, octets_if, not_at, expression_at, listing_at, condition_at, the_expression, the_condition, sum_at, between_at, in_at, like_at, compare_at, value_test_at, condition_clause, ranged_at, tail_at, predicate_at, truth_test_at, test_at, boolean_factor_at, join_and, join_or, boolean_term_at, clause_at, nested_at}
 use Rattle.qw_parse.proofs.LoopLemmas.{bind_some, some_same, cases_option}
 use Rattle.qw_parse.proofs.TokenLemmas.{word_is, Front, front, one_takes, one_is, one_not, Found, found, token_takes, token_is, octets_found, octets_are, strength, Stops, stops_at, stops_weaker, stops_one, stops_token, strong_symbol, strong_word}
 use Rattle.qw_parse.proofs.ExactLemmas.{Starts, starts_at, Exact, other_word, not_takes, not_is, not_shorter}
@@ -51,6 +52,13 @@ no_strong_word w n e f ts h = stops_one n (is_word w) (λ t i. let s = strong_wo
 
 word_weak : (w : List ℕ) (n m : ℕ) (t : Lexeme) (rest : List Lexeme) → strength (record { kind = Word; octets = w }) ≡ n → folded w ≡ w → n < m → IsTrue (is_word w t) → Stops m (t ∷ rest)
 word_weak w n m t rest e f le h = let s = strong_word w n t e f h in stops_at m t rest (omega (arith, s, le))
+
+predicate_no_not : (t : Lexeme) (p : Predicate) (rest : List Lexeme) → predicate_of t ≡ Some p → word_at (codes "NOT") (t ∷ rest) ≡ None
+predicate_no_not t p rest e =
+    elim (cases_Bool (is_word (codes "NOT") t)) [
+      | inl h ↦ absurd (let i = word_is (codes "NOT") t h in let none : None ≡ Some p = rw (i.0, i.1) at e in cc)
+      | inr h ↦ one_not (is_word (codes "NOT")) t rest h
+    ]
 
 truth_no_not : (t : Lexeme) (v : Truth) (rest : List Lexeme) → truth_of t ≡ Some v → word_at (codes "NOT") (t ∷ rest) ≡ None
 truth_no_not t v rest e =
@@ -148,15 +156,15 @@ module _ (Inner : Clause → List Lexeme → List Lexeme → Type 0) (inner : Li
       let b = bind_some (expression_at (sum_at inner) us) _ z e in
       subst (λ (y : Condition × List Lexeme). IsPredicate Inner y.0 front_ts y.1) (some_same (comparison op x b.0.0, b.0.1) z b.2) (compare_made x b.0.0 op front_ts ts us b.0.1 h f (sum_takes us b.0 b.1))
 
-  null_made : (x : Expression) (negated : Bool) (front_ts ts us vs rest : List Lexeme) → IsValueExpression Inner x front_ts ts → Front (is_word (codes "IS")) ts us → IsOptionalNot negated us vs → Front (is_word (codes "NULL")) vs rest → IsPredicate Inner (is_null negated x) front_ts rest
-  null_made x negated front_ts _ us _ rest h (front w _ f) n (front v _ g) = a_null_test x negated w v front_ts us rest h f n g
+  value_test_made : (x : Expression) (p : Predicate) (negated : Bool) (front_ts ts us vs rest : List Lexeme) → IsValueExpression Inner x front_ts ts → Front (is_word (codes "IS")) ts us → IsOptionalNot negated us vs → Found predicate_of p vs rest → IsPredicate Inner (predicate p negated x) front_ts rest
+  value_test_made x _ negated front_ts _ us _ rest h (front w _ f) n (found p t _ g) = a_value_test x p negated w t front_ts us rest h f n g
 
-  null_takes : (x : Expression) (front_ts ts us : List Lexeme) → IsValueExpression Inner x front_ts ts → Front (is_word (codes "IS")) ts us → (z : Condition × List Lexeme) → null_test_at x us ≡ Some z → IsPredicate Inner z.0 front_ts z.1
-  unfolding null_test_at
-  null_takes x front_ts ts us h f z e =
-      let b = bind_some (word_at (codes "NULL") (not_at us).1) _ z e in
-      subst (λ (y : Condition × List Lexeme). IsPredicate Inner y.0 front_ts y.1) (some_same (is_null (not_at us).0 x, b.0) z b.2)
-      (null_made x (not_at us).0 front_ts ts us (not_at us).1 b.0 h f (not_takes us) (one_takes (is_word (codes "NULL")) (not_at us).1 b.0 b.1))
+  value_test_takes : (x : Expression) (front_ts ts us : List Lexeme) → IsValueExpression Inner x front_ts ts → Front (is_word (codes "IS")) ts us → (z : Condition × List Lexeme) → value_test_at x us ≡ Some z → IsPredicate Inner z.0 front_ts z.1
+  unfolding value_test_at
+  value_test_takes x front_ts ts us h f z e =
+      let p = bind_some (token_at predicate_of (not_at us).1) _ z e in
+      subst (λ (y : Condition × List Lexeme). IsPredicate Inner y.0 front_ts y.1) (some_same (predicate p.0.0 (not_at us).0 x, p.0.1) z p.2)
+      (value_test_made x p.0.0 (not_at us).0 front_ts ts us (not_at us).1 p.0.1 h f (not_takes us) (token_takes predicate_of (not_at us).1 p.0 p.1))
 
   between_made : (x a b : Expression) (negated : Bool) (front_ts ts us vs ws xs rest : List Lexeme) → IsValueExpression Inner x front_ts ts → IsOptionalNot negated ts us → Front (is_word (codes "BETWEEN")) us vs → IsValueExpression Inner a vs ws → Front (is_word (codes "AND")) ws xs → IsValueExpression Inner b xs rest → IsPredicate Inner (between negated x a b) front_ts rest
   between_made x a b negated front_ts ts _ vs _ xs rest h n (front w _ f) i (front v _ g) j = a_between x a b negated w v front_ts ts vs xs rest h n f i g j
@@ -222,7 +230,7 @@ module _ (Inner : Clause → List Lexeme → List Lexeme → Type 0) (inner : Li
       elim (cases_option (token_at comparison_of ts)) [
         | inr op ↦ as_predicate front_ts (compare_at inner op.0.0 x op.0.1) y (rw op.1 at e) (compare_takes x op.0.0 front_ts ts op.0.1 h (token_takes comparison_of ts op.0 op.1))
         | inl no_op ↦ elim (cases_option (word_at (codes "IS") ts)) [
-          | inr us ↦ as_predicate front_ts (null_test_at x us.0) y (rw (no_op, us.1) at e) (null_takes x front_ts ts us.0 h (one_takes (is_word (codes "IS")) ts us.0 us.1))
+          | inr us ↦ as_predicate front_ts (value_test_at x us.0) y (rw (no_op, us.1) at e) (value_test_takes x front_ts ts us.0 h (one_takes (is_word (codes "IS")) ts us.0 us.1))
           | inl no_is ↦ elim (cases_option (ranged_at inner (not_at ts).0 x (not_at ts).1)) [
             | inr read ↦ as_predicate front_ts read.0 y (rw (no_op, no_is, read.1) at e) (λ z some. ranged_takes x (not_at ts).0 front_ts ts (not_at ts).1 h (not_takes ts) read.0 z read.1 some)
             | inl no_range ↦ alone_takes x front_ts ts (not_at ts).0 y h (rw (no_op, no_is, no_range) at e)
@@ -237,17 +245,17 @@ module _ (Inner : Clause → List Lexeme → List Lexeme → Type 0) (inner : Li
 
   to_primary : (c : Clause) (ts rest : List Lexeme) → Of (IsValueExpression Inner) (IsPredicate Inner) c ts rest → Of (IsValueExpression Inner) (IsBooleanPrimary Inner) c ts rest
   to_primary (expression e) ts rest h = h
-  to_primary (condition c) ts rest h = predicate c ts rest h
+  to_primary (condition c) ts rest h = a_predicate c ts rest h
 
-  predicate_of : (c : Clause) (front_ts ts : List Lexeme) → Of (IsValueExpression Inner) (IsBracketed Inner) c front_ts ts → (y : Clause × List Lexeme) → option_map_or (λ x. tail_at inner x ts) (the_expression c) (Some (c, ts)) ≡ Some y → Of (IsValueExpression Inner) (IsBooleanPrimary Inner) y.0 front_ts y.1
-  predicate_of (expression x) front_ts ts h y e = to_primary y.0 front_ts y.1 (tail_takes x front_ts ts h y e)
-  predicate_of (condition c) front_ts ts h y e = subst (λ (w : Clause × List Lexeme). Of (IsValueExpression Inner) (IsBooleanPrimary Inner) w.0 front_ts w.1) (some_same (condition c, ts) y e) (primary_of_condition c front_ts ts h)
+  clause_takes : (c : Clause) (front_ts ts : List Lexeme) → Of (IsValueExpression Inner) (IsBracketed Inner) c front_ts ts → (y : Clause × List Lexeme) → option_map_or (λ x. tail_at inner x ts) (the_expression c) (Some (c, ts)) ≡ Some y → Of (IsValueExpression Inner) (IsBooleanPrimary Inner) y.0 front_ts y.1
+  clause_takes (expression x) front_ts ts h y e = to_primary y.0 front_ts y.1 (tail_takes x front_ts ts h y e)
+  clause_takes (condition c) front_ts ts h y e = subst (λ (w : Clause × List Lexeme). Of (IsValueExpression Inner) (IsBooleanPrimary Inner) w.0 front_ts w.1) (some_same (condition c, ts) y e) (primary_of_condition c front_ts ts h)
 
   predicate_takes : (ts : List Lexeme) (y : Clause × List Lexeme) → predicate_at inner ts ≡ Some y → Of (IsValueExpression Inner) (IsBooleanPrimary Inner) y.0 ts y.1
   unfolding predicate_at
   predicate_takes ts y e =
       let c = bind_some (sum_at inner ts) _ y e in
-      predicate_of c.0.0 ts c.0.1 ((sum_exact Inner inner reads).takes ts c.0 c.1) y c.2
+      clause_takes c.0.0 ts c.0.1 ((sum_exact Inner inner reads).takes ts c.0 c.1) y c.2
 
   begun : (x : Expression) (ts us : List Lexeme) → IsValueExpression Inner x ts us → Stops 5 us → predicate_at inner ts ≡ tail_at inner x us
   unfolding predicate_at
@@ -257,7 +265,7 @@ module _ (Inner : Clause → List Lexeme → List Lexeme → Type 0) (inner : Li
   unfolding tail_at
   tail_compares x t us op e = rw (token_is comparison_of t us op e) refl
 
-  tail_tests : (x : Expression) (t : Lexeme) (us : List Lexeme) → IsTrue (is_word (codes "IS") t) → tail_at inner x (t ∷ us) ≡ condition_clause (null_test_at x us)
+  tail_tests : (x : Expression) (t : Lexeme) (us : List Lexeme) → IsTrue (is_word (codes "IS") t) → tail_at inner x (t ∷ us) ≡ condition_clause (value_test_at x us)
   unfolding tail_at
   tail_tests x t us h = rw (no_comparison (t ∷ us) (word_weak (codes "IS") 3 4 t us refl refl (omega arith) h), one_is (is_word (codes "IS")) t us h) refl
 
@@ -294,9 +302,9 @@ module _ (Inner : Clause → List Lexeme → List Lexeme → Type 0) (inner : Li
   unfolding compare_at
   compare_is x b op us rest h ends = rw (sum_is b us rest h ends) refl
 
-  null_is : (x : Expression) (negated : Bool) (v : Lexeme) (us rest : List Lexeme) → IsOptionalNot negated us (v ∷ rest) → IsTrue (is_word (codes "NULL") v) → null_test_at x us ≡ Some (is_null negated x, rest)
-  unfolding null_test_at
-  null_is x negated v us rest n g = rw (not_is negated us (v ∷ rest) n (other_word (codes "NULL") (codes "NOT") v rest refl refl g), one_is (is_word (codes "NULL")) v rest g) refl
+  value_test_is : (x : Expression) (p : Predicate) (negated : Bool) (t : Lexeme) (us rest : List Lexeme) → IsOptionalNot negated us (t ∷ rest) → predicate_of t ≡ Some p → value_test_at x us ≡ Some (predicate p negated x, rest)
+  unfolding value_test_at
+  value_test_is x p negated t us rest n g = rw (not_is negated us (t ∷ rest) n (predicate_no_not t p rest g), token_is predicate_of t rest p g) refl
 
   predicate_is : (c : Condition) (ts rest : List Lexeme) → IsPredicate Inner c ts rest → Stops 5 rest → predicate_at inner ts ≡ Some (condition c, rest)
   predicate_is _ _ _ (a_comparison a b op t ts us rest h f i) ends =
@@ -317,15 +325,15 @@ module _ (Inner : Clause → List Lexeme → List Lexeme → Type 0) (inner : Li
       begun x ts us h (stops_weaker 4 5 us (omega arith) fronts.0)
       ∙ tail_ranges x negated us (word ∷ t ∷ rest) (like_at negated x (t ∷ rest)) fronts.0 fronts.1 (not_is negated us (word ∷ t ∷ rest) n (other_word (codes "LIKE") (codes "NOT") word (t ∷ rest) refl refl f)) (ranged_like x negated word (t ∷ rest) f)
       ∙ condition_clause_is (like_at negated x (t ∷ rest)) (comparison (likeness negated) x (text t.octets)) rest (like_is x negated t rest g)
-  predicate_is _ _ _ (a_null_test x negated w v ts us rest h f n g) ends =
-      begun x ts (w ∷ us) h (word_weak (codes "IS") 3 5 w us refl refl (omega arith) f) ∙ tail_tests x w us f ∙ condition_clause_is (null_test_at x us) (is_null negated x) rest (null_is x negated v us rest n g)
+  predicate_is _ _ _ (a_value_test x p negated w t ts us rest h f n g) ends =
+      begun x ts (w ∷ us) h (word_weak (codes "IS") 3 5 w us refl refl (omega arith) f) ∙ tail_tests x w us f ∙ condition_clause_is (value_test_at x us) (predicate p negated x) rest (value_test_is x p negated t us rest n g)
 
   brackets_is : (c : Condition) (ts rest : List Lexeme) → IsBracketed Inner c ts rest → Stops 5 rest → predicate_at inner ts ≡ Some (condition c, rest)
   unfolding predicate_at
   brackets_is c ts rest h ends = rw ((sum_exact Inner inner reads).is (condition c) ts rest h ends) refl
 
   primary_is : (c : Condition) (ts rest : List Lexeme) → IsBooleanPrimary Inner c ts rest → Stops 5 rest → predicate_at inner ts ≡ Some (condition c, rest)
-  primary_is _ _ _ (predicate c ts rest h) ends = predicate_is c ts rest h ends
+  primary_is _ _ _ (a_predicate c ts rest h) ends = predicate_is c ts rest h ends
   primary_is _ _ _ (condition_brackets c o k ts rest f h g) ends = brackets_is (bracketed c) (o ∷ ts) rest (between_brackets c o k ts rest f h g) ends
 
   tail_alone : (x : Expression) (ts : List Lexeme) → Stops 3 ts → tail_at inner x ts ≡ Some (expression x, ts)
@@ -344,46 +352,46 @@ module _ (Inner : Clause → List Lexeme → List Lexeme → Type 0) (inner : Li
   alone_is x ts rest h ends = begun x ts rest h (stops_weaker 3 5 rest (omega arith) ends) ∙ tail_alone x rest ends
 
   primary_shorter : (c : Condition) (ts rest : List Lexeme) → IsBooleanPrimary Inner c ts rest → length rest < length ts
-  primary_shorter _ _ _ (predicate _ _ _ (a_comparison a b op t ts us rest h f i)) =
+  primary_shorter _ _ _ (a_predicate _ _ _ (a_comparison a b op t ts us rest h f i)) =
       let p = sum_shorter a ts (t ∷ us) h in
       let q = sum_shorter b us rest i in
       omega (arith, p, q)
-  primary_shorter _ _ _ (predicate _ _ _ (a_between x a b negated word t ts us vs ws rest h n f i g j)) =
+  primary_shorter _ _ _ (a_predicate _ _ _ (a_between x a b negated word t ts us vs ws rest h n f i g j)) =
       let p = sum_shorter x ts us h in
       let m = not_shorter negated us (word ∷ vs) n in
       let q = sum_shorter a vs (t ∷ ws) i in
       let r = sum_shorter b ws rest j in
       omega (arith, p, m, q, r)
-  primary_shorter _ _ _ (predicate _ _ _ (an_in x e es negated word o c ts us vs ws rest h n f g i j k)) =
+  primary_shorter _ _ _ (a_predicate _ _ _ (an_in x e es negated word o c ts us vs ws rest h n f g i j k)) =
       let p = sum_shorter x ts us h in
       let m = not_shorter negated us (word ∷ o ∷ vs) n in
       let q = reads.shorter (expression e) vs ws i in
       let r = further_down Inner inner reads es ws (c ∷ rest) j in
       omega (arith, p, m, q, r)
-  primary_shorter _ _ _ (predicate _ _ _ (a_like x negated word t ts us rest h n f g)) =
+  primary_shorter _ _ _ (a_predicate _ _ _ (a_like x negated word t ts us rest h n f g)) =
       let p = sum_shorter x ts us h in
       let m = not_shorter negated us (word ∷ t ∷ rest) n in
       omega (arith, p, m)
-  primary_shorter _ _ _ (predicate _ _ _ (a_null_test x negated w v ts us rest h f n g)) =
-      let p = sum_shorter x ts (w ∷ us) h in
-      let m = not_shorter negated us (v ∷ rest) n in
-      omega (arith, p, m)
+  primary_shorter _ _ _ (a_predicate _ _ _ (a_value_test x p negated w t ts us rest h f n g)) =
+      let s = sum_shorter x ts (w ∷ us) h in
+      let m = not_shorter negated us (t ∷ rest) n in
+      omega (arith, s, m)
   primary_shorter _ _ _ (condition_brackets c o k ts rest f h g) = let p = reads.shorter (condition c) ts (k ∷ rest) h in omega (arith, p)
 
   primary_begins : (c : Condition) (ts rest : List Lexeme) → IsBooleanPrimary Inner c ts rest → Starts ts
-  primary_begins _ _ _ (predicate _ _ _ (a_comparison a b op t ts us rest h f i)) = sum_begins a ts (t ∷ us) h
-  primary_begins _ _ _ (predicate _ _ _ (a_between x a b negated word t ts us vs ws rest h n f i g j)) = sum_begins x ts us h
-  primary_begins _ _ _ (predicate _ _ _ (an_in x e es negated word o c ts us vs ws rest h n f g i j k)) = sum_begins x ts us h
-  primary_begins _ _ _ (predicate _ _ _ (a_like x negated word t ts us rest h n f g)) = sum_begins x ts us h
-  primary_begins _ _ _ (predicate _ _ _ (a_null_test x negated w v ts us rest h f n g)) = sum_begins x ts (w ∷ us) h
+  primary_begins _ _ _ (a_predicate _ _ _ (a_comparison a b op t ts us rest h f i)) = sum_begins a ts (t ∷ us) h
+  primary_begins _ _ _ (a_predicate _ _ _ (a_between x a b negated word t ts us vs ws rest h n f i g j)) = sum_begins x ts us h
+  primary_begins _ _ _ (a_predicate _ _ _ (an_in x e es negated word o c ts us vs ws rest h n f g i j k)) = sum_begins x ts us h
+  primary_begins _ _ _ (a_predicate _ _ _ (a_like x negated word t ts us rest h n f g)) = sum_begins x ts us h
+  primary_begins _ _ _ (a_predicate _ _ _ (a_value_test x p negated w t ts us rest h f n g)) = sum_begins x ts (w ∷ us) h
   primary_begins _ _ _ (condition_brackets c o k ts rest f h g) = (sum_exact Inner inner reads).begins (condition (bracketed c)) (o ∷ ts) rest (between_brackets c o k ts rest f h g)
 
   primary_no_not : (c : Condition) (ts rest : List Lexeme) → IsBooleanPrimary Inner c ts rest → word_at (codes "NOT") ts ≡ None
-  primary_no_not _ _ _ (predicate _ _ _ (a_comparison a b op t ts us rest h f i)) = expression_no_not Inner inner reads a ts (t ∷ us) h
-  primary_no_not _ _ _ (predicate _ _ _ (a_between x a b negated word t ts us vs ws rest h n f i g j)) = expression_no_not Inner inner reads x ts us h
-  primary_no_not _ _ _ (predicate _ _ _ (an_in x e es negated word o c ts us vs ws rest h n f g i j k)) = expression_no_not Inner inner reads x ts us h
-  primary_no_not _ _ _ (predicate _ _ _ (a_like x negated word t ts us rest h n f g)) = expression_no_not Inner inner reads x ts us h
-  primary_no_not _ _ _ (predicate _ _ _ (a_null_test x negated w v ts us rest h f n g)) = expression_no_not Inner inner reads x ts (w ∷ us) h
+  primary_no_not _ _ _ (a_predicate _ _ _ (a_comparison a b op t ts us rest h f i)) = expression_no_not Inner inner reads a ts (t ∷ us) h
+  primary_no_not _ _ _ (a_predicate _ _ _ (a_between x a b negated word t ts us vs ws rest h n f i g j)) = expression_no_not Inner inner reads x ts us h
+  primary_no_not _ _ _ (a_predicate _ _ _ (an_in x e es negated word o c ts us vs ws rest h n f g i j k)) = expression_no_not Inner inner reads x ts us h
+  primary_no_not _ _ _ (a_predicate _ _ _ (a_like x negated word t ts us rest h n f g)) = expression_no_not Inner inner reads x ts us h
+  primary_no_not _ _ _ (a_predicate _ _ _ (a_value_test x p negated w t ts us rest h f n g)) = expression_no_not Inner inner reads x ts (w ∷ us) h
   primary_no_not _ _ _ (condition_brackets c o k ts rest f h g) = bracketed_no_not Inner inner reads (bracketed c) (o ∷ ts) rest (between_brackets c o k ts rest f h g)
 
   -- ---- a test

@@ -6,7 +6,7 @@ use Rattle.qw_token.specs.Token.{Lexeme}
 use Rattle.qw_token.specs.declared.token.Kind.TheVariants.{Word, Symbol}
 use Rattle.qw_ast.specs.Grammar.{folded}
 use Rattle.qw_ast.specs.declared.script.Sign.{Sign}
-use Rattle.qw_ast.specs.ScriptGrammar.{is_word, is_symbol, is_number, is_string, is_integer, is_name, sign_of, set_function_of, appended, is_comma, Series, first, more, IsOperator, operator, IsNothing, nothing, AreFurther, IsOptionalAll, all_absent, all_there, IsOptionalNot, not_absent, not_there, IsPrecision, no_precision, precision, IsIntervalSign, interval_sign, IsDays, days, Dated, moved, IsDateString, date_string, IsDate}
+use Rattle.qw_ast.specs.ScriptGrammar.{is_word, is_symbol, is_number, is_string, is_integer, is_name, sign_of, function_of, set_function_of, appended, is_comma, Series, first, more, IsOperator, operator, IsNothing, nothing, AreFurther, IsOptionalAll, all_absent, all_there, IsOptionalNot, not_absent, not_there, IsPrecision, no_precision, precision, IsIntervalSign, interval_sign, IsDays, days, Dated, moved, IsDateString, date_string, IsDate}
 use Rattle.qw_parse.specs.Inner.Parser.{is_there}
 use Rattle.qw_parse.specs.Inner.Readers.{token_at, given, one_at, word_at, symbol_at, octets_if, series_at, append, further_at, behind_all, not_at, precision_at, interval_sign_at, days_at, date_string_at, move, date_at}
 use Rattle.qw_parse.proofs.LoopLemmas.{bind_some, some_same, cases_option, Shortens, series_holds, series_is, series_shorter, series_begins}
@@ -17,7 +17,7 @@ use Rattle.qw_parse.proofs.TokenLemmas.{word_is, symbol_is, Front, front, one_ta
 abbrev pub starts : Lexeme → Bool
 starts t =
     (is_number t || is_string t) || (is_name t || ((is_symbol (codes "(") t || (is_symbol (codes "+") t || is_symbol (codes "-") t))
-    || ((is_word (codes "DATE") t || is_word (codes "CASE") t) || ((is_word (codes "COALESCE") t || is_word (codes "NULLIF") t) || (is_word (codes "EXTRACT") t || (is_word (codes "NOT") t || is_there (set_function_of t)))))))
+    || ((is_word (codes "DATE") t || is_word (codes "CASE") t) || (is_there (function_of t) || (is_word (codes "EXTRACT") t || (is_word (codes "NOT") t || is_there (set_function_of t)))))))
 
 -- the first token is such a one
 unfoldable pub Starts : List Lexeme → Type 0

@@ -1,4 +1,5 @@
 mod AcceptLemmas
+mod CallLemmas
 mod ConditionLemmas
 mod ExactLemmas
 mod FunctionLemmas

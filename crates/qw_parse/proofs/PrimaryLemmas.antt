@@ -6,10 +6,11 @@ use Rattle.qw_token.specs.Token.{Lexeme}
 use Rattle.qw_token.specs.declared.token.Kind.{Kind}
 use Rattle.qw_token.specs.declared.token.Kind.TheVariants.{Word, DelimitedIdentifier, CharacterString, Number, Symbol}
 use Rattle.qw_scalar.specs.declared.expression.Field.{Field}
+use Rattle.qw_scalar.specs.declared.expression.Function.{Function}
 use Rattle.qw_ast.specs.Grammar.{folded}
-use Rattle.qw_ast.specs.Syntax.{Expression, null, extract, searched_case, simple_case, coalesce, null_if, Condition, bracketed, Clause, condition, expression, Branching}
-use Rattle.qw_ast.specs.ScriptGrammar.{is_word_kind, is_string_kind, is_number_kind, is_symbol_kind, is_word, is_symbol, is_number, is_string, is_name, field_of, is_when, is_condition, IsOperator, operator, AreFurther, IsResult, null_result, result, Branch, IsBranch, branch, AreBranches, IsElse, no_else, else_result, IsExpressionOf, arguments, branching, IsPrimary, a_searched_case, a_simple_case, a_coalesce, a_null_if, an_extract}
-use Rattle.qw_parse.specs.Inner.Readers.{token_at, one_at, word_at, symbol_at, further_at, expression_at, before_at, listing_at, the_expression, result_at, same, branch_at, branches_at, else_at, case_operand_at, is_absent, case_of, chain_of, chain_at, case_at, coalesce_of, coalesce_at, null_if_at, extract_at, as_clause}
+use Rattle.qw_ast.specs.Syntax.{Expression, null, extract, searched_case, simple_case, call, Condition, bracketed, Clause, condition, expression, Branching}
+use Rattle.qw_ast.specs.ScriptGrammar.{is_word_kind, is_string_kind, is_number_kind, is_symbol_kind, is_word, is_symbol, is_number, is_string, is_name, field_of, function_of, takes, is_when, is_condition, IsOperator, operator, AreFurther, IsResult, null_result, result, Branch, IsBranch, branch, AreBranches, IsElse, no_else, else_result, IsExpressionOf, arguments, branching, IsPrimary, a_searched_case, a_simple_case, a_call, an_extract}
+use Rattle.qw_parse.specs.Inner.Readers.{token_at, one_at, word_at, symbol_at, further_at, expression_at, before_at, listing_at, the_expression, result_at, same, branch_at, branches_at, else_at, case_operand_at, is_absent, case_of, chain_of, chain_at, case_at, call_of, call_at, extract_at, as_clause}
 use Rattle.qw_parse.proofs.LoopLemmas.{bind_some, some_same, cases_option}
 use Rattle.qw_parse.proofs.TokenLemmas.{word_is, Front, front, one_takes, one_is, Found, found, token_takes, token_is, choose, strength, Stops, strong_word}
 use Rattle.qw_parse.proofs.ExactLemmas.{Starts, starts_not, Exact, operator_stops, series_front, list_takes, list_is, list_shorter, no_comma, further_takes, further_is, further_shorter, further_stops, other_word, word_stops, symbol_stops, EndsDate}
@@ -358,11 +359,13 @@ module _ (Inner : Clause → List Lexeme → List Lexeme → Type 0) (inner : Li
 
   -- ---- functions
 
-  coalesce_made : (word : Lexeme) → IsTrue (is_word (codes "COALESCE") word) → (e : Expression) (es : List Expression) (x : Expression) (ts us vs ws rest : List Lexeme)
-      → Front (is_symbol (codes "(")) ts us → Inner (expression e) us vs → AreFurther (IsExpressionOf Inner) es vs ws → Front (is_symbol (codes ")")) ws rest → coalesce_of e es ≡ Some x → IsPrimary Inner x (word ∷ ts) rest
-  coalesce_made word w e [] x ts us vs ws rest f i h g made = absurd cc
-  coalesce_made word w e (y ∷ es) x _ us vs _ rest (front o _ f) i h (front c _ g) made =
-      subst (λ z. IsPrimary Inner z (word ∷ o ∷ us) rest) (some_same (coalesce (arguments e (y ∷ es))) x made) (a_coalesce e y es word o c us vs rest w f i h g)
+  call_made : (f : Function) (word : Lexeme) → function_of word ≡ Some f → (e : Expression) (es : List Expression) (x : Expression) (ts us vs ws rest : List Lexeme)
+      → Front (is_symbol (codes "(")) ts us → Inner (expression e) us vs → AreFurther (IsExpressionOf Inner) es vs ws → Front (is_symbol (codes ")")) ws rest → call_of f e es ≡ Some x → IsPrimary Inner x (word ∷ ts) rest
+  call_made f word w e es x _ us vs _ rest (front o _ p) i h (front c _ g) made =
+      elim (choose (takes f (length es)) _ _ x made) [
+        | inl many ↦ subst (λ z. IsPrimary Inner z (word ∷ o ∷ us) rest) (some_same (call f (arguments e es)) x many.1) (a_call f e es word o c us vs rest w p i h g many.0)
+        | inr few ↦ absurd (let none : None ≡ Some x = few.1 in cc)
+      ]
 
   pub listing_takes : (ts : List Lexeme) (y : (Expression × List Expression) × List Lexeme) → listing_at inner ts ≡ Some y
       → (us : List Lexeme) × (vs : List Lexeme) × (ws : List Lexeme) × Front (is_symbol (codes "(")) ts us × Inner (expression y.0.0) us vs × AreFurther (IsExpressionOf Inner) y.0.1 vs ws × Front (is_symbol (codes ")")) ws y.1
@@ -377,14 +380,14 @@ module _ (Inner : Clause → List Lexeme → List Lexeme → Type 0) (inner : Li
       (some_same ((e.0.0, es.0.0), rest.0) y rest.2)
       (us.0, e.0.1, es.0.1, one_takes (is_symbol (codes "(")) ts us.0 us.1, expression_takes us.0 e.0 e.1, further_takes expression_exact e.0.1 es.0 es.1, one_takes (is_symbol (codes ")")) es.0.1 rest.0 rest.1)
 
-  pub coalesce_takes : (word : Lexeme) → IsTrue (is_word (codes "COALESCE") word) → (ts : List Lexeme) (x : Expression × List Lexeme) → coalesce_at inner ts ≡ Some x → IsPrimary Inner x.0 (word ∷ ts) x.1
-  unfolding coalesce_at
-  coalesce_takes word w ts x h =
+  pub call_takes : (f : Function) (word : Lexeme) → function_of word ≡ Some f → (ts : List Lexeme) (x : Expression × List Lexeme) → call_at inner f ts ≡ Some x → IsPrimary Inner x.0 (word ∷ ts) x.1
+  unfolding call_at
+  call_takes f word w ts x h =
       let l = bind_some (listing_at inner ts) _ x h in
-      let c = bind_some (coalesce_of l.0.0.0 l.0.0.1) _ x l.2 in
+      let c = bind_some (call_of f l.0.0.0 l.0.0.1) _ x l.2 in
       let parts = listing_takes ts l.0 l.1 in
       subst (λ (y : Expression × List Lexeme). IsPrimary Inner y.0 (word ∷ ts) y.1) (some_same (c.0, l.0.1) x c.2)
-      (coalesce_made word w l.0.0.0 l.0.0.1 c.0 ts parts.0 parts.1 parts.2 l.0.1 parts.3 parts.4 parts.5 parts.6 c.1)
+      (call_made f word w l.0.0.0 l.0.0.1 c.0 ts parts.0 parts.1 parts.2 l.0.1 parts.3 parts.4 parts.5 parts.6 c.1)
 
   pub closing_ends : (c : Lexeme) (rest : List Lexeme) → IsTrue (is_symbol (codes ")") c) → Stops 1 (c ∷ rest)
   closing_ends c rest h = symbol_stops (codes ")") 1 c rest refl (omega arith) h
@@ -400,29 +403,10 @@ module _ (Inner : Clause → List Lexeme → List Lexeme → Type 0) (inner : Li
         one_is (is_symbol (codes ")")) c rest g,
       ) refl
 
-  pub coalesce_is : (e y : Expression) (es : List Expression) (o c : Lexeme) (ts us rest : List Lexeme) → IsTrue (is_symbol (codes "(") o) → Inner (expression e) ts us → AreFurther (IsExpressionOf Inner) (y ∷ es) us (c ∷ rest) → IsTrue (is_symbol (codes ")") c) → coalesce_at inner (o ∷ ts) ≡ Some (coalesce (arguments e (y ∷ es)), rest)
-  unfolding coalesce_at
-  coalesce_is e y es o c ts us rest f i h g = rw (listing_is e (y ∷ es) o c ts us rest f i h g) refl
-
-  null_if_made : (word : Lexeme) → IsTrue (is_word (codes "NULLIF") word) → (a b : Expression) (ts us vs ws xs rest : List Lexeme)
-      → Front (is_symbol (codes "(")) ts us → Inner (expression a) us vs → Front (is_symbol (codes ",")) vs ws → Inner (expression b) ws xs → Front (is_symbol (codes ")")) xs rest → IsPrimary Inner (null_if a b) (word ∷ ts) rest
-  null_if_made word w a b _ us _ ws _ rest (front o _ f) i (front m _ g) j (front c _ k) = a_null_if a b word o m c us ws rest w f i g j k
-
-  pub null_if_takes : (word : Lexeme) → IsTrue (is_word (codes "NULLIF") word) → (ts : List Lexeme) (x : Expression × List Lexeme) → null_if_at inner ts ≡ Some x → IsPrimary Inner x.0 (word ∷ ts) x.1
-  unfolding null_if_at
-  null_if_takes word w ts x h =
-      let us = bind_some (symbol_at (codes "(") ts) _ x h in
-      let a = bind_some (before_at inner (codes ",") us.0) _ x us.2 in
-      let b = bind_some (before_at inner (codes ")") a.0.1) _ x a.2 in
-      let vs = before_some inner (codes ",") us.0 a.0 a.1 in
-      let ws = before_some inner (codes ")") a.0.1 b.0 b.1 in
-      subst (λ (y : Expression × List Lexeme). IsPrimary Inner y.0 (word ∷ ts) y.1) (some_same (null_if a.0.0 b.0.0, b.0.1) x b.2)
-      (null_if_made word w a.0.0 b.0.0 ts us.0 vs.0 a.0.1 ws.0 b.0.1 (one_takes (is_symbol (codes "(")) ts us.0 us.1) (expression_takes us.0 (a.0.0, vs.0) vs.1) (one_takes (is_symbol (codes ",")) vs.0 a.0.1 vs.2) (expression_takes a.0.1 (b.0.0, ws.0) ws.1) (one_takes (is_symbol (codes ")")) ws.0 b.0.1 ws.2))
-
-  pub null_if_is : (a b : Expression) (o m c : Lexeme) (ts us rest : List Lexeme) → IsTrue (is_symbol (codes "(") o) → Inner (expression a) ts (m ∷ us) → IsTrue (is_symbol (codes ",") m) → Inner (expression b) us (c ∷ rest) → IsTrue (is_symbol (codes ")") c) → null_if_at inner (o ∷ ts) ≡ Some (null_if a b, rest)
-  unfolding null_if_at before_at
-  null_if_is a b o m c ts us rest f i g j k =
-      rw (one_is (is_symbol (codes "(")) o ts f, expression_is a ts (m ∷ us) i (symbol_stops (codes ",") 1 m us refl (omega arith) g), one_is (is_symbol (codes ",")) m us g, expression_is b us (c ∷ rest) j (closing_ends c rest k), one_is (is_symbol (codes ")")) c rest k) refl
+  pub call_is : (f : Function) (e : Expression) (es : List Expression) (o c : Lexeme) (ts us rest : List Lexeme) → IsTrue (is_symbol (codes "(") o) → Inner (expression e) ts us → AreFurther (IsExpressionOf Inner) es us (c ∷ rest) → IsTrue (is_symbol (codes ")") c)
+      → IsTrue (takes f (length es)) → call_at inner f (o ∷ ts) ≡ Some (call f (arguments e es), rest)
+  unfolding call_at
+  call_is f e es o c ts us rest p i h g many = rw (listing_is e es o c ts us rest p i h g, many) refl
 
   extract_made : (word : Lexeme) → IsTrue (is_word (codes "EXTRACT") word) → (field : Field) (e : Expression) (ts us vs ws xs rest : List Lexeme)
       → Front (is_symbol (codes "(")) ts us → Found field_of field us vs → Front (is_word (codes "FROM")) vs ws → Inner (expression e) ws xs → Front (is_symbol (codes ")")) xs rest → IsPrimary Inner (extract field e) (word ∷ ts) rest

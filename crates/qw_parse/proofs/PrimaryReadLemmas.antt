@@ -4,14 +4,15 @@ use Rattle.std.proofs.Common.{◌≡◌, ℕ, Bool, true, false, cond, List, [],
 use Rattle.std.specs.Prelude.{codes}
 use Rattle.std.specs.Option.{option_map_or}
 use Rattle.qw_token.specs.Token.{Lexeme}
+use Rattle.qw_scalar.specs.declared.expression.Function.{Function}
 use Rattle.qw_ast.specs.declared.script.Expr.{Expr}
 use Rattle.qw_ast.specs.declared.script.SetFunction.{SetFunction}
-use Rattle.qw_ast.specs.ScriptGrammar.{set_function_of}
+use Rattle.qw_ast.specs.ScriptGrammar.{function_of, set_function_of}
 use Rattle.qw_ast.specs.Syntax.{Expression, Clause, expression, date}
 use Rattle.qw_ast.specs.SyntaxTree.{expression_of}
 use Rattle.qw_parse.specs.declared.read.parser.Stop.{Stop}
 use Rattle.qw_parse.specs.Inner.Parser.{Reads, is_there}
-use Rattle.qw_parse.specs.Inner.Readers.{◌>>=◌, one_at, token_at, word_at, octets_if, as_clause, case_at, coalesce_at, null_if_at, extract_at, set_function_at, date_at, column_at, other_at, keyed_at, primary_at, primary_by}
+use Rattle.qw_parse.specs.Inner.Readers.{◌>>=◌, one_at, token_at, word_at, octets_if, as_clause, case_at, call_at, extract_at, set_function_at, date_at, column_at, other_at, keyed_at, primary_at, primary_by}
 
 -- ---- one token
 
@@ -39,6 +40,14 @@ function_or f t ts d = by_found (set_function_of t) f ts d
     by_found None f ts d = refl
     by_found (Some x) f ts d = refl
 
+call_or : {A : Type 0} (f : Function × List Lexeme → A) (t : Lexeme) (ts : List Lexeme) (d : A) → option_map_or f (token_at function_of (t ∷ ts)) d ≡ option_map_or (λ x. f (x, ts)) (function_of t) d
+unfolding token_at
+call_or f t ts d = by_found (function_of t) f ts d
+  where
+    by_found : {A : Type 0} (o : Option Function) (f : Function × List Lexeme → A) (ts : List Lexeme) (d : A) → option_map_or f (o >>= (λ x. Some (x, ts))) d ≡ option_map_or (λ x. f (x, ts)) o d
+    by_found None f ts d = refl
+    by_found (Some x) f ts d = refl
+
 nothing_same : (inner : List Lexeme → Option (Clause × List Lexeme)) → primary_at inner [] ≡ primary_by inner []
 unfolding primary_at primary_by keyed_at other_at token_at one_at column_at as_clause
 nothing_same inner = refl
@@ -46,7 +55,7 @@ nothing_same inner = refl
 pub primary_same : (inner : List Lexeme → Option (Clause × List Lexeme)) (ts : List Lexeme) → primary_at inner ts ≡ primary_by inner ts
 unfolding primary_at primary_by keyed_at other_at
 primary_same inner [] = nothing_same inner
-primary_same inner (t ∷ ts) = simp (octets_or, one_or, function_or)
+primary_same inner (t ∷ ts) = simp (octets_or, one_or, call_or, function_or)
 
 -- ---- a primary that begins with a word
 
@@ -64,9 +73,9 @@ pub not_there : {A : Type 0} (o : Option A) → false ≡ is_there o → o ≡ N
 not_there None e = refl
 not_there (Some x) e = absurd cc
 
--- The key words that were asked for before, in vain: after each the tokens are the same.
-pub record Past (word : List ℕ) (ts us : List Lexeme) : Type 0 where
-  pub absent : word_at word ts ≡ None
+-- What was asked for before, in vain: after it the tokens are the same.
+pub record Past {A : Type 0} (found : Option A) (ts us : List Lexeme) : Type 0 where
+  pub absent : found ≡ None
   pub kept : us ≡ ts
 
 module _ (inner : List Lexeme → Option (Clause × List Lexeme)) (ts : List Lexeme) where
@@ -74,36 +83,26 @@ module _ (inner : List Lexeme → Option (Clause × List Lexeme)) (ts : List Lex
   unfolding keyed_at
   keyed_case rest e = rw e refl
 
-  module _ (us : List Lexeme) (no_case : Past (codes "CASE") ts us) where
-    pub keyed_coalesce : (rest : List Lexeme) → word_at (codes "COALESCE") us ≡ Some rest → keyed_at inner ts ≡ as_clause (coalesce_at inner rest)
+  module _ (us : List Lexeme) (no_case : Past (word_at (codes "CASE") ts) ts us) where
+    pub keyed_call : (f : Function) (rest : List Lexeme) → token_at function_of us ≡ Some (f, rest) → keyed_at inner ts ≡ as_clause (call_at inner f rest)
     unfolding keyed_at
-    keyed_coalesce rest e = let found = rw no_case.kept at e in rw (no_case.absent, found) refl
+    keyed_call f rest e = let found = rw no_case.kept at e in rw (no_case.absent, found) refl
 
-    module _ (vs : List Lexeme) (no_coalesce : Past (codes "COALESCE") us vs) where
-      pub keyed_null_if : (rest : List Lexeme) → word_at (codes "NULLIF") vs ≡ Some rest → keyed_at inner ts ≡ as_clause (null_if_at inner rest)
+    module _ (vs : List Lexeme) (no_call : Past (token_at function_of us) us vs) where
+      pub keyed_extract : (rest : List Lexeme) → word_at (codes "EXTRACT") vs ≡ Some rest → keyed_at inner ts ≡ as_clause (extract_at inner rest)
       unfolding keyed_at
-      keyed_null_if rest e =
-          let second = rw no_case.kept at no_coalesce.absent in
-          let found = rw (no_coalesce.kept, no_case.kept) at e in
+      keyed_extract rest e =
+          let second = rw no_case.kept at no_call.absent in
+          let found = rw (no_call.kept, no_case.kept) at e in
           rw (no_case.absent, second, found) refl
 
-      module _ (ws : List Lexeme) (no_null_if : Past (codes "NULLIF") vs ws) where
-        pub keyed_extract : (rest : List Lexeme) → word_at (codes "EXTRACT") ws ≡ Some rest → keyed_at inner ts ≡ as_clause (extract_at inner rest)
+      module _ (ws : List Lexeme) (no_extract : Past (word_at (codes "EXTRACT") vs) vs ws) where
+        pub keyed_other : keyed_at inner ts ≡ other_at inner ws
         unfolding keyed_at
-        keyed_extract rest e =
-            let second = rw no_case.kept at no_coalesce.absent in
-            let third = rw (no_coalesce.kept, no_case.kept) at no_null_if.absent in
-            let found = rw (no_null_if.kept, no_coalesce.kept, no_case.kept) at e in
-            rw (no_case.absent, second, third, found) refl
-
-        module _ (xs : List Lexeme) (no_extract : Past (codes "EXTRACT") ws xs) where
-          pub keyed_other : keyed_at inner ts ≡ other_at inner xs
-          unfolding keyed_at
-          keyed_other =
-              let second = rw no_case.kept at no_coalesce.absent in
-              let third = rw (no_coalesce.kept, no_case.kept) at no_null_if.absent in
-              let fourth = rw (no_null_if.kept, no_coalesce.kept, no_case.kept) at no_extract.absent in
-              rw (no_case.absent, second, third, fourth, no_extract.kept, no_null_if.kept, no_coalesce.kept, no_case.kept) refl
+        keyed_other =
+            let second = rw no_case.kept at no_call.absent in
+            let third = rw (no_call.kept, no_case.kept) at no_extract.absent in
+            rw (no_case.absent, second, third, no_extract.kept, no_call.kept, no_case.kept) refl
 
 -- ---- a set function, a date or a column reference
 

@@ -3,8 +3,8 @@ use Rattle.std.proofs.Common.{◌≡◌, ◌<◌, ◌≤◌, Bool, true, false, 
 use Rattle.std.specs.Prelude.{codes, IsTrue}
 use Rattle.qw_token.specs.Token.{Lexeme}
 use Rattle.qw_ast.specs.Syntax.{Condition, Clause, condition, expression, SelectItem, Selected, all_columns, items, Entry, Joined, Source, Reference, SortSpecification, Select}
-use Rattle.qw_ast.specs.ScriptGrammar.{is_word, is_symbol, is_comma, appended, first, more, IsNothing, nothing, AreFurther, IsNested, IsItem, item, IsSelectList, asterisk, some_items, IsQuantifier, no_quantifier, all_rows, distinct_rows, IsFilter, unfiltered, filtered, IsEntry, IsJoin, IsJoined, a_joined, with_join, AreJoins, IsSource, a_source, AreSources, some_sources, IsGrouping, IsHaving, no_having, a_having, IsOrder, IsSelect, a_select, IsSelectOf}
-use Rattle.qw_parse.specs.Inner.Readers.{token_at, word_at, symbol_at, given, append, further_at, expression_at, condition_at, the_condition, nested_at, naming_at, item_at, select_list_at, quantifier_at, filter_at, entry_at, join_at, joined_at, join_on, joins_at, source_at, sources_at, grouping_at, having_at, order_at, select_at, whole, select_of}
+use Rattle.qw_ast.specs.ScriptGrammar.{is_word, is_symbol, is_comma, first, more, IsNothing, nothing, AreFurther, IsNested, IsItem, item, IsSelectList, asterisk, some_items, IsQuantifier, no_quantifier, all_rows, distinct_rows, IsFilter, unfiltered, filtered, IsEntry, IsJoin, IsJoined, a_joined, with_join, AreJoins, IsSource, a_source, AreSources, some_sources, IsGrouping, IsHaving, no_having, a_having, IsOrder, IsSelect, a_select, IsSelectOf}
+use Rattle.qw_parse.specs.Inner.Readers.{token_at, word_at, symbol_at, given, further_at, expression_at, condition_at, the_condition, nested_at, naming_at, item_at, select_list_at, quantifier_at, filter_at, entry_at, join_at, joined_at, join_on, joins_at, source_at, sources_at, grouping_at, having_at, order_at, select_at, whole, select_of}
 use Rattle.qw_parse.proofs.LoopLemmas.{Shortens, bind_some, cases_option, series_holds, series_is, some_same}
 use Rattle.qw_parse.proofs.TokenLemmas.{word_is, Front, front, one_takes, one_is, token_not, Stops}
 use Rattle.qw_parse.proofs.ExactLemmas.{Starts, starts_not, starts_no_asterisk, Exact, series_front, list_takes, list_is, no_word, other_word, word_stops}

@@ -5,18 +5,20 @@ use Rattle.std.proofs.lemmas.Bool.{cases_Bool, or_left, or_right}
 use Rattle.qw_token.specs.Token.{Lexeme}
 use Rattle.qw_token.specs.declared.token.Kind.TheVariants.{Word, Symbol}
 use Rattle.qw_scalar.specs.declared.expression.Operator.{Operator}
+use Rattle.qw_scalar.specs.declared.expression.Function.{Function}
 use Rattle.qw_ast.specs.declared.script.Sign.{Sign}
 use Rattle.qw_ast.specs.declared.script.SetFunction.{SetFunction}
 use Rattle.qw_ast.specs.declared.script.SetFunction.TheVariants.{Count, Sum, Avg, Min, Max}
 use Rattle.qw_ast.specs.Grammar.{folded}
 use Rattle.qw_ast.specs.Syntax.{Expression, number, text, date, column, signed, arithmetic, Condition, Clause, condition, expression}
-use Rattle.qw_ast.specs.ScriptGrammar.{is_word, is_symbol, is_number, is_string, is_name, sign_of, addition_of, multiplication_of, set_function_of, Series, first, IsOperator, operator, Dated, IsPrimary, a_number, a_string, a_date, a_column, a_qualified_column, brackets, a_searched_case, a_simple_case, a_coalesce, a_null_if, an_extract, a_row_count, a_set_function, IsFactor, unsigned_factor, signed_factor, IsTerm, IsValueExpression}
-use Rattle.qw_parse.specs.Inner.Readers.{◌>>=◌, token_at, word_at, symbol_at, octets_if, the_expression, case_at, coalesce_at, null_if_at, extract_at, set_function_at, brackets_at, column_at, date_at, as_clause, in_brackets, primary_of, primary_at, interval_sign_at, factor_at, join_arithmetic, term_at, sum_at}
+use Rattle.qw_ast.specs.ScriptGrammar.{is_word, is_symbol, is_number, is_string, is_name, sign_of, addition_of, multiplication_of, function_of, set_function_of, Series, first, IsOperator, operator, Dated, IsPrimary, a_number, a_string, a_date, a_column, a_qualified_column, brackets, a_searched_case, a_simple_case, a_call, an_extract, a_row_count, a_set_function, IsFactor, unsigned_factor, signed_factor, IsTerm, IsValueExpression}
+use Rattle.qw_parse.specs.Inner.Readers.{◌>>=◌, token_at, word_at, symbol_at, octets_if, the_expression, case_at, call_at, extract_at, set_function_at, brackets_at, column_at, date_at, as_clause, in_brackets, primary_of, primary_at, interval_sign_at, factor_at, join_arithmetic, term_at, sum_at}
 use Rattle.qw_parse.proofs.LoopLemmas.{bind_some, some_same, cases_option, series_begins}
 use Rattle.qw_parse.proofs.TokenLemmas.{word_is, symbol_is, Front, front, one_takes, one_is, one_not, Found, found, token_takes, token_is, token_not, octets_found, octets_are, choose, strength, Stops, stops_at, stops_weaker, stops_one, stops_token, strong_symbol}
 use Rattle.qw_parse.proofs.RankLemmas.{rank_exact}
 use Rattle.qw_parse.proofs.ExactLemmas.{starts, Starts, starts_at, starts_not, Exact, all_shorter, other_word, date_takes, date_is, date_shorter, date_begins}
-use Rattle.qw_parse.proofs.PrimaryLemmas.{the_expression_is, string_no_number, name_kind, name_no_symbol, name_no_word, number_no_symbol, string_no_symbol, number_no_word, string_no_word, Of, IsBracketed, between_brackets, EndsPrimary, as_clause_some, as_clause_is, case_takes, searched_is, simple_is, coalesce_takes, coalesce_is, null_if_takes, null_if_is, extract_takes, extract_is, closing_ends, branches_shorter, else_shorter, further_down}
+use Rattle.qw_parse.proofs.PrimaryLemmas.{the_expression_is, string_no_number, name_kind, name_no_symbol, name_no_word, number_no_symbol, string_no_symbol, number_no_word, string_no_word, Of, IsBracketed, between_brackets, EndsPrimary, as_clause_some, as_clause_is, case_takes, searched_is, simple_is, call_takes, call_is, extract_takes, extract_is, closing_ends, branches_shorter, else_shorter, further_down}
+use Rattle.qw_parse.proofs.CallLemmas.{call_word_of, call_word, folded_call, call_no_case, call_no_not, call_begins, name_no_call}
 use Rattle.qw_parse.proofs.FunctionLemmas.{word_of, function_word, folded_word, word_no_not, word_begins, name_no_function, rows_are, set_function_takes, set_function_is}
 
 -- ---- what the operators are
@@ -180,18 +182,15 @@ module _ (Inner : Clause → List Lexeme → List Lexeme → Type 0) (inner : Li
             | inl h ↦ brackets_takes t h.0 ts x h.1
             | inr e3 ↦ elim (choose (is_word (codes "CASE") t) _ _ x e3.1) [
               | inl h ↦ as_primary (t ∷ ts) (case_at inner ts) x h.1 (case_takes Inner inner reads t h.0 ts)
-              | inr e4 ↦ elim (choose (is_word (codes "COALESCE") t) _ _ x e4.1) [
-                | inl h ↦ as_primary (t ∷ ts) (coalesce_at inner ts) x h.1 (coalesce_takes Inner inner reads t h.0 ts)
-                | inr e5 ↦ elim (choose (is_word (codes "NULLIF") t) _ _ x e5.1) [
-                  | inl h ↦ as_primary (t ∷ ts) (null_if_at inner ts) x h.1 (null_if_takes Inner inner reads t h.0 ts)
-                  | inr e6 ↦ elim (choose (is_word (codes "EXTRACT") t) _ _ x e6.1) [
-                    | inl h ↦ as_primary (t ∷ ts) (extract_at inner ts) x h.1 (extract_takes Inner inner reads t h.0 ts)
-                    | inr e7 ↦ elim (cases_option (set_function_of t)) [
-                      | inr f ↦ as_primary (t ∷ ts) (set_function_at inner f.0 ts) x (rw f.1 at e7.1) (set_function_takes Inner inner reads t f.0 f.1 ts)
-                      | inl none ↦ elim (choose (is_word (codes "DATE") t) _ _ x (rw none at e7.1)) [
-                        | inl h ↦ as_primary (t ∷ ts) _ x h.1 (date_made (t ∷ ts))
-                        | inr e8 ↦ as_primary (t ∷ ts) (column_at (t ∷ ts)) x e8.1 (column_takes (t ∷ ts))
-                      ]
+              | inr e4 ↦ elim (cases_option (function_of t)) [
+                | inr f ↦ as_primary (t ∷ ts) (call_at inner f.0 ts) x (rw f.1 at e4.1) (call_takes Inner inner reads f.0 t f.1 ts)
+                | inl no_call ↦ elim (choose (is_word (codes "EXTRACT") t) _ _ x (rw no_call at e4.1)) [
+                  | inl h ↦ as_primary (t ∷ ts) (extract_at inner ts) x h.1 (extract_takes Inner inner reads t h.0 ts)
+                  | inr e5 ↦ elim (cases_option (set_function_of t)) [
+                    | inr f ↦ as_primary (t ∷ ts) (set_function_at inner f.0 ts) x (rw f.1 at e5.1) (set_function_takes Inner inner reads t f.0 f.1 ts)
+                    | inl none ↦ elim (choose (is_word (codes "DATE") t) _ _ x (rw none at e5.1)) [
+                      | inl h ↦ as_primary (t ∷ ts) _ x h.1 (date_made (t ∷ ts))
+                      | inr e6 ↦ as_primary (t ∷ ts) (column_at (t ∷ ts)) x e6.1 (column_takes (t ∷ ts))
                     ]
                   ]
                 ]
@@ -212,7 +211,7 @@ module _ (Inner : Clause → List Lexeme → List Lexeme → Type 0) (inner : Li
   unfolding primary_at
   name_primary t ts h =
       let k = name_kind t t.kind refl h in
-      rw (k.0, k.1, name_no_symbol (codes "(") t h, name_no_word (codes "CASE") t refl refl h, name_no_word (codes "COALESCE") t refl refl h, name_no_word (codes "NULLIF") t refl refl h, name_no_word (codes "EXTRACT") t refl refl h, name_no_function t h, name_no_word (codes "DATE") t refl refl h) refl
+      rw (k.0, k.1, name_no_symbol (codes "(") t h, name_no_word (codes "CASE") t refl refl h, name_no_call t h, name_no_word (codes "EXTRACT") t refl refl h, name_no_function t h, name_no_word (codes "DATE") t refl refl h) refl
 
   function_primary : (t : Lexeme) (f : SetFunction) (ts : List Lexeme) → set_function_of t ≡ Some f → primary_at inner (t ∷ ts) ≡ as_clause (set_function_at inner f ts)
   unfolding primary_at
@@ -221,6 +220,15 @@ module _ (Inner : Clause → List Lexeme → List Lexeme → Type 0) (inner : Li
   function_primary t Avg ts e = let is = word_is (codes "AVG") t (function_word t Avg e) in rw (is.0, is.1) refl
   function_primary t Min ts e = let is = word_is (codes "MIN") t (function_word t Min e) in rw (is.0, is.1) refl
   function_primary t Max ts e = let is = word_is (codes "MAX") t (function_word t Max e) in rw (is.0, is.1) refl
+
+  call_primary : (t : Lexeme) (f : Function) (ts : List Lexeme) → function_of t ≡ Some f → primary_at inner (t ∷ ts) ≡ as_clause (call_at inner f ts)
+  unfolding primary_at
+  call_primary t f ts e =
+      let is = word_is (call_word_of f) t (call_word t f e) in
+      let number : is_number t ≡ false = rw is.0 refl in
+      let string : is_string t ≡ false = rw is.0 refl in
+      let opening : is_symbol (codes "(") t ≡ false = rw is.0 refl in
+      rw (number, string, opening, call_no_case t f e, e) refl
 
   date_step : (d : Dated) (ts rest : List Lexeme) (o : Option (Expression × List Lexeme)) → date_at ts ≡ Some (d, rest) → o ≡ (date_at ts >>= (λ x. Some (date x.0.string x.0.intervals, x.1))) → o ≡ Some (date d.string d.intervals, rest)
   date_step d ts rest o e same = same ∙ rw e refl
@@ -233,11 +241,10 @@ module _ (Inner : Clause → List Lexeme → List Lexeme → Type 0) (inner : Li
       let string : is_string t ≡ false = rw is.0 refl in
       let opening : is_symbol (codes "(") t ≡ false = rw is.0 refl in
       let case : is_word (codes "CASE") t ≡ false = rw (is.0, is.1) refl in
-      let coalesce_word : is_word (codes "COALESCE") t ≡ false = rw (is.0, is.1) refl in
-      let null_if_word : is_word (codes "NULLIF") t ≡ false = rw (is.0, is.1) refl in
+      let no_call : function_of t ≡ None = rw (is.0, is.1) refl in
       let extract_word : is_word (codes "EXTRACT") t ≡ false = rw (is.0, is.1) refl in
       let no_function : set_function_of t ≡ None = rw (is.0, is.1) refl in
-      rw (number, string, opening, case, coalesce_word, null_if_word, extract_word, no_function, h) (as_clause_is _ (date d.string d.intervals) rest (date_step d (t ∷ us) rest _ e refl))
+      rw (number, string, opening, case, no_call, extract_word, no_function, h) (as_clause_is _ (date d.string d.intervals) rest (date_step d (t ∷ us) rest _ e refl))
 
   date_primary : (d : Dated) (ts us rest : List Lexeme) → Front (is_word (codes "DATE")) ts us → date_at ts ≡ Some (d, rest) → primary_at inner ts ≡ Some (expression (date d.string d.intervals), rest)
   date_primary d _ us rest (front t _ h) e = date_literal t us h d rest e
@@ -252,8 +259,7 @@ module _ (Inner : Clause → List Lexeme → List Lexeme → Type 0) (inner : Li
   primary_is _ _ _ (brackets e opening closing ts rest f h g) ends = let is = symbol_is (codes "(") opening f in rw (is.0, is.1) (brackets_are (expression e) closing ts rest h g)
   primary_is _ _ _ (a_searched_case b bs other t ts us rest w h end) ends = let is = word_is (codes "CASE") t w in rw (is.0, is.1) (as_clause_is (case_at inner ts) _ rest (searched_is Inner inner reads b bs other ts us rest h end))
   primary_is _ _ _ (a_simple_case x b bs other t ts us vs rest w i h end) ends = let is = word_is (codes "CASE") t w in rw (is.0, is.1) (as_clause_is (case_at inner ts) _ rest (simple_is Inner inner reads x b bs other ts us vs rest i h end))
-  primary_is _ _ _ (a_coalesce e y es t o c ts us rest w f i h g) ends = let is = word_is (codes "COALESCE") t w in rw (is.0, is.1) (as_clause_is (coalesce_at inner (o ∷ ts)) _ rest (coalesce_is Inner inner reads e y es o c ts us rest f i h g))
-  primary_is _ _ _ (a_null_if a b t o m c ts us rest w f i g j k) ends = let is = word_is (codes "NULLIF") t w in rw (is.0, is.1) (as_clause_is (null_if_at inner (o ∷ ts)) _ rest (null_if_is Inner inner reads a b o m c ts us rest f i g j k))
+  primary_is _ _ _ (a_call f e es t o c ts us rest w p i h g many) ends = call_primary t f (o ∷ ts) w ∙ as_clause_is (call_at inner f (o ∷ ts)) _ rest (call_is Inner inner reads f e es o c ts us rest p i h g many)
   primary_is _ _ _ (an_extract field e t o n m c ts rest w f g h i k) ends = let is = word_is (codes "EXTRACT") t w in rw (is.0, is.1) (as_clause_is (extract_at inner (o ∷ n ∷ m ∷ ts)) _ rest (extract_is Inner inner reads field e o n m c ts rest f g h i k))
   primary_is _ _ _ (a_row_count t o s c rest w f g h) ends = let is = word_is (codes "COUNT") t w in rw (is.0, is.1) (as_clause_is (set_function_at inner Count (o ∷ s ∷ c ∷ rest)) _ rest (rows_are Inner inner reads o s c rest f g h))
   primary_is _ _ _ (a_set_function f e t o c ts us rest w g all h i) ends = function_primary t f (o ∷ ts) w ∙ as_clause_is (set_function_at inner f (o ∷ ts)) _ rest (set_function_is Inner inner reads f e o c ts us rest g all h i)
@@ -282,13 +288,9 @@ module _ (Inner : Clause → List Lexeme → List Lexeme → Type 0) (inner : Li
       let s = branches_shorter Inner inner reads false (b ∷ bs) us vs h in
       let z = else_shorter Inner inner reads other vs rest end in
       omega (arith, q, s, z)
-  primary_shorter _ _ _ (a_coalesce e y es t o c ts us rest w f i h g) =
+  primary_shorter _ _ _ (a_call f e es t o c ts us rest w p i h g many) =
       let q = reads.shorter (expression e) ts us i in
-      let s = further_down Inner inner reads (y ∷ es) us (c ∷ rest) h in
-      omega (arith, q, s)
-  primary_shorter _ _ _ (a_null_if a b t o m c ts us rest w f i g j k) =
-      let q = reads.shorter (expression a) ts (m ∷ us) i in
-      let s = reads.shorter (expression b) us (c ∷ rest) j in
+      let s = further_down Inner inner reads es us (c ∷ rest) h in
       omega (arith, q, s)
   primary_shorter _ _ _ (an_extract field e t o n m c ts rest w f g h i k) = let q = reads.shorter (expression e) ts (c ∷ rest) i in omega (arith, q)
   primary_shorter _ _ _ (a_row_count t o s c rest w f g h) = omega arith
@@ -318,8 +320,7 @@ module _ (Inner : Clause → List Lexeme → List Lexeme → Type 0) (inner : Li
   primary_begins _ _ _ (brackets e opening closing ts rest f h g) = symbol_starts (codes "(") opening ts refl f
   primary_begins _ _ _ (a_searched_case b bs other t ts us rest w h end) = word_starts (codes "CASE") t ts refl refl w
   primary_begins _ _ _ (a_simple_case x b bs other t ts us vs rest w i h end) = word_starts (codes "CASE") t ts refl refl w
-  primary_begins _ _ _ (a_coalesce e y es t o c ts us rest w f i h g) = word_starts (codes "COALESCE") t (o ∷ ts) refl refl w
-  primary_begins _ _ _ (a_null_if a b t o m c ts us rest w f i g j k) = word_starts (codes "NULLIF") t (o ∷ ts) refl refl w
+  primary_begins _ _ _ (a_call f e es t o c ts us rest w p i h g many) = word_starts (call_word_of f) t (o ∷ ts) (call_begins f) (folded_call f) (call_word t f w)
   primary_begins _ _ _ (an_extract field e t o n m c ts rest w f g h i k) = word_starts (codes "EXTRACT") t (o ∷ n ∷ m ∷ ts) refl refl w
   primary_begins _ _ _ (a_row_count t o s c rest w f g h) = word_starts (codes "COUNT") t (o ∷ s ∷ c ∷ rest) refl refl w
   primary_begins _ _ _ (a_set_function f e t o c ts us rest w g all h i) = word_starts (word_of f) t (o ∷ ts) (word_begins f) (folded_word f) (function_word t f w)
@@ -353,8 +354,7 @@ module _ (Inner : Clause → List Lexeme → List Lexeme → Type 0) (inner : Li
   primary_no_sign _ _ _ (brackets e opening closing ts rest f h g) = let is = symbol_is (codes "(") opening f in no_sign_of opening ts (rw (is.0, is.1) refl) (rw (is.0, is.1) refl)
   primary_no_sign _ _ _ (a_searched_case b bs other t ts us rest w h end) = no_sign_word (codes "CASE") t ts w
   primary_no_sign _ _ _ (a_simple_case x b bs other t ts us vs rest w i h end) = no_sign_word (codes "CASE") t ts w
-  primary_no_sign _ _ _ (a_coalesce e y es t o c ts us rest w f i h g) = no_sign_word (codes "COALESCE") t (o ∷ ts) w
-  primary_no_sign _ _ _ (a_null_if a b t o m c ts us rest w f i g j k) = no_sign_word (codes "NULLIF") t (o ∷ ts) w
+  primary_no_sign _ _ _ (a_call f e es t o c ts us rest w p i h g many) = no_sign_word (call_word_of f) t (o ∷ ts) (call_word t f w)
   primary_no_sign _ _ _ (an_extract field e t o n m c ts rest w f g h i k) = no_sign_word (codes "EXTRACT") t (o ∷ n ∷ m ∷ ts) w
   primary_no_sign _ _ _ (a_row_count t o s c rest w f g h) = no_sign_word (codes "COUNT") t (o ∷ s ∷ c ∷ rest) w
   primary_no_sign _ _ _ (a_set_function f e t o c ts us rest w g all h i) = no_sign_word (word_of f) t (o ∷ ts) (function_word t f w)
@@ -437,8 +437,7 @@ module _ (Inner : Clause → List Lexeme → List Lexeme → Type 0) (inner : Li
   primary_no_not _ _ _ (brackets e opening closing ts rest f h g) = no_not_of opening ts (no_not_symbol (codes "(") opening f)
   primary_no_not _ _ _ (a_searched_case b bs other t ts us rest w h end) = other_word (codes "CASE") (codes "NOT") t ts refl refl w
   primary_no_not _ _ _ (a_simple_case x b bs other t ts us vs rest w i h end) = other_word (codes "CASE") (codes "NOT") t ts refl refl w
-  primary_no_not _ _ _ (a_coalesce e y es t o c ts us rest w f i h g) = other_word (codes "COALESCE") (codes "NOT") t (o ∷ ts) refl refl w
-  primary_no_not _ _ _ (a_null_if a b t o m c ts us rest w f i g j k) = other_word (codes "NULLIF") (codes "NOT") t (o ∷ ts) refl refl w
+  primary_no_not _ _ _ (a_call f e es t o c ts us rest w p i h g many) = other_word (call_word_of f) (codes "NOT") t (o ∷ ts) (folded_call f) (call_no_not f) (call_word t f w)
   primary_no_not _ _ _ (an_extract field e t o n m c ts rest w f g h i k) = other_word (codes "EXTRACT") (codes "NOT") t (o ∷ n ∷ m ∷ ts) refl refl w
   primary_no_not _ _ _ (a_row_count t o s c rest w f g h) = other_word (codes "COUNT") (codes "NOT") t (o ∷ s ∷ c ∷ rest) refl refl w
   primary_no_not _ _ _ (a_set_function f e t o c ts us rest w g all h i) = other_word (word_of f) (codes "NOT") t (o ∷ ts) (folded_word f) (word_no_not f) (function_word t f w)

@@ -5,7 +5,7 @@ use Rattle.qw_token.specs.Token.{Lexeme}
 use Rattle.qw_ast.specs.Syntax.{Expression, Clause, expression}
 use Rattle.qw_ast.specs.ScriptGrammar.{comparison_of}
 use Rattle.qw_scalar.specs.declared.comparison.Comparison.{Comparison}
-use Rattle.qw_parse.specs.Inner.Readers.{token_at, word_at, not_at, between_at, in_at, compare_at, like_at, null_test_at, condition_clause, ranged_at, tail_at}
+use Rattle.qw_parse.specs.Inner.Readers.{token_at, word_at, not_at, between_at, in_at, compare_at, like_at, value_test_at, condition_clause, ranged_at, tail_at}
 use Rattle.qw_parse.proofs.LoopLemmas.{cases_option}
 
 not_none : (ts us : List Lexeme) → (false, us) ≡ not_at ts → us ≡ ts
@@ -22,9 +22,9 @@ module _ (inner : List Lexeme → Option (Clause × List Lexeme)) (x : Expressio
   tail_compare op us found = rw found refl
 
   module _ (no_comparison : token_at comparison_of ts ≡ None) (a : List Lexeme) (a_is : a ≡ ts) where
-    pub tail_null_test : (us : List Lexeme) → word_at (codes "IS") a ≡ Some us → tail_at inner x ts ≡ condition_clause (null_test_at x us)
+    pub tail_value_test : (us : List Lexeme) → word_at (codes "IS") a ≡ Some us → tail_at inner x ts ≡ condition_clause (value_test_at x us)
     unfolding tail_at
-    tail_null_test us found = let is = rw a_is at found in rw (no_comparison, is) refl
+    tail_value_test us found = let is = rw a_is at found in rw (no_comparison, is) refl
 
     module _ (no_is : word_at (codes "IS") a ≡ None) (b : List Lexeme) (b_is : b ≡ a) (negated : Bool) (c : List Lexeme) (read_not : (negated, c) ≡ not_at b) where
       behind_not : not_at ts ≡ (negated, c)

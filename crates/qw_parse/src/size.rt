@@ -55,7 +55,7 @@ impl Size {
                     size = size.node();
                     left = operand;
                 }
-                Expr::Arithmetic(_, first, second) | Expr::NullIf(first, second) => {
+                Expr::Arithmetic(_, first, second) => {
                     size = size.node().expression(second);
                     left = first;
                 }
@@ -64,7 +64,7 @@ impl Size {
                     size = size.node().branches(branches);
                     left = operand;
                 }
-                Expr::Coalesce(arguments) => return size.node().expressions(arguments),
+                Expr::Call(_, arguments) => return size.node().expressions(arguments),
             }
         }
     }
@@ -91,7 +91,7 @@ impl Size {
                 Cond::In(_, operand, values) => {
                     return size.node().expression(operand).expressions(values);
                 }
-                Cond::IsNull(_, operand) => return size.node().expression(operand),
+                Cond::Predicate(_, _, operand) => return size.node().expression(operand),
                 Cond::And(first, second) | Cond::Or(first, second) => {
                     size = size.node().condition(second);
                     left = first;

@@ -12,13 +12,14 @@ use Rattle.qw_types.specs.declared.value.Ty.TheVariants as type
 use Rattle.qw_scalar.specs.declared.expression.Expr.{Expr}
 use Rattle.qw_scalar.specs.declared.expression.Cond.{Cond}
 use Rattle.qw_scalar.specs.declared.expression.Exprs.{Exprs}
+use Rattle.qw_scalar.specs.declared.expression.Function.TheVariants.{Coalesce, NullIf}
 use Rattle.qw_scalar.specs.declared.expression.Branches.{Branches}
 use Rattle.qw_scalar.specs.declared.expression.Matches.{Matches}
-use Rattle.qw_scalar.specs.declared.expression.Expr.TheVariants.{Null, Number, Date, Text, Column, Arithmetic', Negative', Extract', Case', Match', Coalesce', NullIf'}
+use Rattle.qw_scalar.specs.declared.expression.Expr.TheVariants.{Null, Number, Date, Text, Column, Arithmetic', Negative', Extract', Case', Match', Call'}
 use Rattle.qw_scalar.specs.declared.expression.Exprs.TheVariants as Exprs
 use Rattle.qw_scalar.specs.declared.expression.Branches.TheVariants as Branches
 use Rattle.qw_scalar.specs.declared.expression.Matches.TheVariants as Matches
-use Rattle.qw_scalar.specs.Expression.{Choices, Expression, otherwise, when, case, cases, coalesced, largest_result, scale_of}
+use Rattle.qw_scalar.specs.Expression.{Choices, Expression, otherwise, when, case, cases, coalesced, largest_result, scale_of, unless_among}
 use Rattle.qw_scalar.specs.Tree.{choices_of, condition_of, expression_of, expressions_of, matches_of}
 use Rattle.qw_scalar.specs.Typing.{AreResultsTyped, AreTyped, IsTyped, agree, at_scale, joined, kind_of}
 use Rattle.qw_scalar.proofs.CaseLemmas.{cases_scale, results_typed}
@@ -139,9 +140,13 @@ mutual
       case_fit (choices_of branches) (branches_fit branches (results_typed (largest_result (choices_of branches)) (choices_of branches) t)) t
   expression_fit (Match' _ x _ matches) t =
       case_fit (matches_of matches (expression_of x)) (matches_fit matches (expression_of x) (results_typed (largest_result (matches_of matches (expression_of x))) (matches_of matches (expression_of x)) t)) t
-  expression_fit (Coalesce' _ arguments) t =
+  expression_fit (Call' Coalesce _ arguments) t =
       case_fit (coalesced (expressions_of arguments)) (arguments_fit arguments (results_typed (largest_result (coalesced (expressions_of arguments))) (coalesced (expressions_of arguments)) t)) t
-  expression_fit (NullIf' _ a _ b) t = subst (Fits (kind_of (expression_of a))) (max_none (scale_of (expression_of a))) (expression_fit a t.1.0.1)
+  expression_fit (Call' NullIf _ arguments) t = first_fits arguments t
+
+  first_fits : (arguments : Exprs) → IsTyped (unless_among (expressions_of arguments)) → IsFit (unless_among (expressions_of arguments))
+  first_fits (Exprs.Last' _ e) t = case_fit (otherwise (expression_of e)) (expression_fit e t.0) t
+  first_fits (Exprs.More' _ e _ es) t = subst (Fits (kind_of (expression_of e))) (max_none (scale_of (expression_of e))) (expression_fit e t.1.0.1)
 
   branches_fit : (branches : Branches) → AreResultsTyped (choices_of branches) → AreFit (choices_of branches)
   branches_fit (Branches.Else' _ e) t = expression_fit e t

@@ -22,8 +22,8 @@ use Rattle.qw_scalar.specs.Columns.{HasColumns, HaveColumns, HoldsIn}
 use Rattle.qw_scalar.specs.Typing.{AreTyped, IsTyped, IsValueOf, is_date, kind_of}
 use Rattle.qw_scalar.proofs.ColumnLemmas.{columns_more}
 use Rattle.qw_scalar.proofs.TypingLemmas.{typed_value}
-use Rattle.qw_scalar.specs.Evaluation.{and_then, applied, as_number, at_row, cell_of, chosen, combined, compared, extracted, field_of, negated, or_else, raised, same_truth, tested_null, truth_if, truth_of, value_of}
-use Rattle.qw_scalar.specs.Expression.{Expression, Condition, null, number, date, text, column, arithmetic, negative, extract, brought, choice, comparison, is_null, both, either, negation_of, is, scale_of}
+use Rattle.qw_scalar.specs.Evaluation.{and_then, applied, as_number, at_row, cell_of, chosen, combined, compared, extracted, field_of, negated, or_else, raised, same_truth, tested, truth_if, truth_of, value_of}
+use Rattle.qw_scalar.specs.Expression.{Expression, Condition, null, number, date, text, column, arithmetic, negative, extract, brought, choice, comparison, predicate, both, either, negation_of, is, scale_of}
 use Rattle.qw_raise.specs.Raise.{can_raise, capped, condition_can_raise, greatest, is_past, is_safe_divisor, magnitude, operator_raises, raw_bring, raw_result, raw_sum, sum_raises}
 use Rattle.qw_raise.specs.Range.{IsInRange, IsWithin}
 
@@ -275,7 +275,7 @@ mutual
       let x = quiet_value row a t.0.0 h.0 no.0 in
       let y = quiet_value row b t.0.1 h.1 no.1 in
       record { truth = compared op x.value (scale_of a) y.value (scale_of b); is = rw (x.is, y.is) refl }
-  quiet_truth row (is_null a) t h q = let x = quiet_value row a t h q in record { truth = tested_null x.value; is = rw x.is refl }
+  quiet_truth row (predicate p a) t h q = let x = quiet_value row a t h q in record { truth = tested p x.value; is = rw x.is refl }
   quiet_truth row (both c d) t h q =
       let no = or_false (condition_can_raise c) (condition_can_raise d) q in
       let u = quiet_truth row c t.0 h.0 no.0 in

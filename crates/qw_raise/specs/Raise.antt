@@ -6,7 +6,7 @@ use Rattle.qw_types.specs.declared.value.Ty.{Ty}
 use Rattle.qw_types.specs.declared.value.Ty.TheVariants as type
 use Rattle.qw_scalar.specs.declared.expression.Operator.{Operator}
 use Rattle.qw_scalar.specs.declared.expression.Operator.TheVariants.{Add, Subtract, Multiply, Divide}
-use Rattle.qw_scalar.specs.Expression.{Expression, Condition, null, number, date, text, column, arithmetic, negative, extract, brought, choice, comparison, is_null, both, either, negation_of, is, scale_of}
+use Rattle.qw_scalar.specs.Expression.{Expression, Condition, null, number, date, text, column, arithmetic, negative, extract, brought, choice, comparison, predicate, both, either, negation_of, is, scale_of}
 
 -- the greatest number of 18 digits
 abbrev pub greatest : ℕ
@@ -96,7 +96,7 @@ abbrev mutual
   -- where an expression in it can
   pub condition_can_raise : Condition → Bool
   condition_can_raise (comparison op a b) = can_raise a || can_raise b
-  condition_can_raise (is_null a) = can_raise a
+  condition_can_raise (predicate p a) = can_raise a
   condition_can_raise (both c d) = condition_can_raise c || condition_can_raise d
   condition_can_raise (either c d) = condition_can_raise c || condition_can_raise d
   condition_can_raise (negation_of c) = condition_can_raise c

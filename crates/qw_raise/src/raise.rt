@@ -3,7 +3,7 @@
 ghost use Rattle.std.specs.Prelude.{◌≡◌, ◌≤◌, ◌+◌, ◌-◌, ◌*◌, ◌^◌, ◌||◌, false, max, min};
 ghost use Rattle.qw_types.specs.Value.{IsSized};
 ghost use Rattle.qw_scalar.specs.Columns.{HasColumns, HaveColumns};
-ghost use Rattle.qw_scalar.specs.Expression.{among, cases, coalesced};
+ghost use Rattle.qw_scalar.specs.Expression.{among, cases, coalesced, unless_among};
 ghost use Rattle.qw_scalar.specs.Tree.{choices_of, condition_of, expression_of, expressions_of, matches_of};
 ghost use Rattle.qw_scalar.specs.Typing.{AreTyped, IsTyped, ScalesAllowed};
 ghost use Rattle.qw_raise.specs.Inner.Known.{IsKnown};
@@ -11,7 +11,7 @@ ghost use Rattle.qw_raise.specs.Range.{IsSizedColumn};
 ghost use Rattle.qw_raise.specs.Raise.{greatest, operator_raises, raw_bring, raw_result, type_magnitude};
 
 use qw_scalar::evaluate::{largest_argument, largest_branch, largest_match};
-use qw_scalar::expression::{Branches, Cond, Expr, Exprs, Matches, Operator};
+use qw_scalar::expression::{Branches, Cond, Expr, Exprs, Function, Matches, Operator};
 use qw_types::Ty;
 
 /// The greatest number of 18 digits.
@@ -50,7 +50,7 @@ pub fn condition_can_raise(cond: &Cond) -> bool
             expression(operand).raises || expression(least).raises || expression(greatest).raises
         }
         Cond::In(operand, list) => values(list, operand, expression(operand).raises),
-        Cond::IsNull(operand) => expression(operand).raises,
+        Cond::Predicate(_, operand) => expression(operand).raises,
         Cond::And(left, right) => condition_can_raise(left) || condition_can_raise(right),
         Cond::Or(left, right) => condition_can_raise(left) || condition_can_raise(right),
         Cond::Not(operand) => condition_can_raise(operand),
@@ -99,14 +99,10 @@ fn expression(expr: &Expr) -> Known
             expression(operand).raises,
             largest_match(list, operand),
         ),
-        Expr::Coalesce(list) => arguments(list, largest_argument(list)),
-        Expr::NullIf(left, right) => {
-            let known = expression(left);
-            Known {
-                raises: known.raises || expression(right).raises,
-                ..known
-            }
-        }
+        Expr::Call(function, list) => match function {
+            Function::Coalesce => arguments(list, largest_argument(list)),
+            Function::NullIf => unless_among(list),
+        },
     }
 }
 
@@ -164,6 +160,28 @@ fn arguments(list: &Exprs, to: u8) -> Known
         Exprs::More(argument, rest) => {
             let known = expression(argument);
             either(known.raises, brought(known, to), arguments(rest, to))
+        }
+    }
+}
+
+/// What is known of the first argument of NULLIF, which is compared with the others.
+#[cycle(raise)]
+fn unless_among(list: &Exprs) -> Known
+    requires typed { IsTyped (unless_among (expressions_of list.now)) }
+    requires sized { HasColumns IsSizedColumn (unless_among (expressions_of list.now)) }
+    ensures { IsKnown result (unless_among (expressions_of list.now)) }
+{
+    match list {
+        Exprs::Last(first) => {
+            let known = expression(first);
+            brought(known, known.scale)
+        }
+        Exprs::More(first, others) => {
+            let known = expression(first);
+            Known {
+                raises: values(others, first, known.raises) || known.raises,
+                ..known
+            }
         }
     }
 }

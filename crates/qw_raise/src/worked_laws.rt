@@ -6,7 +6,8 @@ ghost use Rattle.qw_types.specs.declared.value.Val.TheVariants.{Null, Num, Date}
 ghost use Rattle.qw_scalar.specs.declared.comparison.Comparison.TheVariants.{Equal, Greater};
 ghost use Rattle.qw_scalar.specs.declared.expression.Field.TheVariants.{Year};
 ghost use Rattle.qw_scalar.specs.declared.expression.Operator.TheVariants.{Add, Subtract, Multiply, Divide};
-ghost use Rattle.qw_scalar.specs.Expression.{among, arithmetic, between, case, coalesced, column, comparison, date, extract, is_null, last, more, negation_of, negative, null, null_if, number, otherwise, when};
+ghost use Rattle.qw_scalar.specs.declared.expression.Predicate.TheVariants.{IsNull};
+ghost use Rattle.qw_scalar.specs.Expression.{among, arithmetic, between, case, coalesced, column, comparison, date, extract, last, more, negation_of, negative, null, number, otherwise, predicate, unless_among, when};
 ghost use Rattle.qw_raise.specs.Raise.{can_raise, condition_can_raise, magnitude};
 ghost use Rattle.qw_raise.specs.Range.{Fits};
 
@@ -62,13 +63,13 @@ pub fn constructs()
         × (condition_can_raise (between (number (pos 1) 0) (number (pos 0) 0) (column 0 type.Integer)) ≡ false) }
     ensures among { (condition_can_raise (among (number (pos 1) 0) (more (number (pos 0) 0) (last (arithmetic Divide (number (pos 1) 0) (column 0 type.Integer))))) ≡ true)
         × (condition_can_raise (among (number (pos 1) 0) (more (number (pos 0) 0) (last (column 0 type.Integer)))) ≡ false) }
-    ensures tests { (condition_can_raise (is_null (arithmetic Divide (number (pos 1) 0) (column 0 type.Integer))) ≡ true)
+    ensures tests { (condition_can_raise (predicate IsNull (arithmetic Divide (number (pos 1) 0) (column 0 type.Integer))) ≡ true)
         × (condition_can_raise (negation_of (comparison Equal (arithmetic Divide (number (pos 1) 0) (column 0 type.Integer)) (number (pos 1) 0))) ≡ true) }
     ensures coalesce { (can_raise (case (coalesced (more (column 0 type.Integer) (last (arithmetic Divide (number (pos 1) 0) (column 0 type.Integer)))))) ≡ true)
         × (can_raise (case (coalesced (more (column 0 type.Integer) (last (column 1 (type.Decimal 9 2)))))) ≡ false) }
     ensures brought { can_raise (case (coalesced (more (column 0 (type.Decimal 18 0)) (last (number (pos 1) 1))))) ≡ true }
-    ensures null_if { (can_raise (null_if (column 0 type.Integer) (arithmetic Divide (number (pos 1) 0) (column 0 type.Integer))) ≡ true)
-        × (can_raise (null_if (column 0 type.Integer) (column 0 type.Integer)) ≡ false) }
+    ensures unless_equal { (can_raise (unless_among (more (column 0 type.Integer) (last (arithmetic Divide (number (pos 1) 0) (column 0 type.Integer))))) ≡ true)
+        × (can_raise (unless_among (more (column 0 type.Integer) (last (column 0 type.Integer)))) ≡ false) }
     ensures branch { (can_raise (case (when (comparison Equal (arithmetic Divide (number (pos 1) 0) (column 0 type.Integer)) (number (pos 1) 0)) (number (pos 1) 0) (otherwise (number (pos 2) 0)))) ≡ true)
         × (can_raise (case (when (comparison Equal (column 0 type.Integer) (number (pos 1) 0)) null (otherwise (number (pos 2) 0)))) ≡ false) }
 {}

@@ -3,7 +3,8 @@
 ghost use Rattle.std.specs.Prelude.{◌≡◌, pos, true, false, [], ◌∷◌};
 ghost use Rattle.qw_types.specs.declared.value.Ty.TheVariants.{Date, Decimal, Integer};
 ghost use Rattle.qw_scalar.specs.declared.comparison.Comparison.TheVariants.{Equal, Greater};
-ghost use Rattle.qw_scalar.specs.Expression.{column, comparison, is_null, number};
+ghost use Rattle.qw_scalar.specs.declared.expression.Predicate.TheVariants.{IsNull};
+ghost use Rattle.qw_scalar.specs.Expression.{column, comparison, number, predicate};
 ghost use Rattle.qw_raise.specs.Raise.{condition_can_raise};
 ghost use Rattle.qw_meaning.specs.Select.{alone};
 ghost use Rattle.qw_meaning.specs.WorkedQueries.{is_next, items_entry, one_column, quotient_above_six};
@@ -64,8 +65,8 @@ pub fn later_sources_wait()
 pub fn left_joins()
     ensures of_left { IsWellPlaced (left_joined (is_next 0 64) (above_one 0 ∷ []))
         (project (filter [] (filter [] (join true (filter (above_one 0 ∷ []) (scan 0 0)) (filter [] (scan 1 1)) (is_next 0 64 ∷ []) (0 ∷ [])))) (column 0 Integer ∷ [])) }
-    ensures of_right { IsWellPlaced (left_joined (is_next 0 64) (above_one 64 ∷ is_null (column 64 Integer) ∷ comparison Equal (column 0 Integer) (column 64 Integer) ∷ []))
-        (project (filter [] (filter (above_one 64 ∷ is_null (column 64 Integer) ∷ comparison Equal (column 0 Integer) (column 64 Integer) ∷ [])
+    ensures of_right { IsWellPlaced (left_joined (is_next 0 64) (above_one 64 ∷ predicate IsNull (column 64 Integer) ∷ comparison Equal (column 0 Integer) (column 64 Integer) ∷ []))
+        (project (filter [] (filter (above_one 64 ∷ predicate IsNull (column 64 Integer) ∷ comparison Equal (column 0 Integer) (column 64 Integer) ∷ [])
         (join true (filter [] (scan 0 0)) (filter [] (scan 1 1)) (is_next 0 64 ∷ []) (0 ∷ [])))) (column 0 Integer ∷ [])) }
     ensures not_at_scan { IsWellPlaced (left_joined (is_next 0 64) (above_one 64 ∷ []))
         (project (filter [] (filter [] (join true (filter [] (scan 0 0)) (filter (above_one 64 ∷ []) (scan 1 1)) (is_next 0 64 ∷ []) (0 ∷ [])))) (column 0 Integer ∷ [])) → ⊥ }

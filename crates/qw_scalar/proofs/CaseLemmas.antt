@@ -4,7 +4,9 @@ use Rattle.qw_types.specs.declared.code.Code.{Code}
 use Rattle.qw_types.specs.declared.value.Ty.{Ty}
 use Rattle.qw_scalar.specs.declared.expression.Matches.{Matches}
 use Rattle.qw_scalar.specs.declared.expression.Matches.TheVariants as Matches
-use Rattle.qw_scalar.specs.Expression.{Expression, Expressions, last, more, Choices, otherwise, when, among, cases, scale_of}
+use Rattle.qw_scalar.specs.declared.expression.Function.{Function}
+use Rattle.qw_scalar.specs.declared.expression.Function.TheVariants.{Coalesce, NullIf}
+use Rattle.qw_scalar.specs.Expression.{Expression, Condition, Expressions, last, more, Choices, brought, choice, otherwise, when, among, called, cases, scale_of, unless_among}
 use Rattle.qw_scalar.specs.Typing.{AreResultsTyped, AreTyped, IsTyped}
 use Rattle.qw_scalar.specs.Evaluation.{Environment, truth_of, value_of}
 use Rattle.qw_scalar.specs.Columns.{HasColumns, HaveColumns}
@@ -35,6 +37,17 @@ among_typed x (more v vs) h = h.0.0.0
 pub among_raises : (x : Expression) (values : Expressions) (env : Environment) (code : Code) → value_of x env ≡ Err code → truth_of (among x values) env ≡ Err code
 among_raises x (last v) env code h = rw h refl
 among_raises x (more v vs) env code h = rw h refl
+
+-- so does an exception of NULLIF's first argument
+pub unless_raises : (a : Expression) (others : Expressions) (env : Environment) (code : Code) → value_of a env ≡ Err code → value_of (unless_among (more a others)) env ≡ Err code
+unless_raises a others env code h = rw (among_raises a others env code h) refl
+
+-- a function's meaning is a choice, or something brought to a scale
+pub called_shape : (P : Expression → Type 0) → ((e : Expression) (s : ℕ) → P (brought e s)) → ((c : Condition) (a b : Expression) → P (choice c a b)) → (f : Function) (arguments : Expressions) → P (called f arguments)
+called_shape P one two Coalesce (last e) = one e _
+called_shape P one two Coalesce (more e es) = two _ _ _
+called_shape P one two NullIf (last e) = one e _
+called_shape P one two NullIf (more e es) = two _ _ _
 
 -- the operand's columns
 pub operand_columns : (Holds : ℕ → Ty → Type 0) (s : ℕ) (matches : Matches) (x : Expression) → HasColumns Holds (cases s (matches_of matches x)) → HasColumns Holds x

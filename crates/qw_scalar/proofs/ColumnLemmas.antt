@@ -2,7 +2,7 @@
 use Rattle.std.proofs.Common.{ℕ}
 use Rattle.qw_types.specs.declared.value.Ty.{Ty}
 use Rattle.qw_scalar.specs.Columns.{HasColumns, HaveColumns}
-use Rattle.qw_scalar.specs.Expression.{Expression, Condition, null, number, date, text, column, arithmetic, negative, extract, brought, choice, comparison, is_null, both, either, negation_of, is}
+use Rattle.qw_scalar.specs.Expression.{Expression, Condition, null, number, date, text, column, arithmetic, negative, extract, brought, choice, comparison, predicate, both, either, negation_of, is}
 
 -- what holds of each column may be replaced by what follows from it
 mutual
@@ -21,7 +21,7 @@ mutual
 
   pub conditions_more : (Holds More : ℕ → Ty → Type 0) → ((i : ℕ) (ty : Ty) → Holds i ty → More i ty) → (c : Condition) → HaveColumns Holds c → HaveColumns More c
   conditions_more Holds More more (comparison op a b) h = (columns_more Holds More more a h.0, columns_more Holds More more b h.1)
-  conditions_more Holds More more (is_null a) h = columns_more Holds More more a h
+  conditions_more Holds More more (predicate p a) h = columns_more Holds More more a h
   conditions_more Holds More more (both c d) h = (conditions_more Holds More more c h.0, conditions_more Holds More more d h.1)
   conditions_more Holds More more (either c d) h = (conditions_more Holds More more c h.0, conditions_more Holds More more d h.1)
   conditions_more Holds More more (negation_of c) h = conditions_more Holds More more c h

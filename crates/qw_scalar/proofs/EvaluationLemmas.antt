@@ -6,10 +6,11 @@ use Rattle.qw_types.specs.declared.code.Code.{Code}
 use Rattle.qw_types.specs.declared.truth.Truth.{Truth}
 use Rattle.qw_types.specs.declared.truth.Truth.TheVariants.{True, False, Unknown}
 use Rattle.qw_scalar.specs.declared.expression.Operator.{Operator}
+use Rattle.qw_scalar.specs.declared.expression.Predicate.TheVariants.{IsNull}
 use Rattle.qw_scalar.specs.declared.comparison.Comparison.TheVariants.{Equal}
 use Rattle.qw_types.specs.declared.value.Val.{Val}
 use Rattle.qw_types.specs.declared.value.Val.TheVariants.{Null, Num, Date, Text}
-use Rattle.qw_scalar.specs.Expression.{Expression, Condition, Expressions, last, more, arithmetic, both, either, negation_of, is, is_null, among, scale_of}
+use Rattle.qw_scalar.specs.Expression.{Expression, Condition, Expressions, last, more, arithmetic, both, either, negation_of, is, predicate, among, scale_of}
 use Rattle.qw_scalar.specs.Evaluation.{Environment, HasNull, combined, compared, or_else, same_truth, tested_null, truth_if, truth_of, value_of}
 
 pub left_first : (operator : Operator) (a b : Expression) (env : Environment) (code : Code) → value_of a env ≡ Err code → value_of (arithmetic operator a b) env ≡ Err code
@@ -84,8 +85,8 @@ null_known (Ok (Num a)) e = cc
 null_known (Ok (Date d)) e = cc
 null_known (Ok (Text t)) e = cc
 
-pub is_null_known : (x : Expression) (env : Environment) → truth_of (is_null x) env ≢ Ok Unknown
-is_null_known x env = null_known (value_of x env)
+pub null_predicate_known : (x : Expression) (env : Environment) → truth_of (predicate IsNull x) env ≢ Ok Unknown
+null_predicate_known x env = null_known (value_of x env)
 
 truth_if_known : (b : Bool) → ◌≢◌ {A = Result Truth Code} (Ok (truth_if b)) (Ok Unknown)
 truth_if_known true e = cc

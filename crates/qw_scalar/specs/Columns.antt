@@ -3,7 +3,7 @@ use Rattle.std.specs.Prelude.{ℕ, List, slice_get}
 use Rattle.qw_types.specs.Kind.{IsOfKind, type_kind}
 use Rattle.qw_types.specs.declared.value.Ty.{Ty}
 use Rattle.qw_types.specs.declared.value.Val.{Val}
-use Rattle.qw_scalar.specs.Expression.{Expression, Condition, null, number, date, text, column, arithmetic, negative, extract, brought, choice, comparison, is_null, both, either, negation_of, is}
+use Rattle.qw_scalar.specs.Expression.{Expression, Condition, null, number, date, text, column, arithmetic, negative, extract, brought, choice, comparison, predicate, both, either, negation_of, is}
 use Rattle.qw_scalar.specs.Evaluation.{cell_of}
 
 -- something holds of each column that an expression names, with the type that it names it with
@@ -22,7 +22,7 @@ abbrev mutual
 
   pub HaveColumns : (ℕ → Ty → Type 0) → Condition → Type 0
   HaveColumns Holds (comparison op a b) = HasColumns Holds a × HasColumns Holds b
-  HaveColumns Holds (is_null a) = HasColumns Holds a
+  HaveColumns Holds (predicate p a) = HasColumns Holds a
   HaveColumns Holds (both c d) = HaveColumns Holds c × HaveColumns Holds d
   HaveColumns Holds (either c d) = HaveColumns Holds c × HaveColumns Holds d
   HaveColumns Holds (negation_of c) = HaveColumns Holds c

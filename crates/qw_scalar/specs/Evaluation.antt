@@ -16,9 +16,11 @@ use Rattle.qw_scalar.specs.declared.expression.Operator.{Operator}
 use Rattle.qw_scalar.specs.declared.expression.Operator.TheVariants.{Add, Subtract, Multiply, Divide}
 use Rattle.qw_scalar.specs.declared.expression.Field.{Field}
 use Rattle.qw_scalar.specs.declared.expression.Field.TheVariants.{Year, Month, Day}
+use Rattle.qw_scalar.specs.declared.expression.Predicate.{Predicate}
+use Rattle.qw_scalar.specs.declared.expression.Predicate.TheVariants.{IsNull}
 use Rattle.qw_scalar.specs.declared.comparison.Comparison.{Comparison}
 use Rattle.qw_scalar.specs.declared.comparison.Comparison.TheVariants.{Equal, NotEqual, Less, LessOrEqual, Greater, GreaterOrEqual, Like, NotLike}
-use Rattle.qw_scalar.specs.Expression.{Expression, Condition, Expressions, last, more, null, number, date, text, column, arithmetic, negative, extract, brought, choice, comparison, is_null, both, either, negation_of, is, scale_of}
+use Rattle.qw_scalar.specs.Expression.{Expression, Condition, Expressions, last, more, null, number, date, text, column, arithmetic, negative, extract, brought, choice, comparison, predicate, both, either, negation_of, is, scale_of}
 
 -- what an expression is evaluated in
 pub record Environment : Type 0 where
@@ -135,6 +137,10 @@ tested_null (Num a) = False
 tested_null (Date d) = False
 tested_null (Text t) = False
 
+-- a predicate of a value
+abbrev pub tested : Predicate → Val → Truth
+tested IsNull x = tested_null x
+
 -- whether two truth values are the same
 abbrev pub same_truth : Truth → Truth → Bool
 same_truth True True = true
@@ -181,7 +187,7 @@ abbrev mutual
   pub truth_of : Condition → Environment → Result Truth Code
   truth_of (comparison op a b) env =
       value_of a env >>= (λ x. value_of b env >>= (λ y. Ok (compared op x (scale_of a) y (scale_of b))))
-  truth_of (is_null a) env = value_of a env >>= (λ x. Ok (tested_null x))
+  truth_of (predicate p a) env = value_of a env >>= (λ x. Ok (tested p x))
   truth_of (both c d) env = truth_of c env >>= (λ t. and_then t (truth_of d env))
   truth_of (either c d) env = truth_of c env >>= (λ t. or_else t (truth_of d env))
   truth_of (negation_of c) env = truth_of c env >>= (λ t. Ok (negation t))

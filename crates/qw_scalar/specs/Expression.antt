@@ -7,6 +7,10 @@ use Rattle.qw_types.specs.declared.truth.Truth.{Truth}
 use Rattle.qw_scalar.specs.declared.expression.Operator.{Operator}
 use Rattle.qw_scalar.specs.declared.expression.Operator.TheVariants.{Add, Subtract, Multiply, Divide}
 use Rattle.qw_scalar.specs.declared.expression.Field.{Field}
+use Rattle.qw_scalar.specs.declared.expression.Function.{Function}
+use Rattle.qw_scalar.specs.declared.expression.Function.TheVariants.{Coalesce, NullIf}
+use Rattle.qw_scalar.specs.declared.expression.Predicate.{Predicate}
+use Rattle.qw_scalar.specs.declared.expression.Predicate.TheVariants.{IsNull}
 use Rattle.qw_scalar.specs.declared.comparison.Comparison.{Comparison}
 use Rattle.qw_scalar.specs.declared.comparison.Comparison.TheVariants.{Equal, LessOrEqual, GreaterOrEqual}
 
@@ -32,7 +36,8 @@ mutual
 
   pub data Condition : Type 0 where
     comparison : Comparison → Expression → Expression → Condition
-    is_null : Expression → Condition
+    -- a predicate of one value
+    predicate : Predicate → Expression → Condition
     both : Condition → Condition → Condition
     either : Condition → Condition → Condition
     negation_of : Condition → Condition
@@ -91,11 +96,22 @@ cases s (when c e rest) = choice c (brought e s) (cases s rest)
 abbrev pub case : Choices → Expression
 case choices = cases (largest_result choices) choices
 
+-- e IS NOT NULL (8.6)
+abbrev pub is_there : Expression → Condition
+is_there e = negation_of (predicate IsNull e)
+
 -- COALESCE(a, b, ..) is CASE WHEN a IS NOT NULL THEN a ELSE COALESCE(b, ..) END, of one argument that argument (6.9)
 abbrev pub coalesced : Expressions → Choices
 coalesced (last e) = otherwise e
-coalesced (more e es) = when (negation_of (is_null e)) e (coalesced es)
+coalesced (more e es) = when (is_there e) e (coalesced es)
 
--- NULLIF(a, b) is CASE WHEN a = b THEN NULL ELSE a END (6.9); null has no scale that a could be brought to
-abbrev pub null_if : Expression → Expression → Expression
-null_if a b = choice (comparison Equal a b) null a
+-- NULLIF(a, b) is CASE WHEN a = b THEN NULL ELSE a END (6.9); null has no scale that a could be brought to. Of more arguments, which the grammar
+-- doesn't have, it is null where the first is among the others, and of one what COALESCE is.
+abbrev pub unless_among : Expressions → Expression
+unless_among (last a) = brought a (scale_of a)
+unless_among (more a others) = choice (among a others) null a
+
+-- a function of its arguments (6.9)
+abbrev pub called : Function → Expressions → Expression
+called Coalesce arguments = case (coalesced arguments)
+called NullIf arguments = unless_among arguments

@@ -5,8 +5,8 @@ use Rattle.qw_scalar.specs.declared.expression.Cond.{Cond}
 use Rattle.qw_scalar.specs.declared.expression.Exprs.{Exprs}
 use Rattle.qw_scalar.specs.declared.expression.Branches.{Branches}
 use Rattle.qw_scalar.specs.declared.expression.Matches.{Matches}
-use Rattle.qw_scalar.specs.declared.expression.Expr.TheVariants.{Null, Number, Date, Text, Column, Arithmetic', Negative', Extract', Case', Match', Coalesce', NullIf'}
-use Rattle.qw_scalar.specs.declared.expression.Cond.TheVariants.{Compare', Between', In', IsNull', And', Or', Not', Is'}
+use Rattle.qw_scalar.specs.declared.expression.Expr.TheVariants.{Null, Number, Date, Text, Column, Arithmetic', Negative', Extract', Case', Match', Call'}
+use Rattle.qw_scalar.specs.declared.expression.Cond.TheVariants.{Compare', Between', In', Predicate', And', Or', Not', Is'}
 use Rattle.qw_scalar.specs.declared.expression.Exprs.TheVariants as Exprs
 use Rattle.qw_scalar.specs.declared.expression.Branches.TheVariants as Branches
 use Rattle.qw_scalar.specs.declared.expression.Matches.TheVariants as Matches
@@ -23,14 +23,13 @@ abbrev mutual
   nodes (Extract' field _ a) = 1 + nodes a
   nodes (Case' _ branches) = 1 + nodes_of_branches branches
   nodes (Match' _ x _ matches) = 1 + nodes x + nodes_of_matches matches
-  nodes (Coalesce' _ arguments) = 1 + nodes_of_all arguments
-  nodes (NullIf' _ a _ b) = 1 + nodes a + nodes b
+  nodes (Call' function _ arguments) = 1 + nodes_of_all arguments
 
   pub nodes_of : Cond → ℕ
   nodes_of (Compare' op _ a _ b) = 1 + nodes a + nodes b
   nodes_of (Between' _ x _ a _ b) = 1 + nodes x + nodes a + nodes b
   nodes_of (In' _ x _ values) = 1 + nodes x + nodes_of_all values
-  nodes_of (IsNull' _ a) = 1 + nodes a
+  nodes_of (Predicate' p _ a) = 1 + nodes a
   nodes_of (And' _ c _ d) = 1 + nodes_of c + nodes_of d
   nodes_of (Or' _ c _ d) = 1 + nodes_of c + nodes_of d
   nodes_of (Not' _ c) = 1 + nodes_of c

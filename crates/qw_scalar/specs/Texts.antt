@@ -5,8 +5,8 @@ use Rattle.qw_scalar.specs.declared.expression.Cond.{Cond}
 use Rattle.qw_scalar.specs.declared.expression.Exprs.{Exprs}
 use Rattle.qw_scalar.specs.declared.expression.Branches.{Branches}
 use Rattle.qw_scalar.specs.declared.expression.Matches.{Matches}
-use Rattle.qw_scalar.specs.declared.expression.Expr.TheVariants.{Null, Number, Date, Text, Column, Arithmetic', Negative', Extract', Case', Match', Coalesce', NullIf'}
-use Rattle.qw_scalar.specs.declared.expression.Cond.TheVariants.{Compare', Between', In', IsNull', And', Or', Not', Is'}
+use Rattle.qw_scalar.specs.declared.expression.Expr.TheVariants.{Null, Number, Date, Text, Column, Arithmetic', Negative', Extract', Case', Match', Call'}
+use Rattle.qw_scalar.specs.declared.expression.Cond.TheVariants.{Compare', Between', In', Predicate', And', Or', Not', Is'}
 use Rattle.qw_scalar.specs.declared.expression.Exprs.TheVariants as Exprs
 use Rattle.qw_scalar.specs.declared.expression.Branches.TheVariants as Branches
 use Rattle.qw_scalar.specs.declared.expression.Matches.TheVariants as Matches
@@ -23,14 +23,13 @@ abbrev mutual
   texts_in (Extract' field _ a) = texts_in a
   texts_in (Case' _ branches) = texts_of_branches branches
   texts_in (Match' _ x _ matches) = texts_in x ++ texts_of_matches matches
-  texts_in (Coalesce' _ arguments) = texts_of_all arguments
-  texts_in (NullIf' _ a _ b) = texts_in a ++ texts_in b
+  texts_in (Call' function _ arguments) = texts_of_all arguments
 
   pub texts_within : Cond → List (List ℕ)
   texts_within (Compare' op _ a _ b) = texts_in a ++ texts_in b
   texts_within (Between' _ x _ a _ b) = texts_in x ++ (texts_in a ++ texts_in b)
   texts_within (In' _ x _ values) = texts_in x ++ texts_of_all values
-  texts_within (IsNull' _ a) = texts_in a
+  texts_within (Predicate' p _ a) = texts_in a
   texts_within (And' _ c _ d) = texts_within c ++ texts_within d
   texts_within (Or' _ c _ d) = texts_within c ++ texts_within d
   texts_within (Not' _ c) = texts_within c

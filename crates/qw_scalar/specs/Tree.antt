@@ -4,13 +4,13 @@ use Rattle.qw_scalar.specs.declared.expression.Cond.{Cond}
 use Rattle.qw_scalar.specs.declared.expression.Exprs.{Exprs}
 use Rattle.qw_scalar.specs.declared.expression.Branches.{Branches}
 use Rattle.qw_scalar.specs.declared.expression.Matches.{Matches}
-use Rattle.qw_scalar.specs.declared.expression.Expr.TheVariants.{Null, Number, Date, Text, Column, Arithmetic', Negative', Extract', Case', Match', Coalesce', NullIf'}
-use Rattle.qw_scalar.specs.declared.expression.Cond.TheVariants.{Compare', Between', In', IsNull', And', Or', Not', Is'}
+use Rattle.qw_scalar.specs.declared.expression.Expr.TheVariants.{Null, Number, Date, Text, Column, Arithmetic', Negative', Extract', Case', Match', Call'}
+use Rattle.qw_scalar.specs.declared.expression.Cond.TheVariants.{Compare', Between', In', Predicate', And', Or', Not', Is'}
 use Rattle.qw_scalar.specs.declared.expression.Exprs.TheVariants as Exprs
 use Rattle.qw_scalar.specs.declared.expression.Branches.TheVariants as Branches
 use Rattle.qw_scalar.specs.declared.expression.Matches.TheVariants as Matches
 use Rattle.qw_scalar.specs.declared.comparison.Comparison.TheVariants.{Equal}
-use Rattle.qw_scalar.specs.Expression.{Expression, Condition, null, number, date, text, column, arithmetic, negative, extract, comparison, is_null, both, either, negation_of, is, Expressions, last, more, Choices, otherwise, when, among, between, case, coalesced, null_if}
+use Rattle.qw_scalar.specs.Expression.{Expression, Condition, null, number, date, text, column, arithmetic, negative, extract, comparison, predicate, both, either, negation_of, is, Expressions, last, more, Choices, otherwise, when, among, between, case, called}
 
 abbrev mutual
   pub expression_of : Expr → Expression
@@ -24,14 +24,13 @@ abbrev mutual
   expression_of (Extract' field _ a) = extract field (expression_of a)
   expression_of (Case' _ branches) = case (choices_of branches)
   expression_of (Match' _ x _ matches) = case (matches_of matches (expression_of x))
-  expression_of (Coalesce' _ arguments) = case (coalesced (expressions_of arguments))
-  expression_of (NullIf' _ a _ b) = null_if (expression_of a) (expression_of b)
+  expression_of (Call' function _ arguments) = called function (expressions_of arguments)
 
   pub condition_of : Cond → Condition
   condition_of (Compare' op _ a _ b) = comparison op (expression_of a) (expression_of b)
   condition_of (Between' _ x _ a _ b) = between (expression_of x) (expression_of a) (expression_of b)
   condition_of (In' _ x _ values) = among (expression_of x) (expressions_of values)
-  condition_of (IsNull' _ a) = is_null (expression_of a)
+  condition_of (Predicate' p _ a) = predicate p (expression_of a)
   condition_of (And' _ c _ d) = both (condition_of c) (condition_of d)
   condition_of (Or' _ c _ d) = either (condition_of c) (condition_of d)
   condition_of (Not' _ c) = negation_of (condition_of c)

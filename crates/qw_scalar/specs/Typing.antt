@@ -9,7 +9,7 @@ use Rattle.qw_types.specs.declared.value.Val.{Val}
 use Rattle.qw_types.specs.declared.value.Val.TheVariants as val
 use Rattle.qw_scalar.specs.declared.expression.Operator.{Operator}
 use Rattle.qw_scalar.specs.declared.expression.Operator.TheVariants.{Add, Subtract, Multiply, Divide}
-use Rattle.qw_scalar.specs.Expression.{Expression, Condition, Choices, null, number, date, text, column, arithmetic, negative, extract, brought, choice, comparison, is_null, both, either, negation_of, is, otherwise, when, scale_after, scale_of}
+use Rattle.qw_scalar.specs.Expression.{Expression, Condition, Choices, null, number, date, text, column, arithmetic, negative, extract, brought, choice, comparison, predicate, both, either, negation_of, is, otherwise, when, scale_after, scale_of}
 
 -- a value of an expression's kind: null alone where it has none
 abbrev pub IsValueOf : Option Kind → Val → Type 0
@@ -95,7 +95,7 @@ abbrev mutual
 
   pub AreTyped : Condition → Type 0
   AreTyped (comparison op a b) = (IsTyped a × IsTyped b) × IsTrue (are_comparable (kind_of a) (kind_of b))
-  AreTyped (is_null a) = IsTyped a
+  AreTyped (predicate p a) = IsTyped a
   AreTyped (both c d) = AreTyped c × AreTyped d
   AreTyped (either c d) = AreTyped c × AreTyped d
   AreTyped (negation_of c) = AreTyped c

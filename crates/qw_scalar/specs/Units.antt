@@ -8,7 +8,7 @@ use Rattle.qw_types.specs.declared.value.Val.{Val}
 use Rattle.qw_types.specs.declared.value.Val.TheVariants as val
 use Rattle.qw_scalar.specs.declared.comparison.Comparison.{Comparison}
 use Rattle.qw_scalar.specs.declared.comparison.Comparison.TheVariants.{Like, NotLike}
-use Rattle.qw_scalar.specs.Expression.{Expression, Condition, null, number, date, text, column, arithmetic, negative, extract, brought, choice, comparison, is_null, both, either, negation_of, is}
+use Rattle.qw_scalar.specs.Expression.{Expression, Condition, null, number, date, text, column, arithmetic, negative, extract, brought, choice, comparison, predicate, both, either, negation_of, is}
 use Rattle.qw_scalar.specs.Evaluation.{Environment, value_of}
 
 -- what two texts take: their octets; under LIKE, each place of the text, its end too, may be tried with each of the pattern
@@ -41,7 +41,7 @@ abbrev mutual
 
   pub units_of : Condition → Environment → ℕ
   units_of (comparison op a b) env = max (max (units a env) (units b env)) (octets_of op (value_of a env) (value_of b env))
-  units_of (is_null a) env = units a env
+  units_of (predicate p a) env = units a env
   units_of (both c d) env = max (units_of c env) (units_of d env)
   units_of (either c d) env = max (units_of c env) (units_of d env)
   units_of (negation_of c) env = units_of c env

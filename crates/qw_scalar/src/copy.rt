@@ -39,11 +39,10 @@ pub fn expression(alloc: Global, expr: &Expr) -> Result<Expr, NoMemory>
             boxed(alloc, operand)?,
             Box::new(alloc, matches(alloc, cases)?)?,
         )),
-        Expr::Coalesce(arguments) => Ok(Expr::Coalesce(Box::new(
-            alloc,
-            expressions(alloc, arguments)?,
-        )?)),
-        Expr::NullIf(left, right) => Ok(Expr::NullIf(boxed(alloc, left)?, boxed(alloc, right)?)),
+        Expr::Call(function, arguments) => Ok(Expr::Call(
+            *function,
+            Box::new(alloc, expressions(alloc, arguments)?)?,
+        )),
     }
 }
 
@@ -83,7 +82,7 @@ pub fn condition(alloc: Global, cond: &Cond) -> Result<Cond, NoMemory>
             boxed(alloc, operand)?,
             Box::new(alloc, expressions(alloc, values)?)?,
         ),
-        Cond::IsNull(operand) => Cond::IsNull(boxed(alloc, operand)?),
+        Cond::Predicate(predicate, operand) => Cond::Predicate(*predicate, boxed(alloc, operand)?),
         Cond::And(left, right) => Cond::And(
             boxed_condition(alloc, left)?,
             boxed_condition(alloc, right)?,

@@ -6,14 +6,16 @@ ghost use Rattle.qw_types.specs.Arithmetic.{fits};
 ghost use Rattle.qw_types.specs.declared.value.Val.TheVariants.{Null};
 ghost use Rattle.qw_scalar.specs.declared.comparison.Comparison.TheVariants.{GreaterOrEqual, LessOrEqual};
 ghost use Rattle.qw_scalar.specs.Columns.{HasColumns, HaveColumns, HoldsIn};
-ghost use Rattle.qw_scalar.specs.Expression.{among, cases, coalesced, largest_result, scale_of};
-ghost use Rattle.qw_scalar.specs.Evaluation.{answers, answers_texts, applied, cell_of, chosen, combined, compared, extracted, field_of, negated, raised, same_truth, tested_null, truth_of, value_fits, value_of, at_row};
+ghost use Rattle.qw_scalar.specs.Expression.{among, cases, coalesced, largest_result, scale_of, unless_among};
+ghost use Rattle.qw_scalar.specs.Evaluation.{answers, answers_texts, applied, cell_of, chosen, combined, compared, extracted, field_of, negated, raised, same_truth, tested, tested_null, truth_of, value_fits, value_of, at_row};
 ghost use Rattle.qw_scalar.specs.Tree.{choices_of, condition_of, expression_of, expressions_of, matches_of};
 ghost use Rattle.qw_scalar.specs.Typing.{AreResultsTyped, AreTyped, IsTyped, ScalesAllowed};
 ghost use Rattle.qw_scalar.specs.Value.{val_of, valued};
 
 use crate::comparison::Comparison;
-use crate::expression::{Branches, Cond, Expr, Exprs, Field, Matches, Operator};
+use crate::expression::{
+    Branches, Cond, Expr, Exprs, Field, Function, Matches, Operator, Predicate,
+};
 use crate::value::{Value, lent};
 use qw_types::like::is_like;
 use qw_types::{Code, Text, Truth, Ty, Val, arithmetic, text_order, truth};
@@ -50,15 +52,10 @@ pub fn value<'a>(expr: &'a Expr, row: &'a [Val]) -> Result<Value<'a>, Code>
             let x = value(operand, row)?;
             matched(matches, operand, x, largest_match(matches, operand), row)
         }
-        Expr::Coalesce(arguments) => coalesce(arguments, largest_argument(arguments), row),
-        Expr::NullIf(left, right) => {
-            let x = value(left, row)?;
-            let y = value(right, row)?;
-            Ok(null_where(
-                compare(Comparison::Equal, x, scale(left), y, scale(right)),
-                x,
-            ))
-        }
+        Expr::Call(function, arguments) => match function {
+            Function::Coalesce => coalesce(arguments, largest_argument(arguments), row),
+            Function::NullIf => unless_among(arguments, row),
+        },
     }
 }
 
@@ -95,7 +92,7 @@ pub fn condition(cond: &Cond, row: &[Val]) -> Result<Truth, Code>
             let x = value(operand, row)?;
             is_among(values, operand, x, row)
         }
-        Cond::IsNull(operand) => Ok(test_null(value(operand, row)?)),
+        Cond::Predicate(predicate, operand) => Ok(test(*predicate, value(operand, row)?)),
         Cond::And(left, right) => match condition(left, row)? {
             Truth::False => Ok(Truth::False),
             first => Ok(truth::and(first, condition(right, row)?)),
@@ -180,6 +177,27 @@ fn coalesce<'a>(arguments: &'a Exprs, to: u8, row: &'a [Val]) -> Result<Value<'a
     }
 }
 
+/// The first argument, or null where it equals another.
+#[cycle(evaluate)]
+#[tactic(auto, using(crate::proofs::CaseLemmas::unless_raises))]
+fn unless_among<'a>(arguments: &'a Exprs, row: &'a [Val]) -> Result<Value<'a>, Code>
+    requires typed { IsTyped (unless_among (expressions_of arguments.now)) }
+    requires columns { HasColumns (HoldsIn row.now) (unless_among (expressions_of arguments.now)) }
+    ensures value { valued result ≡ value_of (unless_among (expressions_of arguments.now)) (at_row row.now) }
+    ensures fits { IfOk result (λ v. IsTrue (value_fits (val_of v))) }
+{
+    match arguments {
+        Exprs::Last(first) => {
+            let to = scale(first);
+            raise(value(first, row)?, to, to)
+        }
+        Exprs::More(first, others) => {
+            let x = value(first, row)?;
+            Ok(null_where(is_among(others, first, x, row)?, x))
+        }
+    }
+}
+
 /// Whether the operand's value equals one of some values, up to the first that it equals.
 #[cycle(evaluate)]
 fn is_among<'a>(
@@ -251,8 +269,10 @@ pub fn scale(expr: &Expr) -> u8
         Expr::Negative(operand) => scale(operand),
         Expr::Case(branches) => largest_branch(branches),
         Expr::Match(operand, matches) => largest_match(matches, operand),
-        Expr::Coalesce(arguments) => largest_argument(arguments),
-        Expr::NullIf(left, _) => scale(left),
+        Expr::Call(function, arguments) => match function {
+            Function::Coalesce => largest_argument(arguments),
+            Function::NullIf => first_scale(arguments),
+        },
     }
 }
 
@@ -292,6 +312,18 @@ pub fn largest_argument(arguments: &Exprs) -> u8
     match arguments {
         Exprs::Last(argument) => scale(argument),
         Exprs::More(argument, rest) => scale(argument).max(largest_argument(rest)),
+    }
+}
+
+/// The scale of the first argument, which NULLIF keeps.
+#[cycle(scale)]
+fn first_scale(arguments: &Exprs) -> u8
+    requires typed { IsTyped (unless_among (expressions_of arguments.now)) }
+    ensures value { result ≡ scale_of (unless_among (expressions_of arguments.now)) }
+    ensures bound { result ≤ 18 }
+{
+    match arguments {
+        Exprs::Last(first) | Exprs::More(first, _) => scale(first),
     }
 }
 
@@ -471,6 +503,15 @@ fn test_null(x: Value<'_>) -> Truth
     match x {
         Value::Null => Truth::True,
         Value::Number(_) | Value::Date(_) | Value::Text(_) => Truth::False,
+    }
+}
+
+/// A predicate of a value.
+fn test(predicate: Predicate, x: Value<'_>) -> Truth
+    ensures { result ≡ tested predicate (val_of x.entry) }
+{
+    match predicate {
+        Predicate::IsNull => test_null(x),
     }
 }
 

@@ -6,8 +6,10 @@ ghost use Rattle.qw_types.specs.declared.code.Code.{Code};
 ghost use Rattle.qw_types.specs.declared.code.Code.TheVariants.{DivZero, OutOfRange};
 ghost use Rattle.qw_types.specs.declared.truth.Truth.{Truth};
 ghost use Rattle.qw_types.specs.declared.truth.Truth.TheVariants.{True, False, Unknown};
+ghost use Rattle.qw_scalar.specs.declared.expression.Function.TheVariants.{Coalesce, NullIf};
 ghost use Rattle.qw_scalar.specs.declared.expression.Operator.{Operator};
 ghost use Rattle.qw_scalar.specs.declared.expression.Operator.TheVariants.{Add, Subtract, Multiply, Divide};
+ghost use Rattle.qw_scalar.specs.declared.expression.Predicate.TheVariants.{IsNull};
 ghost use Rattle.qw_scalar.specs.declared.expression.Field.TheVariants.{Year, Month, Day};
 ghost use Rattle.qw_scalar.specs.declared.comparison.Comparison.TheVariants.{Equal, NotEqual, Less, LessOrEqual, Greater, GreaterOrEqual, Like, NotLike};
 ghost use Rattle.qw_types.specs.declared.value.Ty.TheVariants.{Integer, Decimal, Varchar};
@@ -16,7 +18,7 @@ ghost use Rattle.qw_types.specs.declared.value.Val.{Val};
 ghost use Rattle.qw_types.specs.declared.value.Val.TheVariants.{Null, Num, Text};
 ghost use Rattle.qw_scalar.specs.Evaluation.{Environment, HasNull, truth_of, value_of};
 ghost use Rattle.qw_scalar.specs.WorkedRows.{first_item, second_item, third_item, pen, ink};
-ghost use Rattle.qw_scalar.specs.Expression.{Expression, Condition, Expressions, null, number, date, text, column, arithmetic, negative, extract, comparison, is_null, both, either, negation_of, is, last, more, otherwise, when, among, between, case, coalesced, null_if};
+ghost use Rattle.qw_scalar.specs.Expression.{Expression, Condition, Expressions, null, number, date, text, column, arithmetic, negative, extract, comparison, predicate, both, either, negation_of, is, last, more, otherwise, when, among, between, called, case, coalesced};
 
 /// The left operand's exception is the expression's, whatever the right one does (ISO/IEC 9075:1992, 6.12).
 pub fn left_operand_first()
@@ -50,7 +52,7 @@ pub fn not_in_beside_null()
 
 /// `x IS NULL` is never unknown (8.6), nor is `c IS TRUE` and its like (8.12).
 pub fn never_unknown()
-    ensures null { (x : Expression) (env : Environment) → truth_of (is_null x) env ≢ Ok Unknown }
+    ensures null { (x : Expression) (env : Environment) → truth_of (predicate IsNull x) env ≢ Ok Unknown }
     ensures truth { (c : Condition) (t : Truth) (env : Environment) → truth_of (is c t) env ≢ Ok Unknown }
 {}
 
@@ -78,9 +80,9 @@ pub fn worked_values()
         × (value_of (case (coalesced (more (column 1 (Decimal 9 2)) (last (number (pos 1) 0))))) second_item ≡ Ok (Num (pos 100)))
         × (value_of (case (coalesced (more (column 1 (Decimal 9 2)) (last (number (pos 1) 0))))) third_item ≡ Ok (Num (pos 50)))
         × (value_of (case (coalesced (more (column 1 (Decimal 9 2)) (more null (last (arithmetic Divide (number (pos 1) 0) (number (pos 0) 0))))))) first_item ≡ Ok (Num (pos 1000)))
-        × (value_of (null_if (number (pos 1) 0) (number (pos 10) 1)) first_item ≡ Ok Null)
-        × (value_of (null_if (number (pos 1) 0) (number (pos 2) 0)) first_item ≡ Ok (Num (pos 1)))
-        × (value_of (null_if (column 0 Integer) (column 1 (Decimal 9 2))) second_item ≡ Ok (Num (pos 2)))
+        × (value_of (called NullIf (more (number (pos 1) 0) (last (number (pos 10) 1)))) first_item ≡ Ok Null)
+        × (value_of (called NullIf (more (number (pos 1) 0) (last (number (pos 2) 0)))) first_item ≡ Ok (Num (pos 1)))
+        × (value_of (called NullIf (more (column 0 Integer) (last (column 1 (Decimal 9 2))))) second_item ≡ Ok (Num (pos 2)))
         × (value_of (extract Year (column 2 type.Date)) first_item ≡ Ok (Num (pos 1998)))
         × (value_of (extract Month (column 2 type.Date)) first_item ≡ Ok (Num (pos 9)))
         × (value_of (extract Day (column 2 type.Date)) first_item ≡ Ok (Num (pos 2)))
@@ -114,9 +116,9 @@ pub fn worked_conditions()
         × (truth_of (is (comparison Greater (column 1 (Decimal 9 2)) (number (pos 1) 0)) Unknown) second_item ≡ Ok True)
         × (truth_of (negation_of (is (comparison Greater (column 1 (Decimal 9 2)) (number (pos 1) 0)) True)) second_item ≡ Ok True)
         × (truth_of (negation_of (comparison Greater (column 1 (Decimal 9 2)) (number (pos 1) 0))) second_item ≡ Ok Unknown)
-        × (truth_of (is_null (column 1 (Decimal 9 2))) second_item ≡ Ok True)
-        × (truth_of (is_null (column 1 (Decimal 9 2))) first_item ≡ Ok False)
-        × (truth_of (is_null (arithmetic Divide (column 1 (Decimal 9 2)) (number (pos 0) 0))) second_item ≡ Ok True)
+        × (truth_of (predicate IsNull (column 1 (Decimal 9 2))) second_item ≡ Ok True)
+        × (truth_of (predicate IsNull (column 1 (Decimal 9 2))) first_item ≡ Ok False)
+        × (truth_of (predicate IsNull (arithmetic Divide (column 1 (Decimal 9 2)) (number (pos 0) 0))) second_item ≡ Ok True)
         × (truth_of (comparison Equal (column 1 (Decimal 9 2)) (number (pos 10) 0)) first_item ≡ Ok True)
         × (truth_of (comparison NotEqual (column 1 (Decimal 9 2)) (number (pos 5) 1)) third_item ≡ Ok False)
         × (truth_of (comparison GreaterOrEqual (column 1 (Decimal 9 2)) (number (pos 1000) 2)) first_item ≡ Ok True)
@@ -132,17 +134,17 @@ pub fn worked_texts()
         × (truth_of (comparison Greater (column 3 (Varchar 20)) (text (112 ∷ 101 ∷ []))) first_item ≡ Ok True)
         × (truth_of (comparison GreaterOrEqual (text (112 ∷ 101 ∷ [])) (column 3 (Varchar 20))) first_item ≡ Ok False)
         × (truth_of (comparison Equal (text (112 ∷ 101 ∷ 110 ∷ 32 ∷ [])) (column 3 (Varchar 20))) first_item ≡ Ok False)
-        × (truth_of (comparison Equal (null_if (column 3 (Varchar 20)) (text pen)) (text pen)) first_item ≡ Ok Unknown)
+        × (truth_of (comparison Equal (called NullIf (more (column 3 (Varchar 20)) (last (text pen)))) (text pen)) first_item ≡ Ok Unknown)
         × (truth_of (among (column 3 (Varchar 20)) (more (text ink) (last (text pen)))) first_item ≡ Ok True)
-        × (truth_of (negation_of (among (column 3 (Varchar 20)) (more (text ink) (last (null_if (text pen) (text pen)))))) first_item ≡ Ok Unknown)
+        × (truth_of (negation_of (among (column 3 (Varchar 20)) (more (text ink) (last (called NullIf (more (text pen) (last (text pen)))))))) first_item ≡ Ok Unknown)
         × (truth_of (between (column 3 (Varchar 20)) (text (105 ∷ [])) (text (106 ∷ []))) second_item ≡ Ok True)
         × (truth_of (between (column 3 (Varchar 20)) (text (105 ∷ [])) (text (106 ∷ []))) first_item ≡ Ok False)
         × (value_of (case (when (comparison Equal (column 3 (Varchar 20)) (text pen)) (text ink) (otherwise (column 3 (Varchar 20))))) first_item ≡ Ok (Text ink))
         × (value_of (case (when (comparison Equal (column 0 Integer) (number (pos 2) 0)) (column 3 (Varchar 20)) (otherwise null))) second_item ≡ Ok (Text ink))
-        × (value_of (case (coalesced (more (null_if (column 3 (Varchar 20)) (text pen)) (last (text ink))))) third_item ≡ Ok (Text ink))
-        × (value_of (null_if (column 3 (Varchar 20)) (text pen)) second_item ≡ Ok (Text ink))
-        × (value_of (null_if (column 3 (Varchar 20)) (text pen)) third_item ≡ Ok Null)
-        × (truth_of (is_null (column 3 (Varchar 20))) first_item ≡ Ok False) }
+        × (value_of (called Coalesce (more (called NullIf (more (column 3 (Varchar 20)) (last (text pen)))) (last (text ink)))) third_item ≡ Ok (Text ink))
+        × (value_of (called NullIf (more (column 3 (Varchar 20)) (last (text pen)))) second_item ≡ Ok (Text ink))
+        × (value_of (called NullIf (more (column 3 (Varchar 20)) (last (text pen)))) third_item ≡ Ok Null)
+        × (truth_of (predicate IsNull (column 3 (Varchar 20))) first_item ≡ Ok False) }
 {}
 
 /// LIKE: LABEL, 'pen' and 'ink', against patterns; `x NOT LIKE p` and `NOT (x LIKE p)`; a null of either side is unknown; `_` takes `é`, of two octets.

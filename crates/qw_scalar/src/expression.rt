@@ -20,6 +20,22 @@ pub enum Field {
     Day,
 }
 
+/// A predicate of one value.
+#[derive(Clone, Copy, Debug, PartialEq, Eq)]
+pub enum Predicate {
+    /// Whether it is null (8.6 "null predicate").
+    IsNull,
+}
+
+/// A function of one argument or more.
+#[derive(Clone, Copy, Debug, PartialEq, Eq)]
+pub enum Function {
+    /// The first argument that isn't null (6.9).
+    Coalesce,
+    /// The first argument, or null where it equals another (6.9).
+    NullIf,
+}
+
 /// A typed expression (6.11 "value expression").
 #[cycle(expression)]
 #[derive(Drop)]
@@ -44,10 +60,8 @@ pub enum Expr {
     Case(Box<Branches>),
     /// `CASE operand matches END`.
     Match(Box<Expr>, Box<Matches>),
-    /// `COALESCE(arguments)`.
-    Coalesce(Box<Exprs>),
-    /// `NULLIF(left, right)`.
-    NullIf(Box<Expr>, Box<Expr>),
+    /// `function(arguments)`.
+    Call(Function, Box<Exprs>),
 }
 
 /// A typed condition (8.12 "search condition", with its predicates).
@@ -60,8 +74,8 @@ pub enum Cond {
     Between(Box<Expr>, Box<Expr>, Box<Expr>),
     /// `operand IN (values)` (8.4).
     In(Box<Expr>, Box<Exprs>),
-    /// `operand IS NULL` (8.6).
-    IsNull(Box<Expr>),
+    /// `operand predicate`, as `operand IS NULL`.
+    Predicate(Predicate, Box<Expr>),
     /// `left AND right`.
     And(Box<Cond>, Box<Cond>),
     /// `left OR right`.

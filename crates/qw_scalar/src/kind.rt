@@ -1,12 +1,12 @@
 //! Which kind an expression's values are of.
 
 ghost use Rattle.std.specs.Prelude.{◌≡◌, ◌≤◌};
-ghost use Rattle.qw_scalar.specs.Expression.{cases, coalesced};
+ghost use Rattle.qw_scalar.specs.Expression.{cases, coalesced, unless_among};
 ghost use Rattle.qw_scalar.specs.Tree.{choices_of, expression_of, expressions_of, matches_of};
 ghost use Rattle.qw_scalar.specs.Typing.{AreResultsTyped, IsTyped, at_scale, joined, kind_of};
 
 use crate::evaluate::{largest_argument, largest_branch, largest_match, scale};
-use crate::expression::{Branches, Expr, Exprs, Matches};
+use crate::expression::{Branches, Expr, Exprs, Function, Matches};
 use qw_types::Kind;
 
 /// The kind of an expression's values, none where null is the only one.
@@ -31,8 +31,10 @@ pub fn of_expression(expr: &Expr) -> Option<Kind>
             operand,
             largest_match(matches, operand),
         ),
-        Expr::Coalesce(arguments) => of_arguments(arguments, largest_argument(arguments)),
-        Expr::NullIf(left, _) => of_expression(left),
+        Expr::Call(function, arguments) => match function {
+            Function::Coalesce => of_arguments(arguments, largest_argument(arguments)),
+            Function::NullIf => of_first(arguments),
+        },
     }
 }
 
@@ -79,6 +81,18 @@ fn of_arguments(arguments: &Exprs, to: u8) -> Option<Kind>
         Exprs::More(argument, rest) => {
             join(brought(of_expression(argument), to), of_arguments(rest, to))
         }
+    }
+}
+
+/// The kind of the first argument, of which NULLIF is.
+#[cycle(kind)]
+fn of_first(arguments: &Exprs) -> Option<Kind>
+    requires typed { IsTyped (unless_among (expressions_of arguments.now)) }
+    ensures { result ≡ kind_of (unless_among (expressions_of arguments.now)) }
+{
+    match arguments {
+        Exprs::Last(first) => brought(of_expression(first), scale(first)),
+        Exprs::More(first, _) => of_expression(first),
     }
 }
 

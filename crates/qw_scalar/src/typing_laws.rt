@@ -9,7 +9,7 @@ ghost use Rattle.qw_scalar.specs.declared.expression.Operator.TheVariants.{Add, 
 ghost use Rattle.qw_scalar.specs.declared.comparison.Comparison.TheVariants.{Equal};
 ghost use Rattle.qw_scalar.specs.Columns.{HasColumns, HoldsIn};
 ghost use Rattle.qw_scalar.specs.Evaluation.{value_of, at_row};
-ghost use Rattle.qw_scalar.specs.Expression.{Expression, null, number, date, text, column, arithmetic, negative, extract, comparison, is_null, last, more, otherwise, when, case, coalesced, null_if, scale_of};
+ghost use Rattle.qw_scalar.specs.Expression.{Expression, null, number, date, text, column, arithmetic, negative, extract, comparison, last, more, otherwise, when, case, coalesced, scale_of, unless_among};
 ghost use Rattle.qw_scalar.specs.Typing.{AreTyped, IsTyped, IsValueOf, kind_of};
 ghost use Rattle.qw_scalar.specs.WorkedRows.{pen};
 
@@ -36,7 +36,7 @@ pub fn kinds()
         × (kind_of (case (coalesced (more (number (pos 1) 0) (last (number (pos 50) 2))))) ≡ Some (kind.Number 2))
         × (kind_of (case (when (comparison Equal (column 3 (type.Varchar 20)) (text pen)) null (otherwise (number (pos 2) 0)))) ≡ Some (kind.Number 0))
         × (kind_of (extract Year (column 2 type.Date)) ≡ Some (kind.Number 0))
-        × (kind_of (null_if (column 3 (type.Varchar 20)) (text pen)) ≡ Some kind.Text)
+        × (kind_of (unless_among (more (column 3 (type.Varchar 20)) (last (text pen)))) ≡ Some kind.Text)
         × (kind_of null ≡ None) }
 {}
 
@@ -51,7 +51,7 @@ pub fn scales()
         × (scale_of (arithmetic Subtract (number (pos 1) 2) (number (pos 1) 3)) ≡ 3)
         × (scale_of (arithmetic Subtract (number (pos 1) 3) (number (pos 1) 2)) ≡ 3)
         × (scale_of (case (coalesced (more (number (pos 1) 0) (last (number (pos 50) 2))))) ≡ 2)
-        × (scale_of (null_if (number (pos 1) 1) (number (pos 1) 4)) ≡ 1) }
+        × (scale_of (unless_among (more (number (pos 1) 1) (last (number (pos 1) 4)))) ≡ 1) }
     ensures kinds { (kind_of (arithmetic Divide (number (pos 1) 0) (number (pos 5) 1)) ≡ Some (kind.Number 0))
         × (kind_of (arithmetic Divide (number (pos 700) 2) (number (pos 2) 0)) ≡ Some (kind.Number 2))
         × (kind_of (arithmetic Multiply (number (pos 1) 2) (number (pos 1) 3)) ≡ Some (kind.Number 5)) }

@@ -5,7 +5,7 @@ ghost use Rattle.qw_types.specs.declared.value.Ty.TheVariants as type;
 ghost use Rattle.qw_scalar.specs.declared.comparison.Comparison.TheVariants.{Equal, Less, Like, NotLike};
 ghost use Rattle.qw_scalar.specs.declared.expression.Operator.TheVariants.{Divide};
 ghost use Rattle.qw_scalar.specs.Evaluation.{Environment};
-ghost use Rattle.qw_scalar.specs.Expression.{Expression, among, arithmetic, between, case, coalesced, column, comparison, last, more, null, null_if, number, otherwise, text, when};
+ghost use Rattle.qw_scalar.specs.Expression.{Expression, among, arithmetic, between, case, coalesced, column, comparison, last, more, null, number, otherwise, text, unless_among, when};
 ghost use Rattle.qw_scalar.specs.Units.{units, units_of, units_of_all, units_of_items};
 ghost use Rattle.qw_scalar.specs.WorkedRows.{first_item, ink, nested_coalesce, pen, second_item};
 
@@ -30,10 +30,10 @@ pub fn worked_units()
         × (units_of (comparison Equal (arithmetic Divide (number (pos 1) 0) (number (pos 0) 0)) (text pen)) first_item ≡ 0)
         × (units_of (among (column 3 (type.Varchar 20)) (more (text pen) (more (text ink) (last (text []))))) first_item ≡ 6)
         × (units_of (between (column 3 (type.Varchar 20)) (text []) (text pen)) first_item ≡ 6)
-        × (units (null_if (column 3 (type.Varchar 20)) (text (112 ∷ 101 ∷ 110 ∷ pen))) first_item ≡ 9)
-        × (units (case (when (comparison Equal (text pen) (text ink)) (null_if (text []) (text pen)) (otherwise (text pen)))) first_item ≡ 6)
+        × (units (unless_among (more (column 3 (type.Varchar 20)) (last (text (112 ∷ 101 ∷ 110 ∷ pen))))) first_item ≡ 9)
+        × (units (case (when (comparison Equal (text pen) (text ink)) (unless_among (more (text []) (last (text pen)))) (otherwise (text pen)))) first_item ≡ 6)
         × (units_of_all (comparison Equal (text pen) (text []) ∷ comparison Equal (text pen) (text ink) ∷ comparison Equal (text []) (text pen) ∷ []) first_item ≡ 6)
-        × (units_of_items (null_if (text pen) (text ink) ∷ text pen ∷ []) first_item ≡ 6)
+        × (units_of_items (unless_among (more (text pen) (last (text ink))) ∷ text pen ∷ []) first_item ≡ 6)
         × (units_of (comparison Like (column 3 (type.Varchar 20)) (text (112 ∷ 37 ∷ []))) first_item ≡ 12)
         × (units_of (comparison NotLike (text []) (text pen)) first_item ≡ 4)
         × (units_of (comparison Like null (text pen)) first_item ≡ 0)

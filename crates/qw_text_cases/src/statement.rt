@@ -6,7 +6,7 @@ use qw_ast::script::{
     SetFunction, Sign, SortSpecification, Source, Statement,
 };
 use qw_scalar::comparison::Comparison;
-use qw_scalar::expression::{Field, Operator};
+use qw_scalar::expression::{Field, Function, Operator, Predicate};
 use qw_types::Truth;
 use std::alloc::{AllocError, Global};
 
@@ -54,6 +54,12 @@ fn comparison_octets(comparison: Comparison) -> &'static [u8] {
         Comparison::GreaterOrEqual => b" >= ",
         Comparison::Like => b" LIKE ",
         Comparison::NotLike => b" NOT LIKE ",
+    }
+}
+
+fn predicate_octets(predicate: Predicate) -> &'static [u8] {
+    match predicate {
+        Predicate::IsNull => b" NULL",
     }
 }
 
@@ -140,15 +146,13 @@ fn put_expression(out: &mut Line, expression: &Expr<'_>) {
             put_expression(out, operand);
             put_branches(out, branches)
         }
-        Expr::Coalesce(arguments) => {
+        Expr::Call(Function::Coalesce, arguments) => {
             put(out, b"COALESCE");
             put_expressions(out, arguments)
         }
-        Expr::NullIf(left, right) => {
+        Expr::Call(Function::NullIf, arguments) => {
             put(out, b"NULLIF(");
-            put_expression(out, left);
-            put(out, b", ");
-            put_expression(out, right);
+            put_listed(out, arguments);
             put(out, b")")
         }
         Expr::CountRows(_) => put(out, b"COUNT(*)"),
@@ -182,11 +186,11 @@ fn put_condition(out: &mut Line, condition: &Cond<'_>) {
             put(out, b" IN ");
             put_expressions(out, values)
         }
-        Cond::IsNull(negated, operand) => {
+        Cond::Predicate(predicate, negated, operand) => {
             put_expression(out, operand);
             put(out, b" IS");
             put_not(out, *negated);
-            put(out, b" NULL")
+            put(out, predicate_octets(*predicate))
         }
         Cond::And(left, right) => {
             put(out, b"(");
@@ -246,6 +250,19 @@ fn put_expressions(out: &mut Line, expressions: &Exprs<'_>) {
             put(out, b", ");
             put_expressions(out, rest);
             put(out, b")")
+        }
+    }
+}
+
+/// Expressions one behind the other.
+#[cycle(shown)]
+fn put_listed(out: &mut Line, expressions: &Exprs<'_>) {
+    match expressions {
+        Exprs::Last(last) => put_expression(out, last),
+        Exprs::More(first, rest) => {
+            put_expression(out, first);
+            put(out, b", ");
+            put_listed(out, rest)
         }
     }
 }

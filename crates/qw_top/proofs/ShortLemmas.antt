@@ -7,8 +7,8 @@ use Rattle.qw_scalar.specs.declared.expression.Cond.{Cond}
 use Rattle.qw_scalar.specs.declared.expression.Exprs.{Exprs}
 use Rattle.qw_scalar.specs.declared.expression.Branches.{Branches}
 use Rattle.qw_scalar.specs.declared.expression.Matches.{Matches}
-use Rattle.qw_scalar.specs.declared.expression.Expr.TheVariants.{Null, Number, Date, Text, Column, Arithmetic', Negative', Extract', Case', Match', Coalesce', NullIf'}
-use Rattle.qw_scalar.specs.declared.expression.Cond.TheVariants.{Compare', Between', In', IsNull', And', Or', Not', Is'}
+use Rattle.qw_scalar.specs.declared.expression.Expr.TheVariants.{Null, Number, Date, Text, Column, Arithmetic', Negative', Extract', Case', Match', Call'}
+use Rattle.qw_scalar.specs.declared.expression.Cond.TheVariants.{Compare', Between', In', Predicate', And', Or', Not', Is'}
 use Rattle.qw_scalar.specs.declared.expression.Exprs.TheVariants as Exprs
 use Rattle.qw_scalar.specs.declared.expression.Branches.TheVariants as Branches
 use Rattle.qw_scalar.specs.declared.expression.Matches.TheVariants as Matches
@@ -41,15 +41,14 @@ mutual
   octets_in (Extract' field _ a) = octets_in a
   octets_in (Case' _ branches) = octets_of_branches branches
   octets_in (Match' _ x _ matches) = omega (arith, sum_by-append length (texts_in x) (texts_of_matches matches), octets_in x, octets_of_matches matches)
-  octets_in (Coalesce' _ arguments) = octets_of_all arguments
-  octets_in (NullIf' _ a _ b) = omega (arith, sum_by-append length (texts_in a) (texts_in b), octets_in a, octets_in b)
+  octets_in (Call' function _ arguments) = octets_of_all arguments
 
   octets_within : (c : Cond) → sum_by length (texts_within c) ≡ text_octets_of c
   octets_within (Compare' op _ a _ b) = omega (arith, sum_by-append length (texts_in a) (texts_in b), octets_in a, octets_in b)
   octets_within (Between' _ x _ a _ b) =
       omega (arith, sum_by-append length (texts_in x) (texts_in a ++ texts_in b), sum_by-append length (texts_in a) (texts_in b), octets_in x, octets_in a, octets_in b)
   octets_within (In' _ x _ values) = omega (arith, sum_by-append length (texts_in x) (texts_of_all values), octets_in x, octets_of_all values)
-  octets_within (IsNull' _ a) = octets_in a
+  octets_within (Predicate' p _ a) = octets_in a
   octets_within (And' _ c _ d) = omega (arith, sum_by-append length (texts_within c) (texts_within d), octets_within c, octets_within d)
   octets_within (Or' _ c _ d) = omega (arith, sum_by-append length (texts_within c) (texts_within d), octets_within c, octets_within d)
   octets_within (Not' _ c) = octets_within c

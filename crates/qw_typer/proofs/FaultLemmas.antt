@@ -9,8 +9,9 @@ use Rattle.qw_ast.specs.Grammar.{name_of}
 use Rattle.qw_ast.specs.Limits.{entries_in, entries_of}
 use Rattle.qw_ast.specs.Syntax as written
 use Rattle.qw_scalar.specs.declared.comparison.Comparison.TheVariants.{Equal}
+use Rattle.qw_scalar.specs.declared.expression.Function.TheVariants.{Coalesce, NullIf}
 use Rattle.qw_scalar.specs.Expression as meaning
-use Rattle.qw_ast.specs.Syntax.{Expression, null, number, text, date, column, signed, arithmetic, extract, searched_case, simple_case, coalesce, null_if, count_rows, set_function, Condition, comparison, between, among, is_null, both, either, negation_of, is, bracketed, condition, expression, Expressions, last, further, Branching, otherwise, when, SelectItem, Selected, all_columns, items, Joined, Source, Select}
+use Rattle.qw_ast.specs.Syntax.{Expression, null, number, text, date, column, signed, arithmetic, extract, searched_case, simple_case, call, count_rows, set_function, Condition, comparison, between, among, predicate, both, either, negation_of, is, bracketed, condition, expression, Expressions, last, further, Branching, otherwise, when, SelectItem, Selected, all_columns, items, Joined, Source, Select}
 use Rattle.qw_typer.specs.Faults.{Fault, all_faults, among_faults, argument_faults, arithmetic_faults, branch_faults, case_faults, choices_faults, comparison_faults, condition_faults, faults, field_faults, first_of_all, first_of_branches, first_token, function_word, group_faults, item_faults, matches_faults, nested_faults, or_own, reference_faults, sign_faults}
 use Rattle.qw_typer.specs.Meant.{Entry, Scope, all_meant, choices, condition_meant, first_of, function_meant, in_group, matches, meant, referred, ungrouped, with_not, with_sign}
 use Rattle.qw_typer.specs.Typed.{conjuncts, conjuncts_of, entries_from, entry_meant, filter_faults, in_scope, items_meant, joins_faults, joins_meant, list_faults, scope_of, selected_faults, sources_faults, sources_meant, specification_meant}
@@ -21,6 +22,11 @@ use Rattle.qw_typer.specs.Inner.Typing.{◌>>=◌, outcome, typed, typed_all, ty
 pub one : {A B : Type 0} (fs : List Fault) (a : A) (own : A → List Fault) (f : A → B) → (outcome fs a >>= (λ x. outcome (own x) (f x))) ≡ outcome (or_own fs (own a)) (f a)
 one [] a own f = refl
 one (g ∷ gs) a own f = refl
+
+-- a construct without a fault of its own
+own_none : (fs : List Fault) → or_own fs [] ≡ fs
+own_none [] = refl
+own_none (g ∷ gs) = refl
 
 two : {A B C : Type 0} (fs gs : List Fault) (a : A) (b : B) (own : A → B → List Fault) (f : A → B → C)
     → (outcome fs a >>= (λ x. outcome gs b >>= (λ y. outcome (own x y) (f x y)))) ≡ outcome (or_own (fs ++ gs) (own a b)) (f a b)
@@ -89,10 +95,12 @@ mutual
       rw (typed_is scope x) (chained (faults scope x) (meant scope x) (λ y. outcome (branch_faults (first_token x) branches) y >>= (λ z. typed_matches scope (first_token x) z branches))
       (λ y. branch_faults (first_token x) branches ++ matches_faults scope (first_token x) y branches) (λ y. matches scope y branches) (case_faults (first_token x)) meaning.case
       (λ y. from_matches scope (first_token x) y branches (matches_is scope (first_token x) y branches)))
-  typed_is scope (coalesce es) =
+  typed_is scope (call Coalesce es) =
       rw (all_is scope es) (one (all_faults scope es) (all_meant scope es) (λ ms. case_faults (first_of_all es) (meaning.coalesced ms)) (λ ms. meaning.case (meaning.coalesced ms)))
-  typed_is scope (null_if a b) =
-      rw (typed_is scope a, typed_is scope b) (two (faults scope a) (faults scope b) (meant scope a) (meant scope b) (comparison_faults (first_token a)) meaning.null_if)
+  typed_is scope (call NullIf (last e)) = rw (own_none (faults scope e), typed_is scope e) (plain (faults scope e) (meant scope e) (λ x. meaning.unless_among (meaning.last x)))
+  typed_is scope (call NullIf (further e es)) =
+      rw (typed_is scope e, all_is scope es)
+      (two (faults scope e) (all_faults scope es) (meant scope e) (all_meant scope es) (among_faults (first_token e)) (λ x vs. meaning.unless_among (meaning.more x vs)))
   typed_is scope (count_rows place) = plain (nested_faults scope.grouping (codes "COUNT")) true (λ b. function_meant scope.grouping place)
   typed_is scope (set_function place f a) =
       let inner = ungrouped scope.entries in
@@ -109,7 +117,7 @@ mutual
   condition_is scope (among negated x es) =
       rw (typed_is scope x, all_is scope es)
       (two (faults scope x) (all_faults scope es) (meant scope x) (all_meant scope es) (among_faults (first_token x)) (λ y vs. with_not negated (meaning.among y vs)))
-  condition_is scope (is_null negated a) = rw (typed_is scope a) (plain (faults scope a) (meant scope a) (λ x. with_not negated (meaning.is_null x)))
+  condition_is scope (predicate p negated a) = rw (typed_is scope a) (plain (faults scope a) (meant scope a) (λ x. with_not negated (meaning.predicate p x)))
   condition_is scope (both c d) =
       rw (condition_is scope c, condition_is scope d) (plain_two (condition_faults scope c) (condition_faults scope d) (condition_meant scope c) (condition_meant scope d) meaning.both)
   condition_is scope (either c d) =
@@ -167,7 +175,7 @@ conjuncts_is scope (both c d) =
 conjuncts_is scope (comparison op a b) = alone scope (comparison op a b)
 conjuncts_is scope (between negated x a b) = alone scope (between negated x a b)
 conjuncts_is scope (among negated x es) = alone scope (among negated x es)
-conjuncts_is scope (is_null negated a) = alone scope (is_null negated a)
+conjuncts_is scope (predicate p negated a) = alone scope (predicate p negated a)
 conjuncts_is scope (either c d) = alone scope (either c d)
 conjuncts_is scope (negation_of c) = alone scope (negation_of c)
 conjuncts_is scope (is negated c t) = alone scope (is negated c t)

@@ -12,10 +12,11 @@ use Rattle.std.proofs.lemmas.List.Elements.{Contains-append_left}
 use Rattle.qw_types.specs.Digits.{are_digits}
 use Rattle.qw_types.specs.declared.value.Ty.{Ty}
 use Rattle.qw_types.proofs.DigitLemmas.{all_digits, own, some_digit}
+use Rattle.qw_scalar.proofs.CaseLemmas.{called_shape}
 use Rattle.qw_scalar.specs.Expression as meaning
 use Rattle.qw_scalar.specs.Tree.{choices_of, expression_of, expressions_of, matches_of}
 use Rattle.qw_scalar.specs.declared.expression.Expr.{Expr}
-use Rattle.qw_scalar.specs.declared.expression.Expr.TheVariants.{Null, Number, Date, Text, Column, Arithmetic', Negative', Extract', Case', Match', Coalesce', NullIf'}
+use Rattle.qw_scalar.specs.declared.expression.Expr.TheVariants.{Null, Number, Date, Text, Column, Arithmetic', Negative', Extract', Case', Match', Call'}
 use Rattle.qw_order.specs.declared.sort_key.SortKey.{SortKey}
 use Rattle.qw_ast.proofs.StatementLemmas.{drop_next}
 use Rattle.qw_ast.specs.declared.script.SortSpecification as coded_sort
@@ -185,8 +186,7 @@ no_column number (Negative' _ a) other = refl
 no_column number (Extract' field _ a) other = refl
 no_column number (Case' _ branches) other = no_case number _ (choices_of branches)
 no_column number (Match' _ x _ matches) other = no_case number _ (matches_of matches (expression_of x))
-no_column number (Coalesce' _ arguments) other = no_case number _ (meaning.coalesced (expressions_of arguments))
-no_column number (NullIf' _ a _ b) other = refl
+no_column number (Call' function _ arguments) other = called_shape (λ e. is_column number e ≡ false) (λ e s. refl) (λ c a b. refl) function (expressions_of arguments)
 
 no_same_case : (s : ℕ) (cs : meaning.Choices) (item : meaning.Expression) → is_same_column (meaning.cases s cs) item ≡ false
 no_same_case s (meaning.otherwise e) item = refl
@@ -203,8 +203,7 @@ no_same_column (Negative' _ a) other item = refl
 no_same_column (Extract' field _ a) other item = refl
 no_same_column (Case' _ branches) other item = no_same_case _ (choices_of branches) item
 no_same_column (Match' _ x _ matches) other item = no_same_case _ (matches_of matches (expression_of x)) item
-no_same_column (Coalesce' _ arguments) other item = no_same_case _ (meaning.coalesced (expressions_of arguments)) item
-no_same_column (NullIf' _ a _ b) other item = refl
+no_same_column (Call' function _ arguments) other item = called_shape (λ e. is_same_column e item ≡ false) (λ e s. refl) (λ c a b. refl) function (expressions_of arguments)
 
 -- what is no column of FROM is none of them
 pub other_column : (e : meaning.Expression) → ((other : meaning.Expression) → is_same_column e other ≡ false) → (first : ℕ) (columns : List meaning.Expression) → positions_where (is_same_column e) first columns ≡ []

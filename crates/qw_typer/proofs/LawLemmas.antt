@@ -22,7 +22,7 @@ use Rattle.qw_grouped.specs.Whole.{Whole}
 use Rattle.qw_ast.specs.Grammar.{name_of}
 use Rattle.qw_ast.specs.Limits.{entries_in, entries_of}
 use Rattle.qw_ast.specs.Syntax as written
-use Rattle.qw_ast.specs.Syntax.{Condition, comparison, between, among, is_null, both, either, negation_of, is, bracketed, SelectItem, Selected, all_columns, items, Joined, Source, Select}
+use Rattle.qw_ast.specs.Syntax.{Condition, comparison, between, among, predicate, both, either, negation_of, is, bracketed, SelectItem, Selected, all_columns, items, Joined, Source, Select}
 use Rattle.qw_typer.specs.declared.fault.FaultKind.TheVariants.{DuplicateAlias, UnknownTable}
 use Rattle.qw_typer.specs.Faults.{condition_faults, fault_where, faults, first_token, item_faults, or_own}
 use Rattle.qw_typer.specs.Keys.{keys_meant}
@@ -49,7 +49,7 @@ conjuncts_over scope s (both c d) h =
 conjuncts_over scope s (comparison op a b) h = (over scope s (comparison op a b) h, tt)
 conjuncts_over scope s (between negated x a b) h = (over scope s (between negated x a b) h, tt)
 conjuncts_over scope s (among negated x es) h = (over scope s (among negated x es) h, tt)
-conjuncts_over scope s (is_null negated a) h = (over scope s (is_null negated a) h, tt)
+conjuncts_over scope s (predicate p negated a) h = (over scope s (predicate p negated a) h, tt)
 conjuncts_over scope s (either c d) h = (over scope s (either c d) h, tt)
 conjuncts_over scope s (negation_of c) h = (over scope s (negation_of c) h, tt)
 conjuncts_over scope s (is negated c t) h = (over scope s (is negated c t) h, tt)

@@ -5,7 +5,7 @@ use Rattle.std.specs.List.{AllByRecursion}
 use Rattle.qw_token.specs.Token.{Lexeme}
 use Rattle.qw_scalar.specs.declared.expression.Operator.{Operator}
 use Rattle.qw_ast.specs.Syntax.{Expression, arithmetic, Condition, both, either, Clause, condition, expression, SelectItem, Selected, Entry, Joined, Source, Select}
-use Rattle.qw_ast.specs.ScriptGrammar.{Series, first, more, IsNothing, nothing, appended, arguments, IsResult, null_result, result, Branch, is_condition, IsBranch, branch, IsElse, no_else, else_result, branching, IsPrimary, a_number, a_string, a_date, a_column, a_qualified_column, brackets, a_searched_case, a_simple_case, a_coalesce, a_null_if, an_extract, a_row_count, a_set_function, IsFactor, unsigned_factor, signed_factor, IsTerm, IsValueExpression, IsPredicate, a_comparison, a_between, an_in, a_like, a_null_test, IsBooleanPrimary, predicate, condition_brackets, IsBooleanTest, no_test, a_test, IsBooleanFactor, no_negation, a_negation, IsBooleanTerm, IsSearchCondition, IsClause, IsNested, IsItem, item, IsSelectList, asterisk, some_items, IsFilter, unfiltered, filtered, IsHaving, no_having, a_having, IsJoined, a_joined, AreJoins, IsSource, a_source, AreSources, some_sources, IsSelect, a_select, IsSelectOf}
+use Rattle.qw_ast.specs.ScriptGrammar.{Series, first, more, IsNothing, nothing, appended, arguments, IsResult, null_result, result, Branch, is_condition, IsBranch, branch, IsElse, no_else, else_result, branching, IsPrimary, a_number, a_string, a_date, a_column, a_qualified_column, brackets, a_searched_case, a_simple_case, a_call, an_extract, a_row_count, a_set_function, IsFactor, unsigned_factor, signed_factor, IsTerm, IsValueExpression, IsPredicate, a_comparison, a_between, an_in, a_like, a_value_test, IsBooleanPrimary, a_predicate, condition_brackets, IsBooleanTest, no_test, a_test, IsBooleanFactor, no_negation, a_negation, IsBooleanTerm, IsSearchCondition, IsClause, IsNested, IsItem, item, IsSelectList, asterisk, some_items, IsFilter, unfiltered, filtered, IsHaving, no_having, a_having, IsJoined, a_joined, AreJoins, IsSource, a_source, AreSources, some_sources, IsSelect, a_select, IsSelectOf}
 use Rattle.qw_ast.specs.Limits as script
 use Rattle.qw_typer.specs.Inner.Sizes.{nodes, weight, weight_condition, weight_clause, weight_all, weight_branches}
 use Rattle.qw_typer.proofs.WeightLemmas.{weighed}
@@ -124,16 +124,10 @@ module _ (Inner : Clause → List Lexeme → List Lexeme → Type 0) (inner : (c
       let few = operand.few in
       let behind = few_branches false (b ∷ bs) other all (few_else other vs rest is_else) in
       record { few = omega (arith, few, behind) }
-  few_primary _ _ _ (a_coalesce e f es word opening closing ts us rest w w' one are w'') =
-      let all = list_all FewNodes (λ g vs ws h. inner (expression g) vs ws h) (f ∷ es) us (closing ∷ rest) are in
-      let few = few_arguments e (f ∷ es) (inner (expression e) ts us one) all in
+  few_primary _ _ _ (a_call f e es word opening closing ts us rest w w' one are w'' many) =
+      let all = list_all FewNodes (λ g vs ws h. inner (expression g) vs ws h) es us (closing ∷ rest) are in
+      let few = few_arguments e es (inner (expression e) ts us one) all in
       record { few = omega (arith, few) }
-  few_primary _ _ _ (a_null_if a b word opening comma closing ts us rest w w' one w'' two w''') =
-      let left = inner (expression a) ts (comma ∷ us) one in
-      let right = inner (expression b) us (closing ∷ rest) two in
-      let l = left.few in
-      let r = right.few in
-      record { few = omega (arith, l, r) }
   few_primary _ _ _ (an_extract field e word opening name from closing ts rest w w' f w'' one w''') =
       let operand = inner (expression e) ts (closing ∷ rest) one in
       let few = operand.few in
@@ -177,10 +171,10 @@ module _ (Inner : Clause → List Lexeme → List Lexeme → Type 0) (inner : (c
       let values = few_arguments e es (inner (expression e) vs ws one) all in
       record { few = omega (arith, few, values) }
   few_predicate _ _ _ (a_like x negated word t ts us rest h n w w') = let operand = few_value x ts us h in let few = operand.few in record { few = omega (arith, few) }
-  few_predicate _ _ _ (a_null_test x negated word null_word ts us rest h w n w') = let operand = few_value x ts (word ∷ us) h in let few = operand.few in record { few = omega (arith, few) }
+  few_predicate _ _ _ (a_value_test x p negated word t ts us rest h w n w') = let operand = few_value x ts (word ∷ us) h in let few = operand.few in record { few = omega (arith, few) }
 
   few_boolean_primary : (c : Condition) (ts rest : List Lexeme) → IsBooleanPrimary Inner c ts rest → FewNodesOf c
-  few_boolean_primary _ _ _ (predicate c ts rest h) = few_predicate c ts rest h
+  few_boolean_primary _ _ _ (a_predicate c ts rest h) = few_predicate c ts rest h
   few_boolean_primary _ _ _ (condition_brackets c opening closing ts rest w one w') = let within = inner (condition c) ts (closing ∷ rest) one in let few = within.few in record { few = few }
 
   few_test : (c : Condition) (ts rest : List Lexeme) → IsBooleanTest Inner c ts rest → FewNodesOf c

@@ -22,6 +22,7 @@ use Rattle.qw_scalar.specs.declared.expression.Field.{Field}
 use Rattle.qw_scalar.specs.declared.comparison.Comparison.{Comparison}
 use Rattle.qw_scalar.specs.declared.comparison.Comparison.TheVariants.{Equal, GreaterOrEqual, LessOrEqual}
 use Rattle.qw_scalar.specs.Columns.{HasColumns, HaveColumns}
+use Rattle.qw_scalar.specs.declared.expression.Function.TheVariants.{Coalesce, NullIf}
 use Rattle.qw_scalar.specs.Expression as meaning
 use Rattle.qw_scalar.specs.Typing.{AreTyped, IsTyped, ScalesAllowed, agree, are_comparable, has_kind, is_date, is_number, kind_of}
 use Rattle.qw_grouped.specs.declared.query.GroupedColumn.{GroupedColumn}
@@ -30,7 +31,7 @@ use Rattle.qw_ast.specs.declared.script.Sign.TheVariants.{Plus, Minus}
 use Rattle.qw_typer.specs.declared.fault.FaultKind.{FaultKind}
 use Rattle.qw_typer.specs.declared.fault.FaultKind.TheVariants.{Clash, UnknownTable}
 use Rattle.qw_ast.specs.Grammar.{name_of}
-use Rattle.qw_ast.specs.Syntax.{Days, Expression, null, number, text, date, column, signed, arithmetic, extract, searched_case, simple_case, coalesce, null_if, count_rows, set_function, Condition, comparison, between, among, is_null, both, either, negation_of, is, bracketed, condition, expression, Expressions, last, further, Branching, otherwise, when}
+use Rattle.qw_ast.specs.Syntax.{Days, Expression, null, number, text, date, column, signed, arithmetic, extract, searched_case, simple_case, call, count_rows, set_function, Condition, comparison, between, among, predicate, both, either, negation_of, is, bracketed, condition, expression, Expressions, last, further, Branching, otherwise, when}
 use Rattle.qw_typer.specs.Days.{Day}
 use Rattle.qw_ast.specs.Quoted.{string_value}
 use Rattle.qw_typer.specs.Literal.{after_intervals, date_at, date_of, day_shown, digits_of, is_short, number_of, scale_of}
@@ -123,14 +124,6 @@ comparison_good Holds op x y e hx hy = record { typed = ((hx.typed, hy.typed), e
 joined_none : (k : Option Kind) → agree None k ≡ true
 joined_none k = refl
 
-pub null_if_good : (Holds : ℕ → Ty → Type 0) (x y : meaning.Expression) → are_comparable (kind_of x) (kind_of y) ≡ true → IsGood Holds x → IsGood Holds y → IsGood Holds (meaning.null_if x y)
-null_if_good Holds x y e hx hy = record {
-  typed = (((hx.typed, hy.typed), e), ((tt, hx.typed), refl));
-  columns = ((hx.columns, hy.columns), (tt, hx.columns));
-  scaled = (let m : max 0 (meaning.scale_of x) ≡ meaning.scale_of x = omega arith in m ∙ hx.scaled);
-  small = (let small : meaning.scale_of x ≤ 18 = hx.small in omega arith);
-}
-
 -- ---- CASE
 
 scaled_all : (Holds : ℕ → Ty → Type 0) (cs : meaning.Choices) → AreGood Holds cs → AreScaled cs
@@ -187,6 +180,16 @@ among_good Holds token x (meaning.more v vs) none hx hv =
     let one = comparison_good Holds Equal x v (tested (are_comparable (kind_of x) (kind_of v)) _ token first) hx hv.0 in
     let more = among_good Holds token x vs others hx hv.1 in
     record { typed = (one.typed, more.typed); columns = (one.columns, more.columns) }
+
+pub unless_good : (Holds : ℕ → Ty → Type 0) (token : List ℕ) (x : meaning.Expression) (vs : meaning.Expressions) → among_faults token x vs ≡ [] → IsGood Holds x → AllGood Holds vs → IsGood Holds (meaning.unless_among (meaning.more x vs))
+unless_good Holds token x vs none hx hv =
+    let test = among_good Holds token x vs none hx hv in
+    record {
+      typed = (test.typed, ((tt, hx.typed), refl));
+      columns = (test.columns, (tt, hx.columns));
+      scaled = (let m : max 0 (meaning.scale_of x) ≡ meaning.scale_of x = omega arith in m ∙ hx.scaled);
+      small = (let small : meaning.scale_of x ≤ 18 = hx.small in omega arith);
+    }
 
 pub case_tested : (token : List ℕ) (cs : meaning.Choices) → case_faults token cs ≡ [] → results_agree cs ≡ true
 case_tested token cs none = (and_parts (results_agree cs) (has_kind (results_kind cs)) (tested (results_agree cs && has_kind (results_kind cs)) _ token none)).0
@@ -419,13 +422,14 @@ mutual
       let q = no_own (branch_faults (first_token x) branches ++ matches_faults scope (first_token x) (meant scope x) branches) _ p.1 in
       let t = no_both (branch_faults (first_token x) branches) (matches_faults scope (first_token x) (meant scope x) branches) q.0 in
       case_good (HasColumn scope) (matches scope (meant scope x) branches) (matches_good scope s (first_token x) (meant scope x) (good scope s x p.0) branches t.1) (case_tested (first_token x) (matches scope (meant scope x) branches) q.1)
-  good scope s (coalesce es) h =
+  good scope s (call Coalesce es) h =
       let p = no_own (all_faults scope es) _ h in
       case_good (HasColumn scope) (meaning.coalesced (all_meant scope es)) (coalesced_good (HasColumn scope) (all_meant scope es) (all_good scope s es p.0)) (case_tested (first_of_all es) (meaning.coalesced (all_meant scope es)) p.1)
-  good scope s (null_if a b) h =
-      let p = no_own (faults scope a ++ faults scope b) _ h in
-      let q = no_both (faults scope a) (faults scope b) p.0 in
-      null_if_good (HasColumn scope) (meant scope a) (meant scope b) (tested (are_comparable (kind_of (meant scope a)) (kind_of (meant scope b))) _ _ p.1) (good scope s a q.0) (good scope s b q.1)
+  good scope s (call NullIf (last e)) h = case_good (HasColumn scope) (meaning.otherwise (meant scope e)) (good scope s e (no_own (faults scope e) [] h).0) refl
+  good scope s (call NullIf (further e es)) h =
+      let p = no_own (faults scope e ++ all_faults scope es) _ h in
+      let q = no_both (faults scope e) (all_faults scope es) p.0 in
+      unless_good (HasColumn scope) (first_token e) (meant scope e) (all_meant scope es) p.1 (good scope s e q.0) (all_good scope s es q.1)
   good scope s (count_rows place) h = function_good scope.entries scope.grouping s.1 place
   good scope s (set_function place f a) h = function_good scope.entries scope.grouping s.1 place
 
@@ -446,7 +450,7 @@ mutual
       let p = no_own (faults scope x ++ all_faults scope es) _ h in
       let q = no_both (faults scope x) (all_faults scope es) p.0 in
       not_good (HasColumn scope) negated _ (among_good (HasColumn scope) (first_token x) (meant scope x) (all_meant scope es) p.1 (good scope s x q.0) (all_good scope s es q.1))
-  condition_good scope s (is_null negated a) h =
+  condition_good scope s (predicate p negated a) h =
       let g = good scope s a h in
       not_good (HasColumn scope) negated _ (record { typed = g.typed; columns = g.columns })
   condition_good scope s (both c d) h =

@@ -1,11 +1,11 @@
 -- How large the typed trees of a query are, with the arguments of its set functions, which stand beside the trees that name them.
-use Rattle.std.proofs.Common.{◌≡◌, ℕ, ◌+◌, ◌≤◌, List, [], ◌∷◌, ◌++◌, map, length, Option, Some, None, refl, arith}
+use Rattle.std.proofs.Common.{◌≡◌, ℕ, ◌+◌, ◌≤◌, List, [], ◌∷◌, ◌++◌, length, Option, Some, None, refl, arith}
 use Rattle.std.specs.List.{flat_map}
 use Rattle.std.specs.Option.{option_map_or}
 use Rattle.std.proofs.lemmas.List.Sums.{sum_by-cons}
 use Rattle.qw_ast.specs.Limits as script
 use Rattle.qw_ast.specs.Limits.{items_of, over_filter, over_items, over_joins, over_sources}
-use Rattle.qw_ast.specs.Syntax.{Expression, null, number, text, date, column, signed, arithmetic, extract, searched_case, simple_case, coalesce, null_if, count_rows, set_function, Condition, comparison, between, among, is_null, both, either, negation_of, is, bracketed, Clause, condition, expression, Expressions, last, further, Branching, otherwise, when, SelectItem, Joined, Source, Select}
+use Rattle.qw_ast.specs.Syntax.{Expression, null, number, text, date, column, signed, arithmetic, extract, searched_case, simple_case, call, count_rows, set_function, Condition, comparison, between, among, predicate, both, either, negation_of, is, bracketed, Clause, condition, expression, Expressions, last, further, Branching, otherwise, when, SelectItem, Joined, Source, Select}
 use Rattle.qw_typer.specs.Functions.{Written, counted, applied, functions_in, written, written_in, written_in_all, written_in_branches, written_in_clause}
 use Rattle.qw_typer.specs.Inner.Grouping.{argument_nodes, argument_octets, arguments_nodes, arguments_octets}
 use Rattle.qw_typer.specs.Inner.Sizes.{nodes, nodes_all, nodes_branches, nodes_clause, nodes_condition, octets, octets_all, octets_branches, octets_clause, octets_condition, weight, weight_all, weight_branches, weight_clause, weight_condition}
@@ -59,14 +59,9 @@ mutual
       let h1 = weighed_branches branches in
       let s = inner_more (written x) (written_in_branches branches) in
       omega (arith, h0, h1, s)
-  weighed (coalesce es) =
+  weighed (call function es) =
       let h0 = weighed_all es in
       omega (arith, h0)
-  weighed (null_if a b) =
-      let h0 = weighed a in
-      let h1 = weighed b in
-      let s = inner_more (written a) (written b) in
-      omega (arith, h0, h1, s)
   weighed (count_rows place) = omega arith
   weighed (set_function place f a) = omega arith
 
@@ -88,7 +83,7 @@ mutual
       let h1 = weighed_all es in
       let s = inner_more (written x) (written_in_all es) in
       omega (arith, h0, h1, s)
-  weighed_condition (is_null negated a) =
+  weighed_condition (predicate p negated a) =
       let h0 = weighed a in
       omega (arith, h0)
   weighed_condition (both c d) =
@@ -167,14 +162,9 @@ mutual
       let h1 = octets_kept_branches branches in
       let s = inner_octets_more (written x) (written_in_branches branches) in
       omega (arith, h0, h1, s)
-  octets_kept (coalesce es) =
+  octets_kept (call function es) =
       let h0 = octets_kept_all es in
       omega (arith, h0)
-  octets_kept (null_if a b) =
-      let h0 = octets_kept a in
-      let h1 = octets_kept b in
-      let s = inner_octets_more (written a) (written b) in
-      omega (arith, h0, h1, s)
   octets_kept (count_rows place) = omega arith
   octets_kept (set_function place f a) = let h = octets_kept a in omega (arith, h)
 
@@ -196,7 +186,7 @@ mutual
       let h1 = octets_kept_all es in
       let s = inner_octets_more (written x) (written_in_all es) in
       omega (arith, h0, h1, s)
-  octets_kept_in (is_null negated a) =
+  octets_kept_in (predicate p negated a) =
       let h0 = octets_kept a in
       omega (arith, h0)
   octets_kept_in (both c d) =

@@ -6,7 +6,7 @@ use Rattle.std.proofs.lemmas.List.{length-append}
 use Rattle.qw_token.specs.Token.{Lexeme}
 use Rattle.qw_ast.specs.Limits.{IsQuery, items_of, nodes, nodes_condition, over_filter, over_items, over_joins, over_sources, query_nodes, starred_nodes}
 use Rattle.qw_ast.specs.ScriptGrammar as grammar
-use Rattle.qw_ast.specs.Syntax.{Clause, Condition, comparison, between, among, is_null, both, either, negation_of, is, bracketed, Joined, Selected, Select, Source}
+use Rattle.qw_ast.specs.Syntax.{Clause, Condition, comparison, between, among, predicate, both, either, negation_of, is, bracketed, Joined, Selected, Select, Source}
 use Rattle.qw_typer.specs.Typed.{HasFewItems, IsWithin, conjuncts_of}
 
 -- each conjunct has a node
@@ -14,7 +14,7 @@ some_node : (c : Condition) → 1 ≤ nodes_condition c
 some_node (comparison op a b) = omega arith
 some_node (between negated x a b) = omega arith
 some_node (among negated x es) = omega arith
-some_node (is_null negated a) = omega arith
+some_node (predicate p negated a) = omega arith
 some_node (both c d) = omega arith
 some_node (either c d) = omega arith
 some_node (negation_of c) = omega arith
@@ -29,7 +29,7 @@ node_each (both c d) =
 node_each (comparison op a b) = omega arith
 node_each (between negated x a b) = omega arith
 node_each (among negated x es) = omega arith
-node_each (is_null negated a) = omega arith
+node_each (predicate p negated a) = omega arith
 node_each (either c d) = omega arith
 node_each (negation_of c) = omega arith
 node_each (is negated c t) = omega arith

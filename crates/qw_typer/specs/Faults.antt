@@ -7,12 +7,14 @@ use Rattle.std.specs.Str.{bytes_eq}
 use Rattle.qw_types.specs.declared.kind.Kind.{Kind}
 use Rattle.qw_scalar.specs.declared.expression.Operator.{Operator}
 use Rattle.qw_scalar.specs.declared.expression.Operator.TheVariants.{Add, Subtract, Multiply, Divide}
+use Rattle.qw_scalar.specs.declared.expression.Function.{Function}
+use Rattle.qw_scalar.specs.declared.expression.Function.TheVariants.{Coalesce, NullIf}
 use Rattle.qw_scalar.specs.Expression as meaning
 use Rattle.qw_scalar.specs.Typing.{agree, are_comparable, has_kind, is_date, is_number, joined, kind_of}
 use Rattle.qw_ast.specs.declared.script.SetFunction.{SetFunction}
 use Rattle.qw_ast.specs.declared.script.SetFunction.TheVariants.{Count, Sum, Avg, Min, Max}
 use Rattle.qw_ast.specs.Grammar.{name_of}
-use Rattle.qw_ast.specs.Syntax.{Expression, null, number, text, date, column, signed, arithmetic, extract, searched_case, simple_case, coalesce, null_if, count_rows, set_function, Condition, comparison, between, among, is_null, both, either, negation_of, is, bracketed, condition, expression, Expressions, last, further, Branching, otherwise, when}
+use Rattle.qw_ast.specs.Syntax.{Expression, null, number, text, date, column, signed, arithmetic, extract, searched_case, simple_case, call, count_rows, set_function, Condition, comparison, between, among, predicate, both, either, negation_of, is, bracketed, condition, expression, Expressions, last, further, Branching, otherwise, when}
 use Rattle.qw_typer.specs.declared.fault.FaultKind.{FaultKind}
 use Rattle.qw_typer.specs.declared.fault.FaultKind.TheVariants.{Ambiguous, UnknownTable, UnknownColumn, Clash, ScaleTooLarge, LiteralTooLong, BadDate, NotGrouped, NestedAggregate}
 use Rattle.qw_typer.specs.Literal.{date_of, number_of}
@@ -55,8 +57,7 @@ abbrev mutual
   first_token (extract field a) = first_token a
   first_token (searched_case branches) = first_of_branches branches
   first_token (simple_case x branches) = first_token x
-  first_token (coalesce es) = first_of_all es
-  first_token (null_if a b) = first_token a
+  first_token (call function es) = first_of_all es
   first_token (count_rows place) = codes "COUNT"
   first_token (set_function place f a) = function_word f
 
@@ -64,7 +65,7 @@ abbrev mutual
   first_of_condition (comparison op a b) = first_token a
   first_of_condition (between negated x a b) = first_token x
   first_of_condition (among negated x es) = first_token x
-  first_of_condition (is_null negated a) = first_token a
+  first_of_condition (predicate p negated a) = first_token a
   first_of_condition (both c d) = first_of_condition c
   first_of_condition (either c d) = first_of_condition c
   first_of_condition (negation_of c) = first_of_condition c
@@ -173,6 +174,12 @@ results_agree (meaning.when c e rest) = agree (kind_of e) (results_kind rest) &&
 abbrev pub case_faults : List ℕ → meaning.Choices → List Fault
 case_faults token results = fault_where (not (results_agree results && has_kind (results_kind results))) Clash token
 
+-- of the arguments of a function: COALESCE is a CASE of them, NULLIF compares the first with each of the others (6.9)
+abbrev pub call_faults : List ℕ → Function → meaning.Expressions → List Fault
+call_faults token Coalesce es = case_faults token (meaning.coalesced es)
+call_faults token NullIf (meaning.last e) = []
+call_faults token NullIf (meaning.more e es) = among_faults token e es
+
 -- what has no kind can't be an item of a select list
 abbrev pub item_faults : List ℕ → meaning.Expression → List Fault
 item_faults token x = fault_where (not (has_kind (kind_of x))) Clash token
@@ -200,8 +207,7 @@ abbrev mutual
   faults scope (searched_case branches) = or_own (choices_faults scope branches) (case_faults (first_of_branches branches) (choices scope branches))
   faults scope (simple_case x branches) =
       or_own (faults scope x) (or_own (branch_faults (first_token x) branches ++ matches_faults scope (first_token x) (meant scope x) branches) (case_faults (first_token x) (matches scope (meant scope x) branches)))
-  faults scope (coalesce es) = or_own (all_faults scope es) (case_faults (first_of_all es) (meaning.coalesced (all_meant scope es)))
-  faults scope (null_if a b) = or_own (faults scope a ++ faults scope b) (comparison_faults (first_token a) (meant scope a) (meant scope b))
+  faults scope (call function es) = or_own (all_faults scope es) (call_faults (first_of_all es) function (all_meant scope es))
   faults scope (count_rows place) = nested_faults scope.grouping (codes "COUNT")
   faults scope (set_function place f a) =
       or_own (nested_faults scope.grouping (function_word f)) (or_own (faults (ungrouped scope.entries) a) (argument_faults (first_token a) f (meant (ungrouped scope.entries) a)))
@@ -211,7 +217,7 @@ abbrev mutual
   condition_faults scope (between negated x a b) =
       or_own (faults scope x ++ (faults scope a ++ faults scope b)) (comparison_faults (first_token x) (meant scope x) (meant scope a) ++ comparison_faults (first_token x) (meant scope x) (meant scope b))
   condition_faults scope (among negated x es) = or_own (faults scope x ++ all_faults scope es) (among_faults (first_token x) (meant scope x) (all_meant scope es))
-  condition_faults scope (is_null negated a) = faults scope a
+  condition_faults scope (predicate p negated a) = faults scope a
   condition_faults scope (both c d) = condition_faults scope c ++ condition_faults scope d
   condition_faults scope (either c d) = condition_faults scope c ++ condition_faults scope d
   condition_faults scope (negation_of c) = condition_faults scope c

@@ -5,7 +5,7 @@ use Rattle.std.specs.List.{flat_map}
 use Rattle.std.specs.Option.{option_map_or}
 use Rattle.qw_ast.specs.declared.script.SetFunction.{SetFunction}
 use Rattle.qw_ast.specs.Limits.{items_of}
-use Rattle.qw_ast.specs.Syntax.{Expression, null, number, text, date, column, signed, arithmetic, extract, searched_case, simple_case, coalesce, null_if, count_rows, set_function, Condition, comparison, between, among, is_null, both, either, negation_of, is, bracketed, Clause, condition, expression, Expressions, last, further, Branching, otherwise, when, SelectItem, Select}
+use Rattle.qw_ast.specs.Syntax.{Expression, null, number, text, date, column, signed, arithmetic, extract, searched_case, simple_case, call, count_rows, set_function, Condition, comparison, between, among, predicate, both, either, negation_of, is, bracketed, Clause, condition, expression, Expressions, last, further, Branching, otherwise, when, SelectItem, Select}
 
 -- COUNT(*), or a set function of an argument, at its place
 pub data Written : Type 0 where
@@ -24,8 +24,7 @@ abbrev mutual
   written (extract field a) = written a
   written (searched_case branches) = written_in_branches branches
   written (simple_case x branches) = written x ++ written_in_branches branches
-  written (coalesce es) = written_in_all es
-  written (null_if a b) = written a ++ written b
+  written (call function es) = written_in_all es
   written (count_rows place) = counted place ∷ []
   written (set_function place f a) = applied place f a ∷ []
 
@@ -33,7 +32,7 @@ abbrev mutual
   written_in (comparison op a b) = written a ++ written b
   written_in (between negated x a b) = written x ++ (written a ++ written b)
   written_in (among negated x es) = written x ++ written_in_all es
-  written_in (is_null negated a) = written a
+  written_in (predicate p negated a) = written a
   written_in (both c d) = written_in c ++ written_in d
   written_in (either c d) = written_in c ++ written_in d
   written_in (negation_of c) = written_in c

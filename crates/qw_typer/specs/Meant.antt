@@ -12,7 +12,7 @@ use Rattle.qw_grouped.specs.declared.query.GroupedColumn.{GroupedColumn}
 use Rattle.qw_ast.specs.declared.script.Sign.{Sign}
 use Rattle.qw_ast.specs.declared.script.Sign.TheVariants.{Plus, Minus}
 use Rattle.qw_ast.specs.Grammar.{name_of}
-use Rattle.qw_ast.specs.Syntax.{Expression, null, number, text, date, column, signed, arithmetic, extract, searched_case, simple_case, coalesce, null_if, count_rows, set_function, Condition, comparison, between, among, is_null, both, either, negation_of, is, bracketed, condition, expression, Expressions, last, further, Branching, otherwise, when}
+use Rattle.qw_ast.specs.Syntax.{Expression, null, number, text, date, column, signed, arithmetic, extract, searched_case, simple_case, call, count_rows, set_function, Condition, comparison, between, among, predicate, both, either, negation_of, is, bracketed, condition, expression, Expressions, last, further, Branching, otherwise, when}
 use Rattle.qw_ast.specs.Quoted.{string_value}
 use Rattle.qw_typer.specs.Literal.{date_of, number_of}
 
@@ -110,8 +110,7 @@ abbrev mutual
   meant scope (extract field a) = meaning.extract field (meant scope a)
   meant scope (searched_case branches) = meaning.case (choices scope branches)
   meant scope (simple_case x branches) = meaning.case (matches scope (meant scope x) branches)
-  meant scope (coalesce es) = meaning.case (meaning.coalesced (all_meant scope es))
-  meant scope (null_if a b) = meaning.null_if (meant scope a) (meant scope b)
+  meant scope (call function es) = meaning.called function (all_meant scope es)
   meant scope (count_rows place) = function_meant scope.grouping place
   meant scope (set_function place f a) = function_meant scope.grouping place
 
@@ -119,7 +118,7 @@ abbrev mutual
   condition_meant scope (comparison op a b) = meaning.comparison op (meant scope a) (meant scope b)
   condition_meant scope (between negated x a b) = with_not negated (meaning.between (meant scope x) (meant scope a) (meant scope b))
   condition_meant scope (among negated x es) = with_not negated (meaning.among (meant scope x) (all_meant scope es))
-  condition_meant scope (is_null negated a) = with_not negated (meaning.is_null (meant scope a))
+  condition_meant scope (predicate p negated a) = with_not negated (meaning.predicate p (meant scope a))
   condition_meant scope (both c d) = meaning.both (condition_meant scope c) (condition_meant scope d)
   condition_meant scope (either c d) = meaning.either (condition_meant scope c) (condition_meant scope d)
   condition_meant scope (negation_of c) = meaning.negation_of (condition_meant scope c)

@@ -6,8 +6,8 @@ use Rattle.qw_scalar.specs.declared.expression.Cond.{Cond}
 use Rattle.qw_scalar.specs.declared.expression.Exprs.{Exprs}
 use Rattle.qw_scalar.specs.declared.expression.Branches.{Branches}
 use Rattle.qw_scalar.specs.declared.expression.Matches.{Matches}
-use Rattle.qw_scalar.specs.declared.expression.Expr.TheVariants.{Null, Number, Date, Text, Column, Arithmetic', Negative', Extract', Case', Match', Coalesce', NullIf'}
-use Rattle.qw_scalar.specs.declared.expression.Cond.TheVariants.{Compare', Between', In', IsNull', And', Or', Not', Is'}
+use Rattle.qw_scalar.specs.declared.expression.Expr.TheVariants.{Null, Number, Date, Text, Column, Arithmetic', Negative', Extract', Case', Match', Call'}
+use Rattle.qw_scalar.specs.declared.expression.Cond.TheVariants.{Compare', Between', In', Predicate', And', Or', Not', Is'}
 use Rattle.qw_scalar.specs.declared.expression.Exprs.TheVariants as Exprs
 use Rattle.qw_scalar.specs.declared.expression.Branches.TheVariants as Branches
 use Rattle.qw_scalar.specs.declared.expression.Matches.TheVariants as Matches
@@ -35,14 +35,13 @@ abbrev mutual
   text_octets (Extract' field _ a) = text_octets a
   text_octets (Case' _ branches) = text_octets_of_branches branches
   text_octets (Match' _ x _ matches) = text_octets x + text_octets_of_matches matches
-  text_octets (Coalesce' _ arguments) = text_octets_of_all arguments
-  text_octets (NullIf' _ a _ b) = text_octets a + text_octets b
+  text_octets (Call' function _ arguments) = text_octets_of_all arguments
 
   pub text_octets_of : Cond → ℕ
   text_octets_of (Compare' op _ a _ b) = text_octets a + text_octets b
   text_octets_of (Between' _ x _ a _ b) = text_octets x + (text_octets a + text_octets b)
   text_octets_of (In' _ x _ values) = text_octets x + text_octets_of_all values
-  text_octets_of (IsNull' _ a) = text_octets a
+  text_octets_of (Predicate' p _ a) = text_octets a
   text_octets_of (And' _ c _ d) = text_octets_of c + text_octets_of d
   text_octets_of (Or' _ c _ d) = text_octets_of c + text_octets_of d
   text_octets_of (Not' _ c) = text_octets_of c

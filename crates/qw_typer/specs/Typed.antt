@@ -16,7 +16,7 @@ use Rattle.qw_grouped.specs.Whole.{Whole, grouped, plain}
 use Rattle.qw_order.specs.declared.sort_key.SortKey.{SortKey}
 use Rattle.qw_ast.specs.Grammar.{name_of}
 use Rattle.qw_ast.specs.Limits.{entries_in, entries_of}
-use Rattle.qw_ast.specs.Syntax.{Expression, null, number, text, date, column, signed, arithmetic, extract, searched_case, simple_case, coalesce, null_if, count_rows, set_function, Condition, comparison, between, among, is_null, both, either, negation_of, is, bracketed, SelectItem, Selected, all_columns, items, Entry, Joined, Source, Select}
+use Rattle.qw_ast.specs.Syntax.{Expression, null, number, text, date, column, signed, arithmetic, extract, searched_case, simple_case, call, count_rows, set_function, Condition, comparison, between, among, predicate, both, either, negation_of, is, bracketed, SelectItem, Selected, all_columns, items, Entry, Joined, Source, Select}
 use Rattle.qw_typer.specs.declared.fault.FaultKind.TheVariants.{DuplicateAlias, UnknownTable}
 use Rattle.qw_typer.specs.declared.fault.TypeFault.{TypeFault}
 use Rattle.qw_typer.specs.declared.fault.TypeFault.TheVariants as type_fault
@@ -73,7 +73,7 @@ conjuncts_of (both c d) = conjuncts_of c ++ d ∷ []
 conjuncts_of (comparison op a b) = comparison op a b ∷ []
 conjuncts_of (between negated x a b) = between negated x a b ∷ []
 conjuncts_of (among negated x es) = among negated x es ∷ []
-conjuncts_of (is_null negated a) = is_null negated a ∷ []
+conjuncts_of (predicate p negated a) = predicate p negated a ∷ []
 conjuncts_of (either c d) = either c d ∷ []
 conjuncts_of (negation_of c) = negation_of c ∷ []
 conjuncts_of (is negated c t) = is negated c t ∷ []
@@ -135,8 +135,7 @@ own_name position' (arithmetic operator a b) = codes "C" ++ decimal position'
 own_name position' (extract field a) = codes "C" ++ decimal position'
 own_name position' (searched_case branches) = codes "C" ++ decimal position'
 own_name position' (simple_case x branches) = codes "C" ++ decimal position'
-own_name position' (coalesce es) = codes "C" ++ decimal position'
-own_name position' (null_if a b) = codes "C" ++ decimal position'
+own_name position' (call function es) = codes "C" ++ decimal position'
 own_name position' (count_rows place) = codes "C" ++ decimal position'
 own_name position' (set_function place f a) = codes "C" ++ decimal position'
 

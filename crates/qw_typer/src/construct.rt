@@ -3,12 +3,12 @@
 
 ghost use Rattle.std.specs.Prelude.{◌≡◌, ℕ, ◌+◌, IfOk, MatchResult, Ok, Result};
 ghost use Rattle.qw_ast.specs.SyntaxTree as syntax;
-ghost use Rattle.qw_scalar.specs.Expression.{Choices, Condition, Expression, Expressions, both, coalesced, either, is, is_null, negation_of};
+ghost use Rattle.qw_scalar.specs.Expression.{Choices, Condition, Expression, Expressions, both, coalesced, either, is, last, negation_of, predicate as predicate_of, unless_among};
 ghost use Rattle.qw_scalar.specs.Tree.{choices_of, condition_of, expression_of, expressions_of, matches_of};
 ghost use Rattle.qw_scalar.specs.Typing.{kind_of};
 ghost use Rattle.qw_typer.specs.Faults.{Fault, first_of_all, first_of_branches, first_token};
 ghost use Rattle.qw_typer.specs.Inner.Sizes.{Fits, FitsAll, FitsBranches, FitsCondition, FitsMatches};
-ghost use Rattle.qw_typer.specs.Inner.Typing.{◌>>=◌ as ◌and_then◌, AreTold, Gives, GivesArguments, GivesChoices, GivesCondition, GivesMatches, GivesValues, IsTold, all_comparable, among_outcome, arithmetic_outcome, between_outcome, case_outcome, comparison_outcome, field_outcome, null_if_outcome, sign_outcome};
+ghost use Rattle.qw_typer.specs.Inner.Typing.{◌>>=◌ as ◌and_then◌, AreTold, Gives, GivesArguments, GivesChoices, GivesCondition, GivesMatches, GivesValues, IsTold, all_comparable, among_outcome, arithmetic_outcome, between_outcome, case_outcome, comparison_outcome, field_outcome, sign_outcome, unless_outcome};
 ghost use Rattle.qw_typer.specs.Meant.{with_not};
 ghost use Rattle.qw_typer.specs.declared.refusal.Refusal.TheVariants.{NoMemory};
 
@@ -19,7 +19,7 @@ use crate::tree::{Results, Typed, Values, both, boxed, boxes, pair, three, three
 use qw_ast::script::{Branches, Expr, Exprs, Sign};
 use qw_scalar::comparison::Comparison;
 use qw_scalar::expression as meaning;
-use qw_scalar::expression::{Field, Operator};
+use qw_scalar::expression::{Field, Function, Operator, Predicate};
 use qw_types::{Kind, Truth};
 use std::alloc::Global;
 
@@ -189,42 +189,62 @@ pub(crate) fn coalesced<'a>(
     }
     Ok(Typed {
         kind: results.kind,
-        tree: meaning::Expr::Coalesce(boxed(alloc, results.tree)?),
+        tree: meaning::Expr::Call(Function::Coalesce, boxed(alloc, results.tree)?),
     })
 }
 
-/// The arguments of NULLIF as they were found.
-pub(crate) fn null_if<'a>(
+/// The only argument of NULLIF as it was found.
+pub(crate) fn unless_none<'a>(
     alloc: Global,
-    left: Result<Typed, Refusal<'a>>,
-    right: Result<Typed, Refusal<'a>>,
-    at: &Expr<'a>,
+    operand: Result<Typed, Refusal<'a>>,
 ) -> Result<Typed, Refusal<'a>>
-    ensures gives { (x y : Result Expression Fault) → Gives left.entry x → Gives right.entry y → Gives result (x and_then (λ a. y and_then (λ b. null_if_outcome (first_token (syntax.expression_of at.now)) a b))) }
-    ensures fits { (n k m j : ℕ) → IfOk left.entry (λ x. Fits x.tree n k) → IfOk right.entry (λ y. Fits y.tree m j) → IfOk result (λ made. Fits made.tree (1 + (n + m)) (k + j)) }
+    ensures gives { (x : Result Expression Fault) → Gives operand.entry x → Gives result (x and_then (λ e. Ok (unless_among (last e)))) }
+    ensures fits { (n k : ℕ) → IfOk operand.entry (λ x. Fits x.tree n k) → IfOk result (λ made. Fits made.tree (1 + (1 + n)) k) }
 {
-    let (left, right) = pair(left, right)?;
-    null_where_equal(alloc, left, right, at)
+    let operand = operand?;
+    let argument = boxed(alloc, operand.tree)?;
+    let arguments = boxed(alloc, meaning::Exprs::Last(argument))?;
+    Ok(Typed {
+        kind: operand.kind,
+        tree: meaning::Expr::Call(Function::NullIf, arguments),
+    })
 }
 
-/// The arguments of NULLIF.
-fn null_where_equal<'a>(
+/// The arguments of NULLIF as they were found, where it is known whether the others compare with the first.
+pub(crate) fn unless_found<'a>(
     alloc: Global,
-    left: Typed,
-    right: Typed,
+    first: Result<Typed, Refusal<'a>>,
+    others: Result<Values, Refusal<'a>>,
     at: &Expr<'a>,
 ) -> Result<Typed, Refusal<'a>>
-    ensures gives { IsTold left → IsTold right → Gives result (null_if_outcome (first_token (syntax.expression_of at.now)) (expression_of left.tree) (expression_of right.tree)) }
-    ensures fits { (n k m j : ℕ) → Fits left.tree n k → Fits right.tree m j → IfOk result (λ made. Fits made.tree (1 + (n + m)) (k + j)) }
+    ensures gives { (x : Result Expression Fault) (vs : Result Expressions Fault) → Gives first.entry x → IfOk first.entry (λ t. GivesValues t.kind others.entry vs)
+        → Gives result (x and_then (λ a. vs and_then (λ bs. unless_outcome (first_token (syntax.expression_of at.now)) a bs))) }
+    ensures fits { (n k m j : ℕ) → IfOk first.entry (λ x. Fits x.tree n k) → IfOk others.entry (λ made. FitsAll made.tree m j) → IfOk result (λ made. Fits made.tree (1 + (1 + (n + m))) (k + j)) }
 {
-    if !are_comparable(left.kind, right.kind) {
+    let (first, others) = pair(first, others)?;
+    unless_equal(alloc, first, others.tree, others.comparable, at)
+}
+
+/// The arguments of NULLIF, where it is known whether the others compare with the first.
+fn unless_equal<'a>(
+    alloc: Global,
+    first: Typed,
+    others: meaning::Exprs,
+    comparable: bool,
+    at: &Expr<'a>,
+) -> Result<Typed, Refusal<'a>>
+    ensures gives { IsTold first → comparable ≡ all_comparable (kind_of (expression_of first.tree)) (expressions_of others) → Gives result (unless_outcome (first_token (syntax.expression_of at.now)) (expression_of first.tree) (expressions_of others)) }
+    ensures fits { (n k m j : ℕ) → Fits first.tree n k → FitsAll others m j → IfOk result (λ made. Fits made.tree (1 + (1 + (n + m))) (k + j)) }
+{
+    if !comparable {
         return Err(Refusal::Fault(FaultKind::Clash, first_token(at)));
     }
-    let kind = left.kind;
-    let (left, right) = boxes(alloc, left.tree, right.tree)?;
+    let kind = first.kind;
+    let (first, others) = boxes(alloc, first.tree, others)?;
+    let arguments = boxed(alloc, meaning::Exprs::More(first, others))?;
     Ok(Typed {
         kind,
-        tree: meaning::Expr::NullIf(left, right),
+        tree: meaning::Expr::Call(Function::NullIf, arguments),
     })
 }
 
@@ -337,18 +357,19 @@ fn one_of<'a>(
     with_not(alloc, negated, meaning::Cond::In(operand, values))
 }
 
-/// A test for NULL of an operand as it was found.
-pub(crate) fn null_test<'a>(
+/// A predicate of an operand as it was found.
+pub(crate) fn value_test<'a>(
     alloc: Global,
+    predicate: Predicate,
     negated: bool,
     operand: Result<Typed, Refusal<'a>>,
 ) -> Result<meaning::Cond, Refusal<'a>>
-    ensures gives { (x : Result Expression Fault) → Gives operand.entry x → GivesCondition result (x and_then (λ e. Ok (with_not negated (is_null e)))) }
+    ensures gives { (x : Result Expression Fault) → Gives operand.entry x → GivesCondition result (x and_then (λ e. Ok (with_not negated (predicate_of predicate e)))) }
     ensures fits { (n k : ℕ) → IfOk operand.entry (λ x. Fits x.tree n k) → IfOk result (λ made. FitsCondition made (2 + n) k) }
 {
     let operand = operand?;
     let operand = boxed(alloc, operand.tree)?;
-    with_not(alloc, negated, meaning::Cond::IsNull(operand))
+    with_not(alloc, negated, meaning::Cond::Predicate(predicate, operand))
 }
 
 /// AND of two operands as they were found.

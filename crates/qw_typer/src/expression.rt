@@ -1,19 +1,19 @@
 //! Typed expressions and conditions (ISO/IEC 9075:1992, 6.9 to 6.12, 8.2 to 8.6, 8.12): operands from left to right, and the first
 //! fault that is met.
 
-ghost use Rattle.std.specs.Prelude.{◌≡◌, IfOk, MatchResult, Ok};
+ghost use Rattle.std.specs.Prelude.{◌≡◌, ◌+◌, IfOk, MatchResult, Ok};
 ghost use Rattle.qw_ast.specs.SyntaxTree as syntax;
 ghost use Rattle.qw_scalar.specs.Expression.{Expression};
 ghost use Rattle.qw_scalar.specs.Typing.{kind_of};
 ghost use Rattle.qw_typer.specs.Inner.Sizes.{Fits, FitsAll, FitsBranches, FitsCondition, FitsMatches, nodes, nodes_all, nodes_branches, nodes_condition, octets, octets_all, octets_branches, octets_condition};
-ghost use Rattle.qw_typer.specs.Inner.Typing.{Gives, GivesArguments, GivesChoices, GivesCondition, GivesMatches, GivesValues, in_reach, spelled, typed, typed_all, typed_choices, typed_branches, typed_condition};
+ghost use Rattle.qw_typer.specs.Inner.Typing.{Gives, GivesArguments, GivesChoices, GivesCondition, GivesMatches, GivesValues, in_reach, spelled, typed, typed_all, typed_branches, typed_choices, typed_condition, typed_unless};
 
 use crate::branch::{
     argument, arguments_more, last_match, match_more, matching, otherwise, value, values_more, when,
 };
 use crate::construct::{
     among, arithmetic, between, coalesced, compared, conjunction, disjunction, extracted, negation,
-    null_if, null_test, searched_case, signed, simple_case, truth_test,
+    searched_case, signed, simple_case, truth_test, unless_found, unless_none, value_test,
 };
 use crate::fault::FaultKind;
 use crate::leaf::{column, date, number, text};
@@ -23,6 +23,7 @@ use crate::set_function::{applied, rows_counted};
 use crate::tree::{Results, Typed, Values, kind_found};
 use qw_ast::script::{Branches, Cond, Expr, Exprs, Phrase};
 use qw_scalar::expression as meaning;
+use qw_scalar::expression::Function;
 use qw_types::Kind;
 use std::alloc::Global;
 
@@ -67,15 +68,13 @@ pub(crate) fn expression<'a>(
             let results = matches(alloc, scope, kind_found(&x), first_token(operand), branches);
             simple_case(alloc, x, results, operand)
         }
-        Expr::Coalesce(list) => {
-            let results = arguments(alloc, scope, list);
-            coalesced(alloc, results, list)
-        }
-        Expr::NullIf(left, right) => {
-            let x = expression(alloc, scope, left);
-            let y = expression(alloc, scope, right);
-            null_if(alloc, x, y, left)
-        }
+        Expr::Call(function, list) => match function {
+            Function::Coalesce => {
+                let results = arguments(alloc, scope, list);
+                coalesced(alloc, results, list)
+            }
+            Function::NullIf => unless_among(alloc, scope, list),
+        },
         Expr::CountRows(place) => rows_counted(scope, *place),
         Expr::SetFunction(place, function, argument) => {
             let inner = Scope::ungrouped(scope.entries);
@@ -112,9 +111,9 @@ pub(crate) fn condition<'a>(
             let found = values(alloc, scope, kind_found(&x), list);
             among(alloc, *negated, x, found, operand)
         }
-        Cond::IsNull(negated, operand) => {
+        Cond::Predicate(predicate, negated, operand) => {
             let x = expression(alloc, scope, operand);
-            null_test(alloc, *negated, x)
+            value_test(alloc, *predicate, *negated, x)
         }
         Cond::And(left, right) => {
             let x = condition(alloc, scope, left);
@@ -135,6 +134,29 @@ pub(crate) fn condition<'a>(
             truth_test(alloc, *negated, x, *truth)
         }
         Cond::Bracketed(operand) => condition(alloc, scope, operand),
+    }
+}
+
+/// The arguments of NULLIF: the first, or null where it is among the others.
+#[cycle(expression)]
+fn unless_among<'a>(
+    alloc: Global,
+    scope: &Scope<'_, '_>,
+    exprs: &Exprs<'a>,
+) -> Result<Typed, Refusal<'a>>
+    ensures gives { Gives result (typed_unless (in_reach scope.now) (syntax.expressions_of exprs.now)) }
+    ensures fits { IfOk result (λ made. Fits made.tree (1 + nodes_all (syntax.expressions_of exprs.now)) (octets_all (syntax.expressions_of exprs.now))) }
+{
+    match exprs {
+        Exprs::Last(expr) => {
+            let x = expression(alloc, scope, expr);
+            unless_none(alloc, x)
+        }
+        Exprs::More(expr, rest) => {
+            let x = expression(alloc, scope, expr);
+            let others = values(alloc, scope, kind_found(&x), rest);
+            unless_found(alloc, x, others, expr)
+        }
     }
 }
 

@@ -76,11 +76,7 @@ fn of_expression<'t, 'a>(
             of_expression(found, operand)?;
             of_branches(found, branches)
         }
-        Expr::Coalesce(arguments) => of_all(found, arguments),
-        Expr::NullIf(left, right) => {
-            of_expression(found, left)?;
-            of_expression(found, right)
-        }
+        Expr::Call(_, arguments) => of_all(found, arguments),
         Expr::CountRows(place) => {
             found.push(Written::Rows(*place))?;
             Ok(())
@@ -114,7 +110,7 @@ fn of_condition<'t, 'a>(
             of_expression(found, operand)?;
             of_all(found, values)
         }
-        Cond::IsNull(_, operand) => of_expression(found, operand),
+        Cond::Predicate(_, _, operand) => of_expression(found, operand),
         Cond::And(left, right) => {
             of_condition(found, left)?;
             of_condition(found, right)

@@ -33,10 +33,10 @@ pub(crate) fn first_token<'a>(expr: &Expr<'a>) -> Token<'a>
         Expr::Number(octets) | Expr::Text(octets) | Expr::Date(octets, _) => Token::Literal(octets),
         Expr::Column(_, name) => Token::Name(name),
         Expr::Signed(_, operand) | Expr::Extract(_, operand) => first_token(operand),
-        Expr::Arithmetic(_, left, _) | Expr::NullIf(left, _) => first_token(left),
+        Expr::Arithmetic(_, left, _) => first_token(left),
         Expr::Match(operand, _) => first_token(operand),
         Expr::Case(branches) => first_of_branches(branches),
-        Expr::Coalesce(arguments) => first_of_all(arguments),
+        Expr::Call(_, arguments) => first_of_all(arguments),
         Expr::CountRows(_) => Token::Function(SetFunction::Count),
         Expr::SetFunction(_, function, _) => Token::Function(*function),
     }
@@ -49,9 +49,9 @@ pub(crate) fn first_of_condition<'a>(cond: &Cond<'a>) -> Token<'a>
 {
     match cond {
         Cond::Compare(_, left, _) => first_token(left),
-        Cond::Between(_, operand, _, _) | Cond::In(_, operand, _) | Cond::IsNull(_, operand) => {
-            first_token(operand)
-        }
+        Cond::Between(_, operand, _, _)
+        | Cond::In(_, operand, _)
+        | Cond::Predicate(_, _, operand) => first_token(operand),
         Cond::And(left, _) | Cond::Or(left, _) => first_of_condition(left),
         Cond::Not(operand) | Cond::Is(_, operand, _) | Cond::Bracketed(operand) => {
             first_of_condition(operand)

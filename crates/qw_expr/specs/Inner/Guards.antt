@@ -6,7 +6,7 @@ use Rattle.qw_types.specs.declared.value.Val.{Val}
 use Rattle.qw_types.specs.declared.value.Val.TheVariants as val
 use Rattle.qw_scalar.specs.declared.expression.Operator.{Operator}
 use Rattle.qw_scalar.specs.declared.expression.Cond.{Cond}
-use Rattle.qw_scalar.specs.declared.expression.Cond.TheVariants.{Compare', Between', In', IsNull', And', Or', Not', Is'}
+use Rattle.qw_scalar.specs.declared.expression.Cond.TheVariants.{Compare', Between', In', Predicate', And', Or', Not', Is'}
 use Rattle.qw_scalar.specs.Columns.{HasColumns, HaveColumns, HoldsIn}
 use Rattle.qw_scalar.specs.Evaluation.{applied, truth_of, value_of, at_row}
 use Rattle.qw_scalar.specs.Expression.{Expression, Expressions, Condition, among, scale_after, scale_of}
@@ -104,7 +104,7 @@ abbrev pub IsGuarded : Cond → Type 0
 IsGuarded (Compare' op _ a _ b) = Unit {0}
 IsGuarded (Between' _ x _ a _ b) = Unit {0}
 IsGuarded (In' _ x _ values) = Unit {0}
-IsGuarded (IsNull' _ a) = ⊥
+IsGuarded (Predicate' p _ a) = ⊥
 IsGuarded (And' _ c _ d) = ⊥
 IsGuarded (Or' _ c _ d) = ⊥
 IsGuarded (Not' _ c) = Unit {0}

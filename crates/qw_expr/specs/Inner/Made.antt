@@ -1,6 +1,6 @@
 -- Of `src/tree.rt`: what its functions hand on to one another.
 use Rattle.std.specs.Prelude.{◌≡◌, ℕ, ◌≤◌, Bool, List, ◌∷◌}
-use Rattle.qw_scalar.specs.Expression.{Expression, Condition, brought, is_null, negation_of, scale_of}
+use Rattle.qw_scalar.specs.Expression.{Expression, Condition, brought, is_there, scale_of}
 use Rattle.qw_scalar.specs.Typing.{kind_of}
 use Rattle.qw_low.specs.declared.cell.Cell.{Cell}
 use Rattle.qw_expr.specs.declared.emitter.Emitter.{Emitter}
@@ -38,6 +38,6 @@ with_operand e o known = record { expression = e; operand = o } ∷ known
 
 -- a choice begins, between a known value and what stands in for null
 pub record StartsUnlessNull (known : List Known) (e : Expression) (x : Operand) (to : ℕ) (text : Bool) (old new : Emitter) (begun : Started) : Type 0 where
-  pub starts : (more : List Known) → Includes more (with_operand e x known) → AreBelow (free_of old) more → HasFirst more (negation_of (is_null e)) (brought e to) text old new begun.place begun.first
+  pub starts : (more : List Known) → Includes more (with_operand e x known) → AreBelow (free_of old) more → HasFirst more (is_there e) (brought e to) text old new begun.place begun.first
   pub grows : free_of old ≤ free_of new
   pub served : IsServed (free_of new) (with_operand e x known)

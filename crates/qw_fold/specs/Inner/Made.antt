@@ -1,10 +1,9 @@
 -- What the functions of src/literal.rt, src/operation.rt, src/construct.rt, src/tree.rt and src/fold.rt make: a tree that means the same as
 -- an expression or condition, is typed where that is, names no other columns, is folded, has at most so many nodes, and these texts.
-use Rattle.std.specs.Prelude.{◌≡◌, ◌⊎◌, ◌≤◌, ◌<◌, ℕ, ℤ, max, List, Option, Some, None, Ok, Err, Result, Bool, true, false, IsTrue, Contains}
+use Rattle.std.specs.Prelude.{◌≡◌, ◌⊎◌, ◌≤◌, ◌<◌, ℕ, ℤ, max, List, Option, Some, None, Ok, Err, Result, Bool, true, false, IsTrue}
 use Rattle.std.specs.List.{AllZip}
 use Rattle.qw_types.specs.Arithmetic.{bring, fits}
 use Rattle.qw_types.specs.declared.code.Code.{Code}
-use Rattle.qw_types.specs.declared.value.Ty.{Ty}
 use Rattle.qw_types.specs.declared.value.Val.{Val}
 use Rattle.qw_types.specs.declared.value.Val.TheVariants as val
 use Rattle.qw_scalar.specs.declared.expression.Expr.{Expr}
@@ -13,13 +12,10 @@ use Rattle.qw_scalar.specs.declared.expression.Exprs.{Exprs}
 use Rattle.qw_scalar.specs.declared.expression.Branches.{Branches}
 use Rattle.qw_scalar.specs.declared.expression.Matches.{Matches}
 use Rattle.qw_scalar.specs.declared.expression.Expr.TheVariants.{Number, Date}
-use Rattle.qw_scalar.specs.Columns.{HasColumns, HaveColumns}
 use Rattle.qw_scalar.specs.Expression.{Choices, Condition, Expression, Expressions, last, more, cases, largest_result, number, scale_of}
 use Rattle.qw_scalar.specs.Nodes.{nodes, nodes_of, nodes_of_all, nodes_of_branches, nodes_of_matches}
 use Rattle.qw_scalar.specs.Tree.{choices_of, condition_of, expression_of, expressions_of, matches_of}
-use Rattle.qw_scalar.specs.Typing.{AreTyped, IsTyped}
-use Rattle.qw_fold.specs.Folded.{AllFolded, AreAtOneScale, AreFolded, BranchesFolded, IsAtScale, IsFolded, MatchesFolded}
-use Rattle.qw_scalar.specs.Same.{AreSame, IsSame}
+use Rattle.qw_fold.specs.Folded.{AllFolded, AreAtOneScale, BranchesFolded, IsAtScale, IsFolded, MatchesFolded}
 use Rattle.qw_scalar.specs.Texts.{texts_in, texts_of_all, texts_of_branches, texts_of_matches, texts_within}
 pub use Rattle.qw_fold.specs.Stands.{AreFoldOf, Follows, FollowsTruth, IsAmong, IsFoldOf}
 

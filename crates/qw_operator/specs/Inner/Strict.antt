@@ -5,8 +5,8 @@ use Rattle.qw_types.specs.Value.{IsSized, type_scale}
 use Rattle.qw_types.specs.declared.value.Ty.{Ty}
 use Rattle.qw_scalar.specs.declared.expression.Expr.{Expr}
 use Rattle.qw_scalar.specs.declared.expression.Cond.{Cond}
-use Rattle.qw_scalar.specs.declared.expression.Expr.TheVariants.{Null, Number, Date, Text, Column, Arithmetic', Negative', Extract', Case', Match', Coalesce', NullIf'}
-use Rattle.qw_scalar.specs.declared.expression.Cond.TheVariants.{Compare', Between', In', IsNull', And', Or', Not', Is'}
+use Rattle.qw_scalar.specs.declared.expression.Expr.TheVariants.{Null, Number, Date, Text, Column, Arithmetic', Negative', Extract', Case', Match', Call'}
+use Rattle.qw_scalar.specs.declared.expression.Cond.TheVariants.{Compare', Between', In', Predicate', And', Or', Not', Is'}
 use Rattle.qw_scalar.specs.Tree.{condition_of}
 use Rattle.qw_leaves.specs.declared.leaf.Leaf.{Leaf}
 use Rattle.qw_leaves.specs.declared.leaf.Leaf.TheVariants as leaf
@@ -27,14 +27,13 @@ makes_null (Negative' _ a) i = makes_null a i
 makes_null (Extract' field _ a) i = makes_null a i
 makes_null (Case' _ branches) i = false
 makes_null (Match' _ x _ matches) i = false
-makes_null (Coalesce' _ arguments) i = false
-makes_null (NullIf' _ a _ b) i = false
+makes_null (Call' function _ arguments) i = false
 
 abbrev pub makes_unknown : Cond → (column : ℕ) → Bool
 makes_unknown (Compare' op _ a _ b) i = makes_null a i || makes_null b i
 makes_unknown (Between' _ x _ a _ b) i = makes_null x i
 makes_unknown (In' _ x _ values) i = makes_null x i
-makes_unknown (IsNull' _ a) i = false
+makes_unknown (Predicate' p _ a) i = false
 makes_unknown (And' _ c _ d) i = false
 makes_unknown (Or' _ c _ d) i = false
 makes_unknown (Not' _ c) i = makes_unknown c i

@@ -2,14 +2,15 @@
 -- nearly that name. A reader answers what it found and the tokens behind that. `inner` reads what stands in brackets and in CASE.
 use Rattle.std.specs.Prelude.{ℕ, zero, suc, Bool, true, false, not, if◌then◌else◌, List, [], ◌∷◌, length, Option, Some, None, codes}
 use Rattle.std.specs.Option.{option_map_or}
+use Rattle.qw_scalar.specs.declared.expression.Function.{Function}
 use Rattle.qw_scalar.specs.declared.expression.Operator.{Operator}
 use Rattle.qw_scalar.specs.declared.comparison.Comparison.{Comparison}
 use Rattle.qw_token.specs.Token.{Lexeme}
 use Rattle.qw_ast.specs.declared.script.Sign.{Sign}
 use Rattle.qw_ast.specs.declared.script.SetFunction.{SetFunction}
 use Rattle.qw_ast.specs.declared.script.SetFunction.TheVariants.{Count, Sum, Avg, Min, Max}
-use Rattle.qw_ast.specs.Syntax.{Expression, null, number, text, date, column, signed, arithmetic, extract, searched_case, simple_case, coalesce, null_if, count_rows, set_function, Condition, comparison, between, among, is_null, both, either, negation_of, is, bracketed, Clause, condition, expression, Branching, SelectItem, Selected, all_columns, items, Entry, Joined, Source, Reference, Key, ordinal, result_column, SortSpecification, Select}
-use Rattle.qw_ast.specs.ScriptGrammar.{is_word, is_symbol, is_number, is_string, is_integer, is_regular, is_name, sign_of, addition_of, multiplication_of, comparison_of, field_of, set_function_of, truth_of, likeness, appended, is_comma, Dated, moved, arguments, Branch, is_condition, is_when, branching, is_and, is_or, with_join}
+use Rattle.qw_ast.specs.Syntax.{Expression, null, number, text, date, column, signed, arithmetic, extract, searched_case, simple_case, call, count_rows, set_function, Condition, comparison, between, among, predicate, both, either, negation_of, is, bracketed, Clause, condition, expression, Branching, SelectItem, Selected, all_columns, items, Entry, Joined, Source, Reference, Key, ordinal, result_column, SortSpecification, Select}
+use Rattle.qw_ast.specs.ScriptGrammar.{is_word, is_symbol, is_number, is_string, is_integer, is_regular, is_name, sign_of, addition_of, multiplication_of, comparison_of, field_of, function_of, predicate_of, takes, set_function_of, truth_of, likeness, appended, is_comma, Dated, moved, arguments, Branch, is_condition, is_when, branching, is_and, is_or, with_join}
 
 abbrev pub Reader : Type 0 → Type 0
 Reader A = List Lexeme → Option (A × List Lexeme)
@@ -184,18 +185,13 @@ unfoldable pub case_at : Reader Clause → Reader Expression
 case_at inner ts =
     case_operand_at inner ts >>= (λ x. chain_at inner (is_absent x.0) x.1 >>= (λ chain. Some (case_of x.0 chain.0, chain.1)))
 
--- COALESCE of two arguments or more
-abbrev pub coalesce_of : Expression → List Expression → Option Expression
-coalesce_of e [] = None
-coalesce_of e (f ∷ es) = Some (coalesce (arguments e (f ∷ es)))
+-- a function of as many arguments as it takes
+abbrev pub call_of : Function → Expression → List Expression → Option Expression
+call_of f e es = if takes f (length es) then Some (call f (arguments e es)) else None
 
--- what stands behind COALESCE
-unfoldable pub coalesce_at : Reader Clause → Reader Expression
-coalesce_at inner ts = listing_at inner ts >>= (λ l. coalesce_of l.0.0 l.0.1 >>= (λ c. Some (c, l.1)))
-
-unfoldable pub null_if_at : Reader Clause → Reader Expression
-null_if_at inner ts =
-    symbol_at (codes "(") ts >>= (λ us. before_at inner (codes ",") us >>= (λ a. before_at inner (codes ")") a.1 >>= (λ b. Some (null_if a.0 b.0, b.1))))
+-- what stands behind the word of a function
+unfoldable pub call_at : Reader Clause → Function → Reader Expression
+call_at inner f ts = listing_at inner ts >>= (λ l. call_of f l.0.0 l.0.1 >>= (λ c. Some (c, l.1)))
 
 unfoldable pub extract_at : Reader Clause → Reader Expression
 extract_at inner ts =
@@ -244,12 +240,11 @@ primary_of inner t ts =
     else (if is_string t then Some (expression (text t.octets), ts)
     else (if is_symbol (codes "(") t then brackets_at inner ts
     else (if is_word (codes "CASE") t then as_clause (case_at inner ts)
-    else (if is_word (codes "COALESCE") t then as_clause (coalesce_at inner ts)
-    else (if is_word (codes "NULLIF") t then as_clause (null_if_at inner ts)
-    else (if is_word (codes "EXTRACT") t then as_clause (extract_at inner ts)
+    else option_map_or (λ f. as_clause (call_at inner f ts)) (function_of t)
+    (if is_word (codes "EXTRACT") t then as_clause (extract_at inner ts)
     else option_map_or (λ f. as_clause (set_function_at inner f ts)) (set_function_of t)
     (if is_word (codes "DATE") t then as_clause (date_at (t ∷ ts) >>= (λ d. Some (date d.0.string d.0.intervals, d.1)))
-    else as_clause (column_at (t ∷ ts)))))))))
+    else as_clause (column_at (t ∷ ts)))))))
 
 unfoldable pub primary_at : Reader Clause → Reader Clause
 primary_at inner [] = None
@@ -266,10 +261,9 @@ other_at inner ts =
 unfoldable pub keyed_at : Reader Clause → Reader Clause
 keyed_at inner ts =
     option_map_or (λ us. as_clause (case_at inner us)) (word_at (codes "CASE") ts)
-    (option_map_or (λ us. as_clause (coalesce_at inner us)) (word_at (codes "COALESCE") ts)
-    (option_map_or (λ us. as_clause (null_if_at inner us)) (word_at (codes "NULLIF") ts)
+    (option_map_or (λ f. as_clause (call_at inner f.0 f.1)) (token_at function_of ts)
     (option_map_or (λ us. as_clause (extract_at inner us)) (word_at (codes "EXTRACT") ts)
-    (other_at inner ts))))
+    (other_at inner ts)))
 
 unfoldable pub primary_by : Reader Clause → Reader Clause
 primary_by inner ts =
@@ -308,8 +302,9 @@ compare_at inner op x ts = expression_at (sum_at inner) ts >>= (λ b. Some (comp
 unfoldable pub like_at : Bool → Expression → Reader Condition
 like_at negated x ts = token_at (octets_if is_string) ts >>= (λ p. Some (comparison (likeness negated) x (text p.0), p.1))
 
-unfoldable pub null_test_at : Expression → Reader Condition
-null_test_at x ts = word_at (codes "NULL") (not_at ts).1 >>= (λ rest. Some (is_null (not_at ts).0 x, rest))
+-- what stands behind IS of a predicate of one value
+unfoldable pub value_test_at : Expression → Reader Condition
+value_test_at x ts = token_at predicate_of (not_at ts).1 >>= (λ p. Some (predicate p.0 (not_at ts).0 x, p.1))
 
 -- a condition as a clause
 unfoldable pub condition_clause : Option (Condition × List Lexeme) → Option (Clause × List Lexeme)
@@ -327,7 +322,7 @@ ranged_at inner negated x ts =
 unfoldable pub tail_at : Reader Clause → Expression → Reader Clause
 tail_at inner x ts =
     option_map_or (λ op. condition_clause (compare_at inner op.0 x op.1)) (token_at comparison_of ts)
-    (option_map_or (λ us. condition_clause (null_test_at x us)) (word_at (codes "IS") ts)
+    (option_map_or (λ us. condition_clause (value_test_at x us)) (word_at (codes "IS") ts)
     (option_map_or (λ read. condition_clause read) (ranged_at inner (not_at ts).0 x (not_at ts).1) (if (not_at ts).0 then None else Some (expression x, ts))))
 
 unfoldable pub predicate_at : Reader Clause → Reader Clause

@@ -1,17 +1,19 @@
-//! COALESCE, NULLIF, EXTRACT, set functions and lists of expressions (ISO/IEC 9075:1992, 6.9, 6.6, 6.5, 8.4).
+//! Functions, EXTRACT, set functions and lists of expressions (ISO/IEC 9075:1992, 6.9, 6.6, 6.5, 8.4).
 
 ghost use Rattle.std.specs.Prelude.{◌≡◌, map, IfOk};
 ghost use Rattle.qw_ast.specs.ScriptGrammar.{arguments};
 ghost use Rattle.qw_ast.specs.Syntax.{further, last};
 ghost use Rattle.qw_ast.specs.SyntaxTree.{expression_of, expressions_of};
-ghost use Rattle.qw_parse.specs.Inner.Readers.{argument_at, before_at, coalesce_at, expression_at, extract_at, further_at, listing_at, nested_at, null_if_at, rows_at, set_function_at};
+ghost use Rattle.qw_parse.specs.Inner.Readers.{argument_at, before_at, call_at, expression_at, extract_at, further_at, listing_at, nested_at, rows_at, set_function_at};
 ghost use Rattle.qw_parse.specs.Inner.Parser.{Reads, left};
 ghost use Rattle.qw_parse.specs.Inner.Nests.{Nests};
 
 use super::parser::{Parser, Stop};
 use super::rules::Rules;
+use super::terminal::takes;
 use super::tree::{boxed, boxes, push};
 use qw_ast::script::{Expr, Exprs, Phrase, SetFunction};
+use qw_scalar::expression::Function;
 use std::alloc::{AllocError, Global};
 
 /// A list of one expression.
@@ -103,30 +105,18 @@ impl<'a, F: Fn(&mut Parser<'a>, usize) -> Result<Phrase<'a>, Stop>> Rules<F> {
         Ok((first, others))
     }
 
-    /// Reads what stands behind COALESCE.
-    #[tactic(auto, unfolding(crate::specs::Inner::Readers::coalesce_at))]
-    pub(crate) fn coalesce(&self, parser: &mut Parser<'a>) -> Result<Expr<'a>, Stop>
+    /// Reads what stands behind the word of a function.
+    #[tactic(auto, unfolding(crate::specs::Inner::Readers::call_at))]
+    pub(crate) fn call(&self, parser: &mut Parser<'a>, function: Function) -> Result<Expr<'a>, Stop>
         requires { Nests self.now.levels (F.pre self.now.inner) (F.post self.now.inner) }
-        ensures { Reads expression_of (coalesce_at (nested_at self.now.levels) (left parser.old)) result (left parser.new) }
+        ensures { Reads expression_of (call_at (nested_at self.now.levels) function (left parser.old)) result (left parser.new) }
     {
         let (first, others) = self.listing(parser)?;
-        if others.is_empty() {
+        if !takes(function, others.len()) {
             return Err(Stop::NotGrammar);
         }
         let list = listed(parser.alloc, first, others)?;
-        Ok(Expr::Coalesce(boxed(parser.alloc, list)?))
-    }
-
-    /// Reads what stands behind NULLIF.
-    #[tactic(auto, unfolding(crate::specs::Inner::Readers::null_if_at))]
-    pub(crate) fn null_if(&self, parser: &mut Parser<'a>) -> Result<Expr<'a>, Stop>
-        requires { Nests self.now.levels (F.pre self.now.inner) (F.post self.now.inner) }
-        ensures { Reads expression_of (null_if_at (nested_at self.now.levels) (left parser.old)) result (left parser.new) }
-    {
-        parser.expect_symbol(b"(")?;
-        let left = self.before(parser, b",")?;
-        let right = self.before(parser, b")")?;
-        Ok(Expr::NullIf(left, right))
+        Ok(Expr::Call(function, boxed(parser.alloc, list)?))
     }
 
     /// Reads what stands behind EXTRACT.

@@ -3,7 +3,7 @@
 ghost use Rattle.std.specs.Prelude.{◌≡◌};
 ghost use Rattle.qw_ast.specs.ScriptGrammar.{likeness};
 ghost use Rattle.qw_ast.specs.SyntaxTree.{clause_of, condition_of, expression_of};
-ghost use Rattle.qw_parse.specs.Inner.Readers.{between_at, compare_at, condition_clause, expression_at, in_at, like_at, nested_at, null_test_at, predicate_at, sum_at, tail_at, test_at, truth_test_at};
+ghost use Rattle.qw_parse.specs.Inner.Readers.{between_at, compare_at, condition_clause, expression_at, in_at, like_at, nested_at, value_test_at, predicate_at, sum_at, tail_at, test_at, truth_test_at};
 ghost use Rattle.qw_parse.specs.Inner.Parser.{Reads, left};
 ghost use Rattle.qw_parse.specs.Inner.Nests.{Nests};
 
@@ -14,14 +14,14 @@ use super::tree::{as_phrase, boxed, boxes, the_expression};
 use qw_ast::script::{Cond, Expr, Phrase};
 use qw_scalar::comparison::Comparison;
 
-/// Reads what stands behind `operand IS`, of a test for NULL.
-#[tactic(auto, unfolding(crate::specs::Inner::Readers::null_test_at))]
-fn null_test<'a>(parser: &mut Parser<'a>, operand: Expr<'a>) -> Result<Cond<'a>, Stop>
-    ensures { Reads condition_of (null_test_at (expression_of operand.entry) (left parser.old)) result (left parser.new) }
+/// Reads what stands behind `operand IS`, of a predicate of one value.
+#[tactic(auto, unfolding(crate::specs::Inner::Readers::value_test_at))]
+fn value_test<'a>(parser: &mut Parser<'a>, operand: Expr<'a>) -> Result<Cond<'a>, Stop>
+    ensures { Reads condition_of (value_test_at (expression_of operand.entry) (left parser.old)) result (left parser.new) }
 {
     let negated = parser.not();
-    parser.expect_word(b"NULL")?;
-    Ok(Cond::IsNull(negated, boxed(parser.alloc, operand)?))
+    let predicate = parser.predicate()?;
+    Ok(Cond::Predicate(predicate, negated, boxed(parser.alloc, operand)?))
 }
 
 /// LIKE, with NOT before it or without.
@@ -131,7 +131,7 @@ impl<'a, F: Fn(&mut Parser<'a>, usize) -> Result<Phrase<'a>, Stop>> Rules<F> {
             return as_phrase(self.compare(parser, comparison, operand));
         }
         if parser.word(b"IS") {
-            return as_phrase(null_test(parser, operand));
+            return as_phrase(value_test(parser, operand));
         }
         let negated = parser.not();
         if parser.word(b"BETWEEN") {

@@ -2,14 +2,14 @@
 
 ghost use Rattle.std.specs.Prelude.{◌≡◌, length, option_map, if◌then◌else◌, Some, None, false, IfOk};
 ghost use Rattle.qw_token.specs.Token.{lexeme};
-ghost use Rattle.qw_ast.specs.ScriptGrammar.{addition_of, comparison_of, field_of, is_integer, is_name, is_number, is_regular, is_string, multiplication_of, set_function_of, sign_of, truth_of};
+ghost use Rattle.qw_ast.specs.ScriptGrammar.{addition_of, comparison_of, field_of, function_of, is_integer, is_name, is_number, is_regular, is_string, multiplication_of, predicate_of, set_function_of, sign_of, truth_of};
 ghost use Rattle.qw_parse.specs.Inner.Readers.{inner_join_at, interval_sign_at, join_at, left_join_at, not_at, octets_if, symbol_at, token_at, word_at};
 ghost use Rattle.qw_parse.specs.Inner.Parser.{Passes, Reads, behind, first_of, is_there, left};
 
 use super::terminal;
 use qw_ast::script::{SetFunction, Sign};
 use qw_scalar::comparison::Comparison;
-use qw_scalar::expression::{Field, Operator};
+use qw_scalar::expression::{Field, Function, Operator, Predicate};
 use qw_token::token::Token;
 use qw_types::Truth;
 use std::alloc::{AllocError, Global};
@@ -295,6 +295,17 @@ impl<'a> Parser<'a> {
         Some(comparison)
     }
 
+    /// The function whose word is next, if there is one.
+    #[tactic(auto, unfolding(crate::specs::Inner::Readers::token_at))]
+    pub(crate) fn function(&mut self) -> Option<Function>
+        ensures found { token_at function_of (left self.old) ≡ option_map (λ x. (x, left self.new)) result }
+        ensures kept { result ≡ None → left self.new ≡ left self.old }
+    {
+        let function = terminal::function_of(&self.first()?)?;
+        self.skip();
+        Some(function)
+    }
+
     /// The set function whose word is next, if there is one.
     #[tactic(auto, unfolding(crate::specs::Inner::Readers::token_at))]
     pub(crate) fn set_function(&mut self) -> Option<SetFunction>
@@ -304,6 +315,17 @@ impl<'a> Parser<'a> {
         let function = terminal::set_function_of(&self.first()?)?;
         self.skip();
         Some(function)
+    }
+
+    /// Reads the word of a predicate of one value.
+    #[tactic(auto, unfolding(crate::specs::Inner::Readers::token_at))]
+    pub(crate) fn predicate(&mut self) -> Result<Predicate, Stop>
+        ensures { Reads (λ x. x) (token_at predicate_of (left self.old)) result (left self.new) }
+    {
+        let token = self.first().ok_or(Stop::NotGrammar)?;
+        let predicate = terminal::predicate_of(&token).ok_or(Stop::NotGrammar)?;
+        self.skip();
+        Ok(predicate)
     }
 
     /// Reads the name of a field of a date.

@@ -61,11 +61,8 @@ impl<'a, F: Fn(&mut Parser<'a>, usize) -> Result<Phrase<'a>, Stop>> Rules<F> {
         if parser.word(b"CASE") {
             return self.case(parser);
         }
-        if parser.word(b"COALESCE") {
-            return self.coalesce(parser);
-        }
-        if parser.word(b"NULLIF") {
-            return self.null_if(parser);
+        if let Some(function) = parser.function() {
+            return self.call(parser, function);
         }
         if parser.word(b"EXTRACT") {
             return self.extract(parser);

@@ -1,4 +1,4 @@
-//! What a single token is: a key word, a symbol, a literal or a name; and which sign, operator, field, set function or truth it says.
+//! What a single token is: a key word, a symbol, a literal or a name; and which sign, operator, field, function, set function, predicate or truth it says.
 
 ghost use Rattle.std.specs.Prelude.{◌≡◌};
 ghost use Rattle.qw_token.specs.Token.{lexeme};
@@ -7,7 +7,7 @@ ghost use Rattle.qw_ast.specs.ScriptGrammar as grammar;
 use qw_ast::script::{SetFunction, Sign};
 use qw_ast::word::{folds_to, is_reserved};
 use qw_scalar::comparison::Comparison;
-use qw_scalar::expression::{Field, Operator};
+use qw_scalar::expression::{Field, Function, Operator, Predicate};
 use qw_token::token::{Kind, Token};
 use qw_types::Truth;
 use qw_types::digits::are_digits;
@@ -128,6 +128,37 @@ pub(crate) fn field_of(token: &Token<'_>) -> Option<Field>
     }
     if is_word(token, b"DAY") {
         return Some(Field::Day);
+    }
+    None
+}
+
+pub(crate) fn function_of(token: &Token<'_>) -> Option<Function>
+    ensures { result ≡ grammar.function_of (lexeme token.now) }
+{
+    if is_word(token, b"COALESCE") {
+        return Some(Function::Coalesce);
+    }
+    if is_word(token, b"NULLIF") {
+        return Some(Function::NullIf);
+    }
+    None
+}
+
+/// Whether the function takes so many arguments behind the first.
+pub(crate) fn takes(function: Function, others: usize) -> bool
+    ensures { result ≡ grammar.takes function others }
+{
+    match function {
+        Function::Coalesce => 1 <= others,
+        Function::NullIf => others == 1,
+    }
+}
+
+pub(crate) fn predicate_of(token: &Token<'_>) -> Option<Predicate>
+    ensures { result ≡ grammar.predicate_of (lexeme token.now) }
+{
+    if is_word(token, b"NULL") {
+        return Some(Predicate::IsNull);
     }
     None
 }

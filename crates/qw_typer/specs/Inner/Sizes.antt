@@ -6,7 +6,7 @@ use Rattle.qw_scalar.specs.declared.expression.Exprs.{Exprs}
 use Rattle.qw_scalar.specs.declared.expression.Branches.{Branches}
 use Rattle.qw_scalar.specs.declared.expression.Matches.{Matches}
 use Rattle.qw_scalar.specs.Nodes as typed
-use Rattle.qw_ast.specs.Syntax.{Expression, null, number, text, date, column, signed, arithmetic, extract, searched_case, simple_case, coalesce, null_if, count_rows, set_function, Condition, comparison, between, among, is_null, both, either, negation_of, is, bracketed, Clause, condition, expression, Expressions, last, further, Branching, otherwise, when, Selected, all_columns, items, Select}
+use Rattle.qw_ast.specs.Syntax.{Expression, null, number, text, date, column, signed, arithmetic, extract, searched_case, simple_case, call, count_rows, set_function, Condition, comparison, between, among, predicate, both, either, negation_of, is, bracketed, Clause, condition, expression, Expressions, last, further, Branching, otherwise, when, Selected, all_columns, items, Select}
 use Rattle.qw_meaning.specs.Query.{QueryParts}
 use Rattle.qw_ast.specs.Quoted.{string_value}
 use Rattle.qw_ast.specs.Limits.{items_of, over_filter, over_items, over_sources}
@@ -27,8 +27,7 @@ abbrev mutual
   nodes (extract field a) = 1 + nodes a
   nodes (searched_case branches) = 1 + nodes_branches branches
   nodes (simple_case x branches) = 1 + (nodes x + nodes_branches branches)
-  nodes (coalesce es) = 1 + nodes_all es
-  nodes (null_if a b) = 1 + (nodes a + nodes b)
+  nodes (call function es) = 1 + nodes_all es
   nodes (count_rows place) = 1
   nodes (set_function place f a) = 1
 
@@ -36,7 +35,7 @@ abbrev mutual
   nodes_condition (comparison op a b) = 1 + (nodes a + nodes b)
   nodes_condition (between negated x a b) = 2 + (nodes x + (nodes a + nodes b))
   nodes_condition (among negated x es) = 2 + (nodes x + nodes_all es)
-  nodes_condition (is_null negated a) = 2 + nodes a
+  nodes_condition (predicate p negated a) = 2 + nodes a
   nodes_condition (both c d) = 1 + (nodes_condition c + nodes_condition d)
   nodes_condition (either c d) = 1 + (nodes_condition c + nodes_condition d)
   nodes_condition (negation_of c) = 1 + nodes_condition c
@@ -68,8 +67,7 @@ abbrev mutual
   weight (extract field a) = 1 + weight a
   weight (searched_case branches) = 1 + weight_branches branches
   weight (simple_case x branches) = 1 + (weight x + weight_branches branches)
-  weight (coalesce es) = 1 + weight_all es
-  weight (null_if a b) = 1 + (weight a + weight b)
+  weight (call function es) = 1 + weight_all es
   weight (count_rows place) = 1
   weight (set_function place f a) = 1 + nodes a
 
@@ -77,7 +75,7 @@ abbrev mutual
   weight_condition (comparison op a b) = 1 + (weight a + weight b)
   weight_condition (between negated x a b) = 2 + (weight x + (weight a + weight b))
   weight_condition (among negated x es) = 2 + (weight x + weight_all es)
-  weight_condition (is_null negated a) = 2 + weight a
+  weight_condition (predicate p negated a) = 2 + weight a
   weight_condition (both c d) = 1 + (weight_condition c + weight_condition d)
   weight_condition (either c d) = 1 + (weight_condition c + weight_condition d)
   weight_condition (negation_of c) = 1 + weight_condition c
@@ -109,8 +107,7 @@ abbrev mutual
   octets (extract field a) = octets a
   octets (searched_case branches) = octets_branches branches
   octets (simple_case x branches) = octets x + octets_branches branches
-  octets (coalesce es) = octets_all es
-  octets (null_if a b) = octets a + octets b
+  octets (call function es) = octets_all es
   octets (count_rows place) = 0
   octets (set_function place f a) = 0
 
@@ -118,7 +115,7 @@ abbrev mutual
   octets_condition (comparison op a b) = octets a + octets b
   octets_condition (between negated x a b) = octets x + (octets a + octets b)
   octets_condition (among negated x es) = octets x + octets_all es
-  octets_condition (is_null negated a) = octets a
+  octets_condition (predicate p negated a) = octets a
   octets_condition (both c d) = octets_condition c + octets_condition d
   octets_condition (either c d) = octets_condition c + octets_condition d
   octets_condition (negation_of c) = octets_condition c

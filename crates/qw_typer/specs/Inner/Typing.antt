@@ -3,6 +3,7 @@ use Rattle.std.specs.Prelude.{◌≡◌, ◌≤◌, ℕ, Bool, true, List, [], �
 use Rattle.qw_types.specs.declared.kind.Kind.{Kind}
 use Rattle.qw_types.specs.declared.kind.Kind.TheVariants as kind
 use Rattle.qw_scalar.specs.declared.comparison.Comparison.TheVariants.{Equal}
+use Rattle.qw_scalar.specs.declared.expression.Function.TheVariants.{Coalesce, NullIf}
 use Rattle.qw_scalar.specs.Expression as meaning
 use Rattle.qw_scalar.specs.Tree as tree
 use Rattle.qw_scalar.specs.Typing.{are_comparable, kind_of}
@@ -21,7 +22,7 @@ use Rattle.qw_ast.specs.declared.script.SetFunction.{SetFunction}
 use Rattle.qw_ast.specs.declared.script.Sign.{Sign}
 use Rattle.qw_ast.specs.Grammar.{name_of}
 use Rattle.qw_ast.specs.Limits.{entries_in}
-use Rattle.qw_ast.specs.Syntax.{Expression, null, number, text, date, column, signed, arithmetic, extract, searched_case, simple_case, coalesce, null_if, count_rows, set_function, Condition, comparison, between, among, is_null, both, either, negation_of, is, bracketed, condition, expression, Expressions, last, further, Branching, otherwise, when, SelectItem, Selected, all_columns, items, Joined, Source, Select}
+use Rattle.qw_ast.specs.Syntax.{Expression, null, number, text, date, column, signed, arithmetic, extract, searched_case, simple_case, call, count_rows, set_function, Condition, comparison, between, among, predicate, both, either, negation_of, is, bracketed, condition, expression, Expressions, last, further, Branching, otherwise, when, SelectItem, Selected, all_columns, items, Joined, Source, Select}
 use Rattle.qw_typer.specs.declared.refusal.Token.{Token}
 use Rattle.qw_typer.specs.declared.refusal.Token.TheVariants.{Name, Literal, Function}
 use Rattle.qw_typer.specs.declared.refusal.Refusal.{Refusal}
@@ -176,9 +177,6 @@ argument_outcome token f x column' = outcome (argument_faults token f x) column'
 abbrev pub case_outcome : List ℕ → meaning.Choices → Result meaning.Expression Fault
 case_outcome token cs = outcome (case_faults token cs) (meaning.case cs)
 
-abbrev pub null_if_outcome : List ℕ → meaning.Expression → meaning.Expression → Result meaning.Expression Fault
-null_if_outcome token x y = outcome (comparison_faults token x y) (meaning.null_if x y)
-
 abbrev pub comparison_outcome : List ℕ → Comparison → meaning.Expression → meaning.Expression → Result meaning.Condition Fault
 comparison_outcome token op x y = outcome (comparison_faults token x y) (meaning.comparison op x y)
 
@@ -187,6 +185,9 @@ between_outcome token negated x a b = outcome (comparison_faults token x a ++ co
 
 abbrev pub among_outcome : List ℕ → Bool → meaning.Expression → meaning.Expressions → Result meaning.Condition Fault
 among_outcome token negated x vs = outcome (among_faults token x vs) (with_not negated (meaning.among x vs))
+
+abbrev pub unless_outcome : List ℕ → meaning.Expression → meaning.Expressions → Result meaning.Expression Fault
+unless_outcome token x vs = outcome (among_faults token x vs) (meaning.unless_among (meaning.more x vs))
 
 abbrev mutual
   pub typed : Scope → Expression → Result meaning.Expression Fault
@@ -214,18 +215,24 @@ abbrev mutual
     y ← typed scope x
     cs ← outcome (branch_faults (first_token x) branches) y >>= (λ z. typed_matches scope (first_token x) z branches)
     case_outcome (first_token x) cs
-  typed scope (coalesce es) = do
+  typed scope (call Coalesce es) = do
     ms ← typed_all scope es
     case_outcome (first_of_all es) (meaning.coalesced ms)
-  typed scope (null_if a b) = do
-    x ← typed scope a
-    y ← typed scope b
-    null_if_outcome (first_token a) x y
+  typed scope (call NullIf es) = typed_unless scope es
   typed scope (count_rows place) = nested_outcome scope.grouping (codes "COUNT") >>= (λ b. Ok (function_meant scope.grouping place))
   typed scope (set_function place f a) = do
     b ← nested_outcome scope.grouping (function_word f)
     x ← typed (ungrouped scope.entries) a
     argument_outcome (first_token a) f x (function_meant scope.grouping place)
+
+  pub typed_unless : Scope → Expressions → Result meaning.Expression Fault
+  typed_unless scope (last e) = do
+    x ← typed scope e
+    Ok (meaning.unless_among (meaning.last x))
+  typed_unless scope (further e es) = do
+    x ← typed scope e
+    vs ← typed_all scope es
+    unless_outcome (first_token e) x vs
 
   pub typed_condition : Scope → Condition → Result meaning.Condition Fault
   typed_condition scope (comparison op a b) = do
@@ -241,9 +248,9 @@ abbrev mutual
     y ← typed scope x
     vs ← typed_all scope es
     among_outcome (first_token x) negated y vs
-  typed_condition scope (is_null negated a) = do
+  typed_condition scope (predicate p negated a) = do
     x ← typed scope a
-    Ok (with_not negated (meaning.is_null x))
+    Ok (with_not negated (meaning.predicate p x))
   typed_condition scope (both c d) = do
     x ← typed_condition scope c
     y ← typed_condition scope d
@@ -307,7 +314,7 @@ typed_conjuncts scope (both c d) = do
 typed_conjuncts scope (comparison op a b) = typed_condition scope (comparison op a b) >>= (λ x. Ok (x ∷ []))
 typed_conjuncts scope (between negated x a b) = typed_condition scope (between negated x a b) >>= (λ y. Ok (y ∷ []))
 typed_conjuncts scope (among negated x es) = typed_condition scope (among negated x es) >>= (λ y. Ok (y ∷ []))
-typed_conjuncts scope (is_null negated a) = typed_condition scope (is_null negated a) >>= (λ x. Ok (x ∷ []))
+typed_conjuncts scope (predicate p negated a) = typed_condition scope (predicate p negated a) >>= (λ x. Ok (x ∷ []))
 typed_conjuncts scope (either c d) = typed_condition scope (either c d) >>= (λ x. Ok (x ∷ []))
 typed_conjuncts scope (negation_of c) = typed_condition scope (negation_of c) >>= (λ x. Ok (x ∷ []))
 typed_conjuncts scope (is negated c t) = typed_condition scope (is negated c t) >>= (λ x. Ok (x ∷ []))

@@ -1,25 +1,25 @@
-use Rattle.std.proofs.Common.{rules, ◌≤◌, IfOk, sym, subst, inr, w32, w64}
+use Rattle.std.proofs.Common.{rules, ◌≤◌, IfOk, sym, subst, inr, w32, w64, arith}
 use Rattle.qw_types.proofs.KindLemmas.{day_number}
 use Rattle.qw_scalar.specs.declared.expression.Expr.{the_lemmas}
 use Rattle.qw_scalar.specs.declared.comparison.Comparison.TheVariants.{Equal, GreaterOrEqual, LessOrEqual}
-use Rattle.qw_scalar.specs.Expression.{among, arithmetic, between, both, brought, case, cases, coalesced, column, comparison, date, either, extract, is, is_null, largest_result, negation_of, negative, null, null_if, number}
+use Rattle.qw_scalar.specs.Expression.{among, arithmetic, between, both, brought, case, cases, coalesced, column, comparison, date, either, extract, is, is_there, largest_result, more, negation_of, negative, null, number, predicate, scale_of, unless_among}
 use Rattle.qw_scalar.specs.Tree.{choices_of, condition_of, expression_of, expressions_of, matches_of}
 use Rattle.qw_scalar.specs.Typing.{IsTyped, kind_of}
 use Rattle.std.proofs.lemmas.Int.{to_z-of_z}
 use Rattle.qw_wide.proofs.Words.{fits_small}
 use Rattle.qw_low.proofs.Appended.{if_ok, on_ok}
 use Rattle.qw_expr.specs.Bindings.{IsAmong, IsServed, Knows, TakesKnown, known_of}
-use Rattle.qw_expr.specs.Emits.{free_of}
+use Rattle.qw_expr.specs.Emits.{Emits, free_of}
 use Rattle.qw_expr.specs.Inner.Choices.{Suits}
 use Rattle.qw_expr.specs.Inner.Made.{Made, with_operand}
-use Rattle.qw_expr.proofs.Abbreviations.{among_first, among_known, among_typed, matched_known, matched_typed, between_first, cases_at, compared_first, matched_before, null_if_before}
+use Rattle.qw_expr.proofs.Abbreviations.{among_before, among_first, among_known, among_typed, matched_known, matched_typed, between_first, cases_at, compared_first, matched_before}
 use Rattle.qw_expr.proofs.Choices.{results_suit}
 use Rattle.qw_expr.proofs.Comparable.{comparable_kinds}
 use Rattle.qw_expr.proofs.Extents.{comparing_most}
 use Rattle.qw_expr.proofs.Literals.{date_small}
 use Rattle.qw_expr.proofs.Nulls.{below_more}
 use Rattle.qw_expr.proofs.TreeChoices.{begun_served, choice_made, coalesced_made, first_made, made_more, null_where_made}
-use Rattle.qw_expr.proofs.TreeExtents.{among_extent, and_extent, arithmetic_extent, between_extent, brought_extent, case_extent, coalesced_extent, compared_extent, extract_extent, is_null_extent, last_extent, last_match_extent, match_extent, negative_extent, null_if_extent, only_extent, or_extent, pair_extent, then_extent, turned_extent}
+use Rattle.qw_expr.proofs.TreeExtents.{among_extent, and_extent, arithmetic_extent, between_extent, brought_extent, case_extent, coalesced_extent, compared_extent, extract_extent, last_extent, last_match_extent, match_extent, negative_extent, only_extent, or_extent, pair_extent, predicate_extent, then_extent, turned_extent, chosen_extent}
 use Rattle.qw_expr.proofs.Trees.{begun_at, compared_made, includes_same, junction_made, leaf_made, made_of, one_made, rest_served, scale_low, served_more, shared_made, shared_truth_made, tested_made, turned_made, two_made, with_served}
 use Rattle.qw_expr.proofs.tree.+tree.Goals as goal
 
@@ -196,7 +196,7 @@ coalesce-returns-in_ok-second-in-More-clause-emits t c =
     rw c.in-More.is
     (if_ok _ _ c.end_choice.result
     (λ out does. coalesced_made (known_of c.args.known.now) e b c.args.form.scale c.args.form.text c.args.emitter.now c.expression-in-More.new.emitter c.unless_null.new.emitter c.coalesce.new.emitter c.end_choice.new.self c.in_ok-x-in-More.x c.in_ok-begun-in-More.begun c.in_ok-second-in-More.second out typed c.requires.served mx begun mb
-    (λ more low h eb. does more (negation_of (is_null e)) (brought e c.args.form.scale) b c.args.form.text c.expression-in-More.new.emitter c.unless_null.new.emitter typed suits low h eb)) c.end_choice.ensures.emits)
+    (λ more low h eb. does more (is_there e) (brought e c.args.form.scale) b c.args.form.text c.expression-in-More.new.emitter c.unless_null.new.emitter typed suits low h eb)) c.end_choice.ensures.emits)
 
 pub matched-expression-requires : goal.matched-expression-requires
 matched-expression-requires t c =
@@ -405,13 +405,13 @@ condition-returns-in_ok-x-in-In-clause-emits t c =
     (λ out mc. shared_truth_made (known_of c.args.known.now) e (among e vs) c.args.emitter.now c.expression-in-In.new.emitter c.among.new.emitter c.in_ok-x-in-In.x out c.requires.served made mc first.raises first.weighs first.columns)
     (rw (c.deref-in-In-2.ensures, c.deref-in-In-3.ensures) at c.among.ensures.emits))
 
-pub condition-returns-in_ok-x-in-IsNull-clause-emits : goal.condition-returns-in_ok-x-in-IsNull-clause-emits
-condition-returns-in_ok-x-in-IsNull-clause-emits t c =
-    let e = expression_of c.in-IsNull.operand.value in
-    let made = rw c.deref-in-IsNull.ensures at c.in_ok-x-in-IsNull.ensures.emits in
-    rw c.in-IsNull.is
-    (if_ok _ _ c.is_null.result
-    (λ out does. tested_made (known_of c.args.known.now) e (is_null e) c.args.emitter.now c.expression-in-IsNull.new.emitter c.is_null.new.self c.in_ok-x-in-IsNull.x out c.requires.served made (λ more ex. does more e c.args.emitter.now ex)) c.is_null.ensures.emits)
+pub condition-returns-in_ok-x-in-Predicate-clause-emits : goal.condition-returns-in_ok-x-in-Predicate-clause-emits
+condition-returns-in_ok-x-in-Predicate-clause-emits t c =
+    let e = expression_of c.in-Predicate.operand.value in
+    let made = rw c.deref-in-Predicate.ensures at c.in_ok-x-in-Predicate.ensures.emits in
+    rw c.in-Predicate.is
+    (if_ok _ _ c.predicate.result
+    (λ out does. tested_made (known_of c.args.known.now) e (predicate c.in-Predicate.wanted e) c.args.emitter.now c.expression-in-Predicate.new.emitter c.predicate.new.self c.in_ok-x-in-Predicate.x out c.requires.served made (λ more ex. does more e c.args.emitter.now ex)) c.predicate.ensures.emits)
 
 pub condition-condition-requires-in-And : goal.condition-condition-requires-in-And
 condition-condition-requires-in-And t c =
@@ -535,11 +535,11 @@ expression-returns-in-Case-clause-emits t c =
 
 pub expression-coalesce-requires : goal.expression-coalesce-requires
 expression-coalesce-requires t c =
-    let choices = coalesced (expressions_of c.in-Coalesce.arguments.value) in
-    let same = cases_at choices c.of-in-Coalesce.result.scale (rw c.in-Coalesce.is at c.of-in-Coalesce.ensures.scale) in
-    let typed = rw c.in-Coalesce.is at c.requires.typed in
-    let known = rw c.in-Coalesce.is at c.requires.known in
-    let suits = rw c.in-Coalesce.is at c.of-in-Coalesce.ensures.text in (
+    let choices = coalesced (expressions_of c.in-Call.arguments.value) in
+    let same = cases_at choices c.of-in-Coalesce.result.scale (rw (c.in-Call.is, c.in-Coalesce.is) at c.of-in-Coalesce.ensures.scale) in
+    let typed = rw (c.in-Call.is, c.in-Coalesce.is) at c.requires.typed in
+    let known = rw (c.in-Call.is, c.in-Coalesce.is) at c.requires.known in
+    let suits = rw (c.in-Call.is, c.in-Coalesce.is) at c.of-in-Coalesce.ensures.text in (
       search (rules, the_lemmas),
       (
         rw c.deref-in-Coalesce.ensures (subst (λ k. IsTyped (cases k choices)) (sym same) typed),
@@ -555,9 +555,9 @@ expression-coalesce-requires t c =
 
 pub expression-returns-in-Coalesce-clause-emits : goal.expression-returns-in-Coalesce-clause-emits
 expression-returns-in-Coalesce-clause-emits t c =
-    let choices = coalesced (expressions_of c.in-Coalesce.arguments.value) in
-    let same = cases_at choices c.of-in-Coalesce.result.scale (rw c.in-Coalesce.is at c.of-in-Coalesce.ensures.scale) in
-    rw c.in-Coalesce.is (subst (λ k. IfOk c.coalesce.result (λ out. Made (known_of c.args.known.now) (cases k choices) c.args.emitter.now c.coalesce.new.emitter out)) same (rw c.deref-in-Coalesce.ensures at c.coalesce.ensures.emits))
+    let choices = coalesced (expressions_of c.in-Call.arguments.value) in
+    let same = cases_at choices c.of-in-Coalesce.result.scale (rw (c.in-Call.is, c.in-Coalesce.is) at c.of-in-Coalesce.ensures.scale) in
+    rw (c.in-Call.is, c.in-Coalesce.is) (subst (λ k. IfOk c.coalesce.result (λ out. Made (known_of c.args.known.now) (cases k choices) c.args.emitter.now c.coalesce.new.emitter out)) same (rw c.deref-in-Coalesce.ensures at c.coalesce.ensures.emits))
 
 pub expression-matched-requires : goal.expression-matched-requires
 expression-matched-requires t c =
@@ -592,31 +592,15 @@ expression-returns-in_ok-x-in-Match-clause-emits t c =
     (subst (λ k. Made (with_operand e c.in_ok-x-in-Match.x (known_of c.args.known.now)) (cases k choices) c.expression-in-Match.new.emitter c.matched.new.emitter out) same me) before.raises before.weighs before.columns)
     (rw (c.deref-in-Match-2.ensures, c.deref-in-Match-3.ensures) at c.matched.ensures.emits))
 
-pub expression-against-requires : goal.expression-against-requires
-expression-against-requires t c =
-    let e = expression_of c.in-NullIf.left.value in
-    let made = rw c.deref-in-NullIf.ensures at c.in_ok-x-in-NullIf.ensures.emits in
-    let served_x = with_served (known_of c.args.known.now) e c.args.emitter.now c.expression-in-NullIf.new.emitter c.in_ok-x-in-NullIf.x made in
-    let typed = rw c.in-NullIf.is at c.requires.typed in
-    let known = rw c.in-NullIf.is at c.requires.known in
-    (search (rules, the_lemmas), (rw (c.deref-in-NullIf-2.ensures, c.deref-in-NullIf-3.ensures) typed.0, (rw (c.deref-in-NullIf-2.ensures, c.deref-in-NullIf-3.ensures) known.0, rw c.deref-in-NullIf-3.ensures served_x)))
+pub expression-unless_among-requires : goal.expression-unless_among-requires
+expression-unless_among-requires t c =
+    let typed = rw (c.in-Call.is, c.in-NullIf.is) at c.requires.typed in
+    let known = rw (c.in-Call.is, c.in-NullIf.is) at c.requires.known in
+    let suits = rw (c.in-Call.is, c.in-NullIf.is) at c.of-in-NullIf.ensures.text in
+    (search (rules, the_lemmas), (rw c.deref-in-NullIf.ensures typed, (rw c.deref-in-NullIf.ensures known, (c.requires.served, rw c.deref-in-NullIf.ensures suits))))
 
-pub expression-returns-in_ok-t-in-NullIf-clause-emits : goal.expression-returns-in_ok-t-in-NullIf-clause-emits
-expression-returns-in_ok-t-in-NullIf-clause-emits t c =
-    let e = expression_of c.in-NullIf.left.value in
-    let r = expression_of c.in-NullIf.right.value in
-    let made = rw c.deref-in-NullIf.ensures at c.in_ok-x-in-NullIf.ensures.emits in
-    let served_x = with_served (known_of c.args.known.now) e c.args.emitter.now c.expression-in-NullIf.new.emitter c.in_ok-x-in-NullIf.x made in
-    let typed = rw c.in-NullIf.is at c.requires.typed in
-    let before = null_if_before e r in
-    let test = comparison Equal e r in
-    let mt = rw (c.deref-in-NullIf-2.ensures, c.deref-in-NullIf-3.ensures) at c.in_ok-t-in-NullIf.ensures.emits in
-    let suits = rw c.in-NullIf.is at c.of-in-NullIf.ensures.text in
-    let valued = c.expression-in-NullIf.new.emitter in
-    rw c.in-NullIf.is
-    (if_ok _ _ c.null_where.result
-    (λ out does. shared_made (known_of c.args.known.now) e (null_if e r) c.args.emitter.now valued c.null_where.new.self c.in_ok-x-in-NullIf.x out typed c.requires.served made
-    (null_where_made (known_of c.args.known.now) test e c.in_ok-x-in-NullIf.x out valued c.against.new.emitter c.null_where.new.self c.in_ok-t-in-NullIf.t typed served_x mt (λ more low ec here. does more test e valued typed suits low ec here)) before.raises before.weighs before.columns) c.null_where.ensures.emits)
+pub expression-returns-in-NullIf-clause-emits : goal.expression-returns-in-NullIf-clause-emits
+expression-returns-in-NullIf-clause-emits t c = rw (c.in-Call.is, c.in-NullIf.is) (rw c.deref-in-NullIf.ensures at c.unless_among.ensures.emits)
 
 pub expression-number_of-requires : goal.expression-number_of-requires
 expression-number_of-requires t c =
@@ -731,10 +715,10 @@ condition-returns-in_ok-x-in-In-clause-short t c =
     rw c.in-In.is
     (on_ok _ _ c.among.result (λ last. pair_extent _ _ _ _ _ (rw c.deref-in-In.ensures at c.in_ok-x-in-In.ensures.short) last) (rw c.deref-in-In-2.ensures at c.among.ensures.short))
 
-pub condition-returns-in_ok-x-in-IsNull-clause-short : goal.condition-returns-in_ok-x-in-IsNull-clause-short
-condition-returns-in_ok-x-in-IsNull-clause-short t c =
-    rw c.in-IsNull.is
-    (on_ok _ _ c.is_null.result (λ last. is_null_extent _ _ _ _ (rw c.deref-in-IsNull.ensures at c.in_ok-x-in-IsNull.ensures.short) last) c.is_null.ensures.short)
+pub condition-returns-in_ok-x-in-Predicate-clause-short : goal.condition-returns-in_ok-x-in-Predicate-clause-short
+condition-returns-in_ok-x-in-Predicate-clause-short t c =
+    rw c.in-Predicate.is
+    (on_ok _ _ c.predicate.result (λ last. predicate_extent _ _ _ _ (rw c.deref-in-Predicate.ensures at c.in_ok-x-in-Predicate.ensures.short) last) c.predicate.ensures.short)
 
 pub condition-returns-in_ok-u-in-And-clause-short : goal.condition-returns-in_ok-u-in-And-clause-short
 condition-returns-in_ok-u-in-And-clause-short t c =
@@ -778,7 +762,7 @@ expression-returns-in-Case-clause-short t c =
 
 pub expression-returns-in-Coalesce-clause-short : goal.expression-returns-in-Coalesce-clause-short
 expression-returns-in-Coalesce-clause-short t c =
-    rw c.in-Coalesce.is
+    rw c.in-Call.is
     (on_ok _ _ c.coalesce.result (λ last. only_extent _ _ _ last) (rw c.deref-in-Coalesce.ensures at c.coalesce.ensures.short))
 
 pub expression-returns-in_ok-x-in-Match-clause-short : goal.expression-returns-in_ok-x-in-Match-clause-short
@@ -786,7 +770,73 @@ expression-returns-in_ok-x-in-Match-clause-short t c =
     rw c.in-Match.is
     (on_ok _ _ c.matched.result (λ last. pair_extent _ _ _ _ _ (rw c.deref-in-Match.ensures at c.in_ok-x-in-Match.ensures.short) last) (rw c.deref-in-Match-2.ensures at c.matched.ensures.short))
 
-pub expression-returns-in_ok-t-in-NullIf-clause-short : goal.expression-returns-in_ok-t-in-NullIf-clause-short
-expression-returns-in_ok-t-in-NullIf-clause-short t c =
-    rw c.in-NullIf.is
-    (on_ok _ _ c.null_where.result (λ last. null_if_extent _ _ _ _ _ _ (rw c.deref-in-NullIf.ensures at c.in_ok-x-in-NullIf.ensures.short) (rw c.deref-in-NullIf-2.ensures at c.in_ok-t-in-NullIf.ensures.short) last) c.null_where.ensures.short)
+pub expression-returns-in-NullIf-clause-short : goal.expression-returns-in-NullIf-clause-short
+expression-returns-in-NullIf-clause-short t c =
+    rw c.in-Call.is
+    (on_ok _ _ c.unless_among.result (λ last. only_extent _ _ _ last) (rw c.deref-in-NullIf.ensures at c.unless_among.ensures.short))
+
+-- ---- the first argument, and null where it equals one of the others
+pub unless_among-brought-requires-clause-scales : goal.unless_among-brought-requires-clause-scales
+unless_among-brought-requires-clause-scales t c =
+    let made = rw c.deref.ensures at c.in_ok-a-in-Last.ensures.emits in
+    (omega arith, made.scale_low)
+
+-- it is brought to the scale that it has
+pub unless_among-returns-in_ok-a-in-Last-clause-emits : goal.unless_among-returns-in_ok-a-in-Last-clause-emits
+unless_among-returns-in_ok-a-in-Last-clause-emits t c =
+    let e = expression_of c.in-Last.argument.value in
+    let typed = rw c.in-Last.is at c.requires.typed in
+    let made = rw c.deref.ensures at c.in_ok-a-in-Last.ensures.emits in
+    let same = made.scale_is in
+    rw c.in-Last.is
+    (if_ok _ _ c.brought.result
+    (λ out does. one_made (known_of c.args.known.now) e (brought e (scale_of e)) c.args.emitter.now c.expression.new.emitter c.brought.new.self c.in_ok-a-in-Last.a out typed c.requires.served made
+    (λ more low ea. subst (λ k. Emits more (brought e k) c.args.emitter.now c.brought.new.self out) same (does more e c.args.emitter.now (subst (λ k. IsTyped (brought e k)) (sym same) typed) low ea))) c.brought.ensures.emits)
+
+pub unless_among-returns-in_ok-a-in-Last-clause-short : goal.unless_among-returns-in_ok-a-in-Last-clause-short
+unless_among-returns-in_ok-a-in-Last-clause-short t c =
+    rw c.in-Last.is
+    (on_ok _ _ c.brought.result (λ last. brought_extent _ _ _ _ (rw c.deref.ensures at c.in_ok-a-in-Last.ensures.short) last) c.brought.ensures.short)
+
+pub unless_among-expression-requires-in-More : goal.unless_among-expression-requires-in-More
+unless_among-expression-requires-in-More t c =
+    let typed = rw c.in-More.is at c.requires.typed in
+    let known = rw c.in-More.is at c.requires.known in
+    (search (rules, the_lemmas), (rw c.deref-in-More.ensures typed.1.0.1, (rw c.deref-in-More.ensures known.1.1, c.requires.served)))
+
+pub unless_among-among-requires : goal.unless_among-among-requires
+unless_among-among-requires t c =
+    let e = expression_of c.in-More.argument.value in
+    let made = rw c.deref-in-More.ensures at c.in_ok-x-in-More.ensures.emits in
+    let typed = rw c.in-More.is at c.requires.typed in
+    let known = rw c.in-More.is at c.requires.known in (
+      search (rules, the_lemmas),
+      (
+        rw (c.deref-in-More-2.ensures, c.deref-in-More-3.ensures) typed.0,
+        (
+          rw (c.deref-in-More-2.ensures, c.deref-in-More-3.ensures) known.0,
+          rw c.deref-in-More-3.ensures (with_served (known_of c.args.known.now) e c.args.emitter.now c.expression-in-More.new.emitter c.in_ok-x-in-More.x made),
+        ),
+      ),
+    )
+
+pub unless_among-returns-in_ok-t-in-More-clause-emits : goal.unless_among-returns-in_ok-t-in-More-clause-emits
+unless_among-returns-in_ok-t-in-More-clause-emits t c =
+    let e = expression_of c.in-More.argument.value in
+    let vs = expressions_of c.in-More.others.value in
+    let made = rw c.deref-in-More.ensures at c.in_ok-x-in-More.ensures.emits in
+    let served_x = with_served (known_of c.args.known.now) e c.args.emitter.now c.expression-in-More.new.emitter c.in_ok-x-in-More.x made in
+    let typed = rw c.in-More.is at c.requires.typed in
+    let before = among_before e vs in
+    let mt = rw (c.deref-in-More-2.ensures, c.deref-in-More-3.ensures) at c.in_ok-t-in-More.ensures.emits in
+    let suits = rw c.in-More.is at c.requires.suits in
+    let valued = c.expression-in-More.new.emitter in
+    rw c.in-More.is
+    (if_ok _ _ c.null_where.result
+    (λ out does. shared_made (known_of c.args.known.now) e (unless_among (more e vs)) c.args.emitter.now valued c.null_where.new.self c.in_ok-x-in-More.x out typed c.requires.served made
+    (null_where_made (known_of c.args.known.now) (among e vs) e c.in_ok-x-in-More.x out valued c.among.new.emitter c.null_where.new.self c.in_ok-t-in-More.t typed served_x mt (λ more low ec here. does more (among e vs) e valued typed suits low ec here)) before.raises before.weighs before.columns) c.null_where.ensures.emits)
+
+pub unless_among-returns-in_ok-t-in-More-clause-short : goal.unless_among-returns-in_ok-t-in-More-clause-short
+unless_among-returns-in_ok-t-in-More-clause-short t c =
+    rw c.in-More.is
+    (on_ok _ _ c.null_where.result (λ last. chosen_extent _ _ _ _ _ _ (rw c.deref-in-More.ensures at c.in_ok-x-in-More.ensures.short) (rw c.deref-in-More-2.ensures at c.in_ok-t-in-More.ensures.short) last) c.null_where.ensures.short)

@@ -1,8 +1,8 @@
 use Rattle.std.proofs.Common.{rules, refl, ◌∙◌}
 use Rattle.qw_scalar.specs.declared.expression.Expr.{the_lemmas}
-use Rattle.qw_scalar.specs.Expression.{coalesced, largest_result}
+use Rattle.qw_scalar.specs.Expression.{largest_result}
 use Rattle.qw_scalar.specs.Tree.{choices_of, expression_of, expressions_of, matches_of}
-use Rattle.qw_fold.proofs.Trees.{among_operand_typed, and_made, arguments_typed, arithmetic_made, between_made, case_made, case_scale, choices_typed, coalesce_made, compare_made, else_made, in_made, last_match_made, match_made, match_operand_typed, matches_typed, more_match_made, null_if_made, or_made, values_typed, when_made}
+use Rattle.qw_fold.proofs.Trees.{among_operand_typed, and_made, arguments_typed, arithmetic_made, between_made, call_made, case_made, case_scale, choices_typed, compare_made, else_made, in_made, last_match_made, match_made, match_operand_typed, matches_typed, more_match_made, or_made, values_typed, when_made}
 use Rattle.qw_fold.proofs.tree.+tree.Goals as goal
 
 -- ---- expressions
@@ -60,24 +60,15 @@ expression-returns-in_ok-folded-in-Match t c =
 
 pub expression-expressions_at-requires : goal.expression-expressions_at-requires
 expression-expressions_at-requires t c =
-    let arguments = expressions_of c.in-Coalesce.arguments.value in
-    let typed = rw c.in-Coalesce.is at c.requires.typed in
-    (search (rules, the_lemmas), (rw c.deref-in-Coalesce.ensures (arguments_typed (largest_result (coalesced arguments)) arguments typed), c.scale-in-Coalesce.ensures.bound))
+    let typed = rw c.in-Call.is at c.requires.typed in
+    (search (rules, the_lemmas), (rw c.deref-in-Call.ensures (arguments_typed c.in-Call.function (expressions_of c.in-Call.arguments.value) typed), c.scale-in-Call.ensures.bound))
 
-pub expression-returns-in_ok-folded-in-Coalesce : goal.expression-returns-in_ok-folded-in-Coalesce
-expression-returns-in_ok-folded-in-Coalesce t c =
-    let arguments = expressions_of c.in-Coalesce.arguments.value in
-    let scale = rw c.in-Coalesce.is at c.scale-in-Coalesce.ensures.value in
-    rw c.in-Coalesce.is
-    (coalesce_made arguments _ _ c.scale-in-Coalesce.result c.in_ok-folded-in-Coalesce.folded c.coalesce_tree.result (scale ∙ case_scale (coalesced arguments))
-    (rw c.deref-in-Coalesce.ensures at c.in_ok-folded-in-Coalesce.ensures) c.coalesce_tree.ensures.built c.coalesce_tree.ensures.folded)
-
-pub expression-returns-in_ok-expression-in-NullIf : goal.expression-returns-in_ok-expression-in-NullIf
-expression-returns-in_ok-expression-in-NullIf t c =
-    rw c.in-NullIf.is
-    (null_if_made _ _ _ _ _ _ c.scale-in-NullIf.result c.in_ok-x-in-NullIf.x c.at_scale-y.result c.null_if_tree.result (rw c.deref-in-NullIf-3.ensures at c.scale-in-NullIf.ensures.value)
-    (rw c.deref-in-NullIf.ensures at c.in_ok-x-in-NullIf.ensures) (c.at_scale-y.ensures.stands _ _ _ (rw c.deref-in-NullIf-2.ensures at c.in_ok-expression-in-NullIf.ensures))
-    c.null_if_tree.ensures.built c.null_if_tree.ensures.folded)
+pub expression-returns-in_ok-folded-in-Call : goal.expression-returns-in_ok-folded-in-Call
+expression-returns-in_ok-folded-in-Call t c =
+    let scale = rw c.in-Call.is at c.scale-in-Call.ensures.value in
+    rw c.in-Call.is
+    (call_made c.in-Call.function (expressions_of c.in-Call.arguments.value) _ _ c.scale-in-Call.result c.in_ok-folded-in-Call.folded c.call_tree.result scale
+    (rw c.deref-in-Call.ensures at c.in_ok-folded-in-Call.ensures) c.call_tree.ensures.built c.call_tree.ensures.folded)
 
 -- ---- conditions
 

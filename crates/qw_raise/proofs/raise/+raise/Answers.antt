@@ -37,6 +37,6 @@ expression-largest_match-requires t c =
 
 pub expression-largest_argument-requires : goal.expression-largest_argument-requires
 expression-largest_argument-requires t c =
-    let choices = coalesced (expressions_of c.in-Coalesce.list.value) in
-    let typed = rw c.in-Coalesce.is at c.requires.typed in
+    let choices = coalesced (expressions_of c.in-Call.list.value) in
+    let typed = rw (c.in-Call.is, c.in-Coalesce.is) at c.requires.typed in
     record { typed = rw c.deref-in-Coalesce-2.ensures (results_typed (largest_result choices) choices typed) }

@@ -19,6 +19,6 @@ scale-largest_match-requires t c =
 
 pub scale-largest_argument-requires : goal.scale-largest_argument-requires
 scale-largest_argument-requires t c =
-    let choices = coalesced (expressions_of c.in-Coalesce.arguments.value) in
-    let typed = rw c.in-Coalesce.is at c.requires.typed in
+    let choices = coalesced (expressions_of c.in-Call.arguments.value) in
+    let typed = rw (c.in-Call.is, c.in-Coalesce.is) at c.requires.typed in
     (search (rules, the_lemmas), rw c.deref-in-Coalesce.ensures (results_typed (largest_result choices) choices typed))

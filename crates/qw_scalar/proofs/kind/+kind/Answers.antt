@@ -19,6 +19,6 @@ of_expression-of_matches-requires t c =
 
 pub of_expression-of_arguments-requires : goal.of_expression-of_arguments-requires
 of_expression-of_arguments-requires t c =
-    let choices = coalesced (expressions_of c.in-Coalesce.arguments.value) in
-    let typed = rw c.in-Coalesce.is at c.requires.typed in
+    let choices = coalesced (expressions_of c.in-Call.arguments.value) in
+    let typed = rw (c.in-Call.is, c.in-Coalesce.is) at c.requires.typed in
     (search (rules, the_lemmas), rw c.deref-in-Coalesce.ensures (results_typed (largest_result choices) choices typed))

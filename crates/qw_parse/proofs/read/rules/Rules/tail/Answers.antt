@@ -2,7 +2,7 @@ use Rattle.std.proofs.Common.{refl}
 use Rattle.qw_ast.specs.SyntaxTree.{expression_of}
 use Rattle.qw_parse.specs.Inner.Parser.{left}
 use Rattle.qw_parse.specs.Inner.Readers.{nested_at}
-use Rattle.qw_parse.proofs.TailReadLemmas.{tail_alone, tail_between, tail_compare, tail_in, tail_like, tail_null_test}
+use Rattle.qw_parse.proofs.TailReadLemmas.{tail_alone, tail_between, tail_compare, tail_in, tail_like, tail_value_test}
 use Rattle.qw_parse.proofs.read.rules.Rules.tail.Goals as goal
 
 pub returns-in-Some : goal.returns-in-Some
@@ -12,8 +12,8 @@ returns-in-Some g c =
 
 pub returns-then-word : goal.returns-then-word
 returns-then-word g c =
-    rw (tail_null_test (nested_at c.args.self.now.levels) (expression_of c.args.operand) (left c.args.parser.now) c.in_default.ensures.found (left c.comparison.new.self) (c.in_default.ensures.kept refl) (left c.word.new.self) c.if-word.ensures.found)
-    (c.as_phrase-then-word.ensures _ _ c.null_test.ensures)
+    rw (tail_value_test (nested_at c.args.self.now.levels) (expression_of c.args.operand) (left c.args.parser.now) c.in_default.ensures.found (left c.comparison.new.self) (c.in_default.ensures.kept refl) (left c.word.new.self) c.if-word.ensures.found)
+    (c.as_phrase-then-word.ensures _ _ c.value_test.ensures)
 
 pub returns-then-word-2 : goal.returns-then-word-2
 returns-then-word-2 g c =

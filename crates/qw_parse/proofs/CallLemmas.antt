@@ -1,0 +1,51 @@
+-- The words of functions: each is in upper case, is neither NOT nor CASE, and begins an expression.
+use Rattle.std.proofs.Common.{◌≡◌, ℕ, true, false, List, Some, None, refl, subst, inl, inr}
+use Rattle.std.specs.Prelude.{codes, IsTrue}
+use Rattle.qw_token.specs.Token.{Lexeme}
+use Rattle.qw_token.specs.declared.token.Kind.TheVariants.{Word}
+use Rattle.qw_scalar.specs.declared.expression.Function.{Function}
+use Rattle.qw_scalar.specs.declared.expression.Function.TheVariants.{Coalesce, NullIf}
+use Rattle.qw_ast.specs.Grammar.{folded}
+use Rattle.qw_ast.specs.ScriptGrammar.{function_of, is_name, is_word}
+use Rattle.qw_parse.proofs.LoopLemmas.{some_same}
+use Rattle.qw_parse.proofs.TokenLemmas.{choose, word_is}
+use Rattle.qw_parse.proofs.ExactLemmas.{starts}
+use Rattle.qw_parse.proofs.PrimaryLemmas.{name_no_word}
+
+abbrev pub call_word_of : Function → List ℕ
+call_word_of Coalesce = codes "COALESCE"
+call_word_of NullIf = codes "NULLIF"
+
+pub call_word : (t : Lexeme) (f : Function) → function_of t ≡ Some f → IsTrue (is_word (call_word_of f) t)
+call_word t f e =
+    let R = λ (g : Function). IsTrue (is_word (call_word_of g) t) in
+    elim (choose (is_word (codes "COALESCE") t) _ _ f e) [
+      | inl h ↦ subst R (some_same Coalesce f h.1) h.0
+      | inr e1 ↦ elim (choose (is_word (codes "NULLIF") t) _ _ f e1.1) [
+        | inl h ↦ subst R (some_same NullIf f h.1) h.0
+        | inr e2 ↦ absurd (let none : None ≡ Some f = e2.1 in cc)
+      ]
+    ]
+
+pub folded_call : (f : Function) → folded (call_word_of f) ≡ call_word_of f
+folded_call Coalesce = refl
+folded_call NullIf = refl
+
+is_no_case : (f : Function) → is_word (codes "CASE") (record { kind = Word; octets = call_word_of f }) ≡ false
+is_no_case Coalesce = refl
+is_no_case NullIf = refl
+
+pub call_no_case : (t : Lexeme) (f : Function) → function_of t ≡ Some f → is_word (codes "CASE") t ≡ false
+call_no_case t f e = let is = word_is (call_word_of f) t (call_word t f e) in rw (is.0, is.1) (rw (folded_call f) at (is_no_case f))
+
+pub call_no_not : (f : Function) → is_word (codes "NOT") (record { kind = Word; octets = call_word_of f }) ≡ false
+call_no_not Coalesce = refl
+call_no_not NullIf = refl
+
+pub call_begins : (f : Function) → starts (record { kind = Word; octets = call_word_of f }) ≡ true
+call_begins Coalesce = refl
+call_begins NullIf = refl
+
+-- a name is none of them
+pub name_no_call : (t : Lexeme) → is_name t ≡ true → function_of t ≡ None
+name_no_call t h = rw (name_no_word (codes "COALESCE") t refl refl h, name_no_word (codes "NULLIF") t refl refl h) refl
