@@ -1,5 +1,5 @@
 -- Blocks that are entered and left where what a point holds is held apart from it.
-use Rattle.std.proofs.Common.{◌≡◌, ◌≢◌, ℕ, ◌+◌, ◌-◌, ◌^◌, ◌<◌, ◌≤◌, Bool, true, false, List, [], ◌∷◌, length, drop, Option, None, Some, IfSome, is_some, slice_get, get_or, Vec, vec_len, Global, refl, sym, ap, subst, ◌∙◌, arith}
+use Rattle.std.proofs.Common.{◌≡◌, ◌≢◌, ℕ, ◌+◌, ◌^◌, ◌<◌, ◌≤◌, Bool, true, false, List, [], ◌∷◌, length, drop, Option, None, Some, IfSome, is_some, slice_get, get_or, Vec, vec_len, Global, refl, sym, ap, subst, ◌∙◌, arith}
 use Rattle.qw_module.specs.declared.instruction.ValType.{ValType}
 use Rattle.qw_module.specs.declared.instruction.Instr.{Instr}
 use Rattle.qw_module.specs.declared.instruction.Instr.TheVariants as i
@@ -19,7 +19,7 @@ use Rattle.qw_module.specs.Start.{body_of}
 use Rattle.qw_module.specs.Step.{op_wants}
 use Rattle.qw_module.specs.Syntax.{Sequences, sequence_at}
 use Rattle.qw_module.specs.Validity.{sequences_of}
-use Rattle.qw_machine.specs.Inner.Activities.{IsAtHand, IsDoneAt, IsHalted, IsPlaced, IsRun, has_no_else}
+use Rattle.qw_machine.specs.Inner.Activities.{IsDoneAt, IsHalted, IsPlaced, has_no_else}
 use Rattle.qw_machine.specs.Inner.Ended.{answer_of}
 use Rattle.qw_machine.specs.Inner.Operated.{CanOperate, Held, IsDone}
 use Rattle.qw_machine.specs.Inner.Placed.{IsExecuted, IsPoint, IsRunning}
@@ -32,7 +32,7 @@ use Rattle.qw_machine.proofs.Followed.{held-ready, held-done, held-own}
 use Rattle.qw_machine.proofs.Leaving.{left-label}
 use Rattle.qw_machine.proofs.Passed.{executed-passed}
 use Rattle.qw_machine.proofs.Reading.{array-there, array-read, sequence-small}
-use Rattle.qw_machine.proofs.Runs.{run-after, run-operator, run-within}
+use Rattle.qw_machine.proofs.Runs.{run-within}
 
 -- with a further label around
 abbrev pub labelled : Stacked Awaiting → (base : ℕ) (takes : Bool) (sequence target after : ℕ) → Stacked Awaiting
@@ -196,73 +196,6 @@ module _ {m : Module} {rooms : Rooms} {p : Point} {awaiting : Stacked Awaiting} 
 -- ---- an instruction executed, and the labels left that it finished
 abbrev pub held : Point → (operands : Stacked ℕ) → (globals locals : List ℕ) → Point
 held p operands globals locals = with_held p 0 operands.values globals locals
-
--- ---- where steps led: what is around, the sequence and the index, and what is held
-pub record Kept : Type 0 where
-  pub awaiting : Stacked Awaiting
-  pub number : ℕ
-  pub index : ℕ
-  pub operands : Stacked ℕ
-  pub globals : List ℕ
-  pub locals : List ℕ
-  pub octets : List ℕ
-
-abbrev pub kept : Point → Kept → Point
-kept p k = placed p k.awaiting k.number k.index k.operands k.globals k.locals
-
-abbrev pub IsKept : Module → Rooms → Point → Kept → Type 0
-IsKept m rooms p k = IsPlaced m rooms p k.awaiting k.number k.index k.operands k.globals k.locals
-
--- after so many steps
-module _ (m : Module) (rooms : Rooms) (p : Point) (start : Kept) (begins : IsKept m rooms p start) (spare most steps : ℕ) (now : Kept)
-    (run : IsRun m rooms spare most (kept p start) start.octets (record { steps = steps; last = Ran }) (kept p now) now.octets) where
-  pub kept-now : now.awaiting.room ≡ start.awaiting.room → now.operands.room ≡ start.operands.room → IsKept m rooms p now
-  kept-now awaiting_room operands_room = record {
-    executed = begins.executed;
-    first_in = begins.first_in;
-    operands_room = begins.operands_room ∙ sym operands_room;
-    awaiting_room = begins.awaiting_room ∙ sym awaiting_room;
-    running = run.running;
-  }
-
-  -- those in its sequence
-  pub kept-more : (few next : ℕ) (more : Run) (after : Kept) → few ≤ most - steps → next ≡ steps + more.steps →
-      IsRun m rooms spare few (kept p now) now.octets more (kept p after) after.octets →
-      IsRun m rooms spare most (kept p start) start.octets (record { steps = next; last = more.last }) (kept p after) after.octets
-  kept-more few next more after fits counted further =
-      run-after m rooms spare most (kept p start) start.octets steps few next (kept p now) (kept p after) now.octets after.octets more rooms refl
-      run further counted (omega (arith, run.few, fits))
-
-  -- and an instruction that enters or leaves blocks
-  pub kept-crossed : (sequences : Sequences) → sequences ≡ body_of m p.function → (sequence : List Instr) (answer : Stepped) (after : Kept) →
-      IsDoneAt m rooms spare (kept p now) now.octets answer (kept p after) after.octets → (answer ≡ Ran) × (after.index < length sequence) × (sequence ≡ sequence_at sequences after.number) → steps + 1 ≤ most →
-      IsRun m rooms spare most (kept p start) start.octets (record { steps = steps + 1; last = Ran }) (kept p after) after.octets
-  kept-crossed sequences same sequence answer after crossed goes fits =
-      run-operator m rooms spare most (kept p start) start.octets steps (steps + 1) (kept p now) (kept p after) now.octets after.octets Ran run
-      (subst (λ (a : Stepped). IsDoneAt m rooms spare (kept p now) now.octets a (kept p after) after.octets) goes.0 crossed)
-      (subst (λ (xs : List Instr). after.index < length xs) (goes.2 ∙ ap (λ (s : Sequences). sequence_at s after.number) same) goes.1) refl fits
-
-  -- the same, where what is known of the place is told apart
-  pub kept-decided : (sequences : Sequences) → sequences ≡ body_of m p.function → (sequence : List Instr) (after : Kept) (number index next : ℕ) →
-      IsDoneAt m rooms spare (kept p now) now.octets Ran (kept p after) after.octets → (after.index < length sequence) × (sequence ≡ sequence_at sequences after.number) → steps + 1 ≤ most →
-      next ≡ steps + 1 → after.number ≡ number → after.index ≡ index →
-      IsRun m rooms spare most (kept p start) start.octets (record { steps = next; last = Ran }) (kept p (record after { number = number; index = index })) after.octets
-  kept-decided sequences same sequence after number index next done goes fits counted number_is index_is =
-      let run_of : ℕ → ℕ → ℕ → Type 0 = λ n x s. IsRun m rooms spare most (kept p start) start.octets (record { steps = s; last = Ran }) (kept p (record after { number = n; index = x })) after.octets in
-      let crossed : run_of after.number after.index (steps + 1) = kept-crossed sequences same sequence Ran after done (refl, goes.0, goes.1) fits in
-      subst (λ (n : ℕ). run_of n index next) number_is (subst (λ (x : ℕ). run_of after.number x next) index_is (subst (λ (s : ℕ). run_of after.number after.index s) (sym counted) crossed))
-
--- what is placed is at hand in its sequence
-pub placed-at-hand : (m : Module) (rooms : Rooms) (p : Point) (k : Kept) → IsKept m rooms p k → (sequences : Sequences) (sequence : List Instr) → sequences ≡ body_of m p.function →
-    sequence ≡ instructions_at m p.function k.number →
-    IsAtHand m rooms sequences k.number k.awaiting.values sequence (in_sequence p k.awaiting.values k.number k.index) k.index k.operands.room k.operands.values k.globals k.locals
-placed-at-hand m rooms p k is sequences sequence body same = record {
-  executed = is.executed;
-  body_is = body;
-  number_is = refl;
-  awaiting_is = refl;
-  followed = record { instructions = sym same; first_in = is.first_in; room_is = is.operands_room; running = is.running };
-}
 
 -- ---- where a point runs, what it holds may be held apart
 pub placed-here : (m : Module) (rooms : Rooms) (p : Point) (awaiting : Stacked Awaiting) (operands : Stacked ℕ) (globals locals : List ℕ) → IsExecuted m → IsRunning m rooms p →

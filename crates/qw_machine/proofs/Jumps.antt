@@ -1,5 +1,5 @@
 -- A branch in a numbered body, against the branch of the configuration that this stands for.
-use Rattle.std.proofs.Common.{◌≡◌, ℕ, zero, suc, ◌+◌, ◌≤◌, List, [], ◌∷◌, ◌++◌, length, take, drop, Some, slice_get, refl, sym, ap, ap₂, subst, ◌∙◌, arith, length-append, append_assoc}
+use Rattle.std.proofs.Common.{◌≡◌, ℕ, zero, suc, ◌≤◌, List, [], ◌∷◌, ◌++◌, length, take, drop, Some, slice_get, refl, sym, ap, ap₂, subst, ◌∙◌, arith, length-append, append_assoc}
 use Rattle.std.proofs.lemmas.Bool.{le-leb}
 use Rattle.std.proofs.lemmas.Option.{same_Some, none-some}
 use Rattle.qw_module.specs.declared.instruction.ValType.{ValType}
@@ -9,16 +9,14 @@ use Rattle.qw_machine.specs.declared.activity.Awaiting.{Awaiting}
 use Rattle.qw_machine.specs.declared.activity.Awaiting.TheVariants.{Label, Call}
 use Rattle.qw_module.specs.Numbers.{truth}
 use Rattle.qw_module.specs.Execution.{Store, State, settled, branched}
-use Rattle.qw_module.specs.Typing.{scope_of, Typed}
 use Rattle.qw_module.specs.Soundness.{AreOf}
-use Rattle.qw_module.specs.Validity.{outside_of}
-use Rattle.qw_machine.specs.Inner.Points.{code_at, instructions_at, Point, base_of, floor_of, under, contexts_of, store_with, state_at}
+use Rattle.qw_machine.specs.Inner.Points.{code_at, Point, base_of, floor_of, under, contexts_of, store_with, state_at}
 use Rattle.qw_machine.specs.declared.room.Rooms.{Rooms}
-use Rattle.qw_machine.specs.Inner.Rooms.{HasRoom}
-use Rattle.qw_machine.specs.Inner.Placed.{AreAwaiting, StaysAt, IsPoint}
+use Rattle.qw_machine.specs.Inner.Placed.{AreAwaiting, IsEntry, IsPoint}
 use Rattle.qw_machine.specs.Inner.Activities.{CanJump, IsJump}
-use Rattle.qw_module.proofs.Sound.{AreOf-append, AreOf-length, AreOf-take}
+use Rattle.qw_module.proofs.Sound.{AreOf-length, AreOf-take}
 use Rattle.qw_machine.proofs.ListFacts.{above-append, under-append, kept-append}
+use Rattle.qw_machine.proofs.Outside.{entry-point}
 use Rattle.qw_machine.proofs.Points.{state_at-split}
 use Rattle.qw_machine.proofs.Around.{IsAround}
 
@@ -27,29 +25,20 @@ module _ (m : Module) (rooms : Rooms) (function first_local : ℕ) (locals resul
   pub record IsFound (index : ℕ) (awaiting : List Awaiting) (taken : List ValType) (below : List ℕ) : Type 0 where
     pub entry : Entry
     pub rest : List Awaiting
-    pub own : List ℕ
-    pub lower : List ℕ
-    pub types : List ValType
-    pub outer : List (List ValType)
-    pub next : List ValType
+    pub labels : List (List ValType)
+    pub ends : List ValType
+    pub inner : List ℕ
+    pub is_entry : IsEntry m rooms function first_local locals results labels ends entry rest inner
+    pub awaiting_are : AreAwaiting m rooms function first_local locals results is_entry.outer is_entry.next rest is_entry.below values
+    pub taken_is : is_entry.taken ≡ taken
     pub found : slice_get awaiting index ≡ Some (Label entry)
-    pub takes_are : truth entry.takes ≡ length taken
     pub base_in : entry.base ≤ length below
-    pub under_is : (on : List ℕ) → under entry.base (on ++ below) ≡ own ++ lower
-    pub lower_are : length lower ≡ base_of rest
-    pub own_are : AreOf own types
-    pub target_typed : Typed (scope_of (outside_of m) locals results outer) (code_at m function entry.sequence entry.target) (taken ++ types) next
-    pub target_in : entry.target ≤ length (instructions_at m function entry.sequence)
-    pub operands_most : ℕ
-    pub labels_most : ℕ
-    pub target_within : StaysAt m function entry.sequence entry.target operands_most labels_most (length own + length taken)
-    pub room : HasRoom m rooms function entry.sequence (length lower + operands_most) (length rest + labels_most) first_local
-    pub awaiting_are : AreAwaiting m rooms function first_local locals results outer next rest lower values
+    pub under_is : (on : List ℕ) → under entry.base (on ++ below) ≡ inner
     pub cut : drop index awaiting ≡ Label entry ∷ rest
     pub floor_is : floor_of awaiting ≡ floor_of rest
     pub leads : (store : Store) (operands own_locals : List ℕ) → truth entry.takes ≤ length operands →
         branched store index (contexts_of m function awaiting below values) operands own_locals
-        ≡ Some (settled store (contexts_of m function rest lower values) (code_at m function entry.sequence entry.target) (take (truth entry.takes) operands ++ own) own_locals)
+        ≡ Some (settled store (contexts_of m function rest is_entry.below values) (code_at m function entry.sequence entry.target) (take (truth entry.takes) operands ++ is_entry.own) own_locals)
 
   pub found-label : (index : ℕ) (awaiting : List Awaiting) (labels : List (List ValType)) (taken ends : List ValType) (below : List ℕ) →
       AreAwaiting m rooms function first_local locals results labels ends awaiting below values → length below ≡ base_of awaiting → slice_get labels index ≡ Some taken →
@@ -57,28 +46,18 @@ module _ (m : Module) (rooms : Rooms) (function first_local : ℕ) (locals resul
   found-label index [] labels taken ends below none base found = absurd (none-some taken (rw none.0 at found))
   found-label index (Call caller ∷ rest) labels taken ends below are base found = absurd (none-some taken (rw are.0 at found))
   found-label zero (Label entry ∷ rest) labels taken ends below (e, are) base found =
-      let same : e.taken ≡ taken = same_Some e.taken taken (rw e.labels_are at found) in
       record {
         entry = entry;
         rest = rest;
-        own = e.own;
-        lower = e.below;
-        types = e.types;
-        outer = e.outer;
-        next = e.next;
-        found = refl;
-        takes_are = e.takes_are ∙ ap length same;
-        base_in = omega arith;
-        under_is = λ on. under-append entry.base on below base ∙ e.operands_are;
-        lower_are = e.below_are;
-        own_are = e.own_are;
-        target_typed = rw (← same) e.target_typed;
-        target_in = e.target_in;
-        operands_most = e.operands_most;
-        labels_most = e.labels_most;
-        target_within = subst (λ (ts : List ValType). StaysAt m function entry.sequence entry.target e.operands_most e.labels_most (length e.own + length ts)) same e.target_within;
-        room = e.room;
+        labels = labels;
+        ends = ends;
+        inner = below;
+        is_entry = e;
         awaiting_are = are;
+        taken_is = same_Some e.taken taken (rw e.labels_are at found);
+        found = refl;
+        base_in = omega arith;
+        under_is = λ on. under-append entry.base on below base;
         cut = refl;
         floor_is = refl;
         leads = λ store operands own_locals enough.
@@ -94,25 +73,16 @@ module _ (m : Module) (rooms : Rooms) (function first_local : ℕ) (locals resul
       record {
         entry = f.entry;
         rest = f.rest;
-        own = f.own;
-        lower = f.lower;
-        types = f.types;
-        outer = f.outer;
-        next = f.next;
+        labels = f.labels;
+        ends = f.ends;
+        inner = f.inner;
+        is_entry = f.is_entry;
+        awaiting_are = f.awaiting_are;
+        taken_is = f.taken_is;
         found = f.found;
-        takes_are = f.takes_are;
         base_in = omega (arith, f.base_in, ap length e.operands_are, length-append e.own e.below);
         under_is = λ on. ap (λ (xs : List ℕ). under f.entry.base (on ++ xs)) e.operands_are
             ∙ ap (under f.entry.base) (sym (append_assoc on e.own e.below)) ∙ f.under_is (on ++ e.own);
-        lower_are = f.lower_are;
-        own_are = f.own_are;
-        target_typed = f.target_typed;
-        target_in = f.target_in;
-        operands_most = f.operands_most;
-        labels_most = f.labels_most;
-        target_within = f.target_within;
-        room = f.room;
-        awaiting_are = f.awaiting_are;
         cut = f.cut;
         floor_is = f.floor_is;
         leads = λ store operands own_locals enough.
@@ -134,10 +104,13 @@ module _ {m : Module} {rooms : Rooms} {p : Point} {own below : List ℕ} {locals
   enough : length taken ≤ length own
   enough = omega (arith, AreOf-length own (taken ++ more) own_are, length-append taken more)
 
+  takes_are : truth found_label.entry.takes ≡ length taken
+  takes_are = found_label.is_entry.takes_are ∙ ap length found_label.taken_is
+
   pub can-jump : CanJump index p
   can-jump =
       let f = found_label in
-      (f.entry, f.found, omega (arith, ap length around.operands_are, length-append own below, f.base_in, f.takes_are, enough))
+      (f.entry, f.found, omega (arith, ap length around.operands_are, length-append own below, f.base_in, takes_are, enough))
 
   -- the point that the branch leads to
   abbrev target_point : Point
@@ -147,7 +120,7 @@ module _ {m : Module} {rooms : Rooms} {p : Point} {own below : List ℕ} {locals
         awaiting = f.rest;
         sequence = f.entry.sequence;
         index = f.entry.target;
-        operands = (take (length taken) own ++ f.own) ++ f.lower;
+        operands = (take (length taken) own ++ f.is_entry.own) ++ f.is_entry.below;
       }
 
   jumped-is : (q : Point) → IsJump index p q → q ≡ target_point
@@ -156,9 +129,9 @@ module _ {m : Module} {rooms : Rooms} {p : Point} {own below : List ℕ} {locals
       let same : Label jump.entry ∷ q.awaiting ≡ Label f.entry ∷ f.rest = sym jump.awaiting ∙ f.cut in
       let entry : jump.entry ≡ f.entry = cc same in
       let rest : q.awaiting ≡ f.rest = cc same in
-      let operands : take (truth f.entry.takes) p.operands ++ under f.entry.base p.operands ≡ (take (length taken) own ++ f.own) ++ f.lower =
-      ap (λ (n : ℕ). take n p.operands ++ under f.entry.base p.operands) f.takes_are
-      ∙ kept-append (length taken) f.entry.base p.operands own below f.own f.lower around.operands_are enough (f.under_is own) in
+      let operands : take (truth f.entry.takes) p.operands ++ under f.entry.base p.operands ≡ (take (length taken) own ++ f.is_entry.own) ++ f.is_entry.below =
+      ap (λ (n : ℕ). take n p.operands ++ under f.entry.base p.operands) takes_are
+      ∙ kept-append (length taken) f.entry.base p.operands own below f.is_entry.own f.is_entry.below around.operands_are enough (f.under_is own ∙ f.is_entry.operands_are) in
       let at : List Awaiting → Entry → Point =
       λ awaiting e. record p { awaiting = awaiting; sequence = e.sequence; index = e.target; operands = take (truth e.takes) p.operands ++ under e.base p.operands } in
       let over : List ℕ → Point =
@@ -168,33 +141,10 @@ module _ {m : Module} {rooms : Rooms} {p : Point} {own below : List ℕ} {locals
   target_point-is : IsPoint m rooms target_point
   target_point-is =
       let f = found_label in
-      let kept : AreOf (take (length taken) own) taken = AreOf-take own taken more own_are in
-      let many : length f.own + length taken ≡ length (take (length taken) own ++ f.own) =
-      omega (arith, length-append (take (length taken) own) f.own, AreOf-length (take (length taken) own) taken kept) in
-      record {
-        own = take (length taken) own ++ f.own;
-        below = f.lower;
-        locals = locals;
-        results = results;
-        labels = f.outer;
-        before = taken ++ f.types;
-        ends = f.next;
-        operands_are = refl;
-        below_are = f.lower_are;
-        own_are = AreOf-append (take (length taken) own) f.own taken f.types kept f.own_are;
-        first_in = around.first_in;
-        locals_are = around.locals_are;
-        all_locals = around.all_locals;
-        globals_are = around.globals_are;
-        floor_is = around.floor_is ∙ f.floor_is;
-        typed = f.target_typed;
-        index_in = f.target_in;
-        operands_most = f.operands_most;
-        labels_most = f.labels_most;
-        stays = subst (λ (n : ℕ). StaysAt m p.function f.entry.sequence f.entry.target f.operands_most f.labels_most n) many f.target_within;
-        room = f.room;
-        awaiting = f.awaiting_are;
-      }
+      let e = f.is_entry in
+      let left : AreOf (take (length taken) own) e.taken = rw f.taken_is (AreOf-take own taken more own_are) in
+      entry-point (record p { operands = (take (length taken) own ++ e.own) ++ e.below }) (take (length taken) own) e.taken left around.globals_are e f.entry.target e.target_typed e.target_in e.target_within
+      f.awaiting_are around.first_in around.locals_are around.all_locals (around.floor_is ∙ f.floor_is) refl
 
   -- a branch leads to a point, and the configuration's branch to what that stands for
   pub jumped-point : (q : Point) → IsJump index p q → IsPoint m rooms q
@@ -204,9 +154,9 @@ module _ {m : Module} {rooms : Rooms} {p : Point} {own below : List ℕ} {locals
       branched (store_with m p.globals) index (contexts_of m p.function p.awaiting below outer_values) own (drop p.first_local p.locals) ≡ Some (state_at m q)
   jumped-state q jump =
       let f = found_label in
-      let leads = f.leads (store_with m p.globals) own (drop p.first_local p.locals) (omega (arith, enough, f.takes_are)) in
-      let split = state_at-split m target_point (take (length taken) own ++ f.own) f.lower refl f.lower_are in
-      let first : take (truth f.entry.takes) own ++ f.own ≡ take (length taken) own ++ f.own = ap (λ (n : ℕ). take n own ++ f.own) f.takes_are in
+      let leads = f.leads (store_with m p.globals) own (drop p.first_local p.locals) (omega (arith, enough, takes_are)) in
+      let split = state_at-split m target_point (take (length taken) own ++ f.is_entry.own) f.is_entry.below refl f.is_entry.below_are in
+      let first : take (truth f.entry.takes) own ++ f.is_entry.own ≡ take (length taken) own ++ f.is_entry.own = ap (λ (n : ℕ). take n own ++ f.is_entry.own) takes_are in
       let reached : List ℕ → State =
-      λ xs. settled (store_with m p.globals) (contexts_of m p.function f.rest f.lower outer_values) (code_at m p.function f.entry.sequence f.entry.target) xs (drop p.first_local p.locals) in
+      λ xs. settled (store_with m p.globals) (contexts_of m p.function f.rest f.is_entry.below outer_values) (code_at m p.function f.entry.sequence f.entry.target) xs (drop p.first_local p.locals) in
       leads ∙ ap (λ (xs : List ℕ). Some (reached xs)) first ∙ ap (λ (s : State). Some s) (sym split ∙ ap (state_at m) (sym (jumped-is q jump)))

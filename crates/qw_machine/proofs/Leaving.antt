@@ -1,5 +1,5 @@
 -- A finished label or frame is left, as the configuration's is that this stands for.
-use Rattle.std.proofs.Common.{◌≡◌, ℕ, ◌+◌, List, [], ◌∷◌, ◌++◌, length, take, drop, Some, refl, sym, ap, subst, ◌∙◌, arith, length-append, append_assoc}
+use Rattle.std.proofs.Common.{◌≡◌, ℕ, List, [], ◌∷◌, ◌++◌, length, Some, refl, sym, ap, subst, ◌∙◌, arith, append_assoc}
 use Rattle.qw_module.specs.declared.instruction.ValType.{ValType}
 use Rattle.qw_module.specs.declared.module.Module.{Module}
 use Rattle.qw_machine.specs.declared.activity.Entry.{Entry}
@@ -9,17 +9,18 @@ use Rattle.qw_machine.specs.declared.activity.Awaiting.TheVariants.{Label, Call}
 use Rattle.qw_machine.specs.declared.room.Rooms.{Rooms}
 use Rattle.qw_machine.specs.declared.stepped.Stepped.TheVariants.{Ran}
 use Rattle.qw_module.specs.Syntax.{Code, done}
-use Rattle.qw_module.specs.Execution.{Returned, State, settled}
+use Rattle.qw_module.specs.Execution.{Returned, State}
 use Rattle.qw_module.specs.Start.{body_of}
 use Rattle.qw_module.specs.Step.{Next}
 use Rattle.qw_module.specs.Typing.{scope_of, Typed}
 use Rattle.qw_module.specs.Soundness.{AreOf}
 use Rattle.qw_module.specs.Validity.{outside_of}
-use Rattle.qw_machine.specs.Inner.Points.{Point, code_at, instructions_at, base_of, contexts_of, store_with, state_at, after_label, after_call}
-use Rattle.qw_machine.specs.Inner.Placed.{StaysAt, IsPoint}
+use Rattle.qw_machine.specs.Inner.Points.{Point, instructions_at, base_of, state_at, after_label, after_call}
+use Rattle.qw_machine.specs.Inner.Placed.{IsPoint}
 use Rattle.qw_machine.specs.Inner.Activities.{IsDoneAt}
-use Rattle.qw_module.proofs.Sound.{AreOf-append, AreOf-length, done_types}
+use Rattle.qw_module.proofs.Sound.{done_types}
 use Rattle.qw_machine.proofs.ListFacts.{above-append, under-append}
+use Rattle.qw_machine.proofs.Outside.{entry-point, caller-point}
 use Rattle.qw_machine.proofs.Points.{code_in-end, state_at-split}
 
 -- at the end of its sequence a point has the operands that this leaves
@@ -38,53 +39,18 @@ module _ (m : Module) (rooms : Rooms) (p : Point) (entry : Entry) (rest : List A
       let e = is.awaiting.0 in
       is.operands_are ∙ ap (λ (xs : List ℕ). is.own ++ xs) e.operands_are ∙ sym (append_assoc is.own e.own e.below)
 
-  pub after_label-point : IsPoint m rooms (after_label p entry rest)
+  after_label-point : IsPoint m rooms (after_label p entry rest)
   after_label-point =
       let e = is.awaiting.0 in
-      let left = leaves m rooms (record p { awaiting = Label entry ∷ rest }) ended is in
-      let many : length e.own + length is.ends ≡ length (is.own ++ e.own) = omega (arith, length-append is.own e.own, AreOf-length is.own is.ends left) in
-      record {
-        own = is.own ++ e.own;
-        below = e.below;
-        locals = is.locals;
-        results = is.results;
-        labels = e.outer;
-        before = is.ends ++ e.types;
-        ends = e.next;
-        operands_are = label_operands;
-        below_are = e.below_are;
-        own_are = AreOf-append is.own e.own is.ends e.types left e.own_are;
-        first_in = is.first_in;
-        locals_are = is.locals_are;
-        all_locals = is.all_locals;
-        globals_are = is.globals_are;
-        floor_is = is.floor_is;
-        typed = e.after_typed;
-        index_in = e.after_in;
-        operands_most = e.operands_most;
-        labels_most = e.labels_most;
-        stays = subst (λ (n : ℕ). StaysAt m p.function entry.sequence entry.after e.operands_most e.labels_most n) many e.after_within;
-        room = e.room;
-        awaiting = is.awaiting.1;
-      }
+      entry-point p is.own is.ends (leaves m rooms (record p { awaiting = Label entry ∷ rest }) ended is) is.globals_are e entry.after e.after_typed e.after_in e.after_within
+      is.awaiting.1 is.first_in is.locals_are is.all_locals is.floor_is label_operands
 
-  pub after_label-state : state_at m (record p { awaiting = Label entry ∷ rest }) ≡ state_at m (after_label p entry rest)
+  after_label-state : state_at m (record p { awaiting = Label entry ∷ rest }) ≡ state_at m (after_label p entry rest)
   after_label-state =
       let e = is.awaiting.0 in
-      let inner : Point = record p { awaiting = Label entry ∷ rest } in
-      let before = state_at-split m inner is.own is.below is.operands_are is.below_are in
-      let after = state_at-split m (after_label p entry rest) (is.own ++ e.own) e.below label_operands e.below_are in
-      let locals : List ℕ = drop p.first_local p.locals in
-      let outer : List ℕ = take p.first_local p.locals in
-      let middle : settled (store_with m p.globals) (contexts_of m p.function (Label entry ∷ rest) is.below outer) (code_at m p.function p.sequence p.index) is.own locals
-      ≡ settled (store_with m p.globals) (contexts_of m p.function rest e.below outer) (code_at m p.function entry.sequence entry.after) (is.own ++ e.own) locals =
-      rw (
-        code_in-end (body_of m p.function) p.sequence p.index ended,
-        e.operands_are,
-        above-append (base_of rest) e.own e.below e.below_are,
-        under-append (base_of rest) e.own e.below e.below_are,
-      ) (refl {a = settled (store_with m p.globals) (contexts_of m p.function rest e.below outer) (code_at m p.function entry.sequence entry.after) (is.own ++ e.own) locals}) in
-      before ∙ middle ∙ sym after
+      state_at-split m (record p { awaiting = Label entry ∷ rest }) is.own is.below is.operands_are is.below_are
+      ∙ rw (code_in-end (body_of m p.function) p.sequence p.index ended, e.operands_are, above-append (base_of rest) e.own e.below e.below_are, under-append (base_of rest) e.own e.below e.below_are)
+      (sym (state_at-split m (after_label p entry rest) (is.own ++ e.own) e.below label_operands e.below_are))
 
 -- ---- a frame
 module _ (m : Module) (rooms : Rooms) (p : Point) (caller : Frame) (rest : List Awaiting) (ended : p.index ≡ length (instructions_at m p.function p.sequence))
@@ -94,53 +60,17 @@ module _ (m : Module) (rooms : Rooms) (p : Point) (caller : Frame) (rest : List 
       let f = is.awaiting.2 in
       is.operands_are ∙ ap (λ (xs : List ℕ). is.own ++ xs) f.operands_are ∙ sym (append_assoc is.own f.own f.below)
 
-  pub after_call-point : IsPoint m rooms (after_call p caller rest)
+  after_call-point : IsPoint m rooms (after_call p caller rest)
   after_call-point =
-      let f = is.awaiting.2 in
-      let ends : is.ends ≡ is.results = is.awaiting.1 in
-      let left : AreOf is.own is.results = subst (λ (types : List ValType). AreOf is.own types) ends (leaves m rooms (record p { awaiting = Call caller ∷ rest }) ended is) in
-      let many : length f.own + length is.results ≡ length (is.own ++ f.own) = omega (arith, length-append is.own f.own, AreOf-length is.own is.results left) in
-      record {
-        own = is.own ++ f.own;
-        below = f.below;
-        locals = f.locals;
-        results = f.outer_results;
-        labels = f.labels;
-        before = is.results ++ f.types;
-        ends = f.next;
-        operands_are = call_operands;
-        below_are = f.below_are;
-        own_are = AreOf-append is.own f.own is.results f.types left f.own_are;
-        first_in = f.first_in;
-        locals_are = f.locals_are;
-        all_locals = f.all_locals;
-        globals_are = is.globals_are;
-        floor_is = f.floor_is;
-        typed = f.after_typed;
-        index_in = f.after_in;
-        operands_most = f.operands_most;
-        labels_most = f.labels_most;
-        stays = subst (λ (n : ℕ). StaysAt m caller.function caller.sequence caller.after f.operands_most f.labels_most n) many f.after_within;
-        room = f.room;
-        awaiting = is.awaiting.3;
-      }
+      let left : AreOf is.own is.results = subst (λ (types : List ValType). AreOf is.own types) is.awaiting.1 (leaves m rooms (record p { awaiting = Call caller ∷ rest }) ended is) in
+      caller-point p is.own is.results left is.globals_are is.awaiting.2 is.awaiting.3 call_operands
 
-  pub after_call-state : state_at m (record p { awaiting = Call caller ∷ rest }) ≡ state_at m (after_call p caller rest)
+  after_call-state : state_at m (record p { awaiting = Call caller ∷ rest }) ≡ state_at m (after_call p caller rest)
   after_call-state =
       let f = is.awaiting.2 in
-      let inner : Point = record p { awaiting = Call caller ∷ rest } in
-      let before = state_at-split m inner is.own is.below is.operands_are is.below_are in
-      let after = state_at-split m (after_call p caller rest) (is.own ++ f.own) f.below call_operands f.below_are in
-      let outer : List ℕ = take p.first_local p.locals in
-      let middle : settled (store_with m p.globals) (contexts_of m p.function (Call caller ∷ rest) is.below outer) (code_at m p.function p.sequence p.index) is.own (drop p.first_local p.locals)
-      ≡ settled (store_with m p.globals) (contexts_of m caller.function rest f.below (take caller.first_local outer)) (code_at m caller.function caller.sequence caller.after) (is.own ++ f.own) (drop caller.first_local outer) =
-      rw (
-        code_in-end (body_of m p.function) p.sequence p.index ended,
-        f.operands_are,
-        above-append (base_of rest) f.own f.below f.below_are,
-        under-append (base_of rest) f.own f.below f.below_are,
-      ) (refl {a = settled (store_with m p.globals) (contexts_of m caller.function rest f.below (take caller.first_local outer)) (code_at m caller.function caller.sequence caller.after) (is.own ++ f.own) (drop caller.first_local outer)}) in
-      before ∙ middle ∙ sym after
+      state_at-split m (record p { awaiting = Call caller ∷ rest }) is.own is.below is.operands_are is.below_are
+      ∙ rw (code_in-end (body_of m p.function) p.sequence p.index ended, f.operands_are, above-append (base_of rest) f.own f.below f.below_are, under-append (base_of rest) f.own f.below f.below_are)
+      (sym (state_at-split m (after_call p caller rest) (is.own ++ f.own) f.below call_operands f.below_are))
 
 -- ---- what is popped is left
 pub left-label : (m : Module) (rooms : Rooms) (p : Point) (entry : Entry) (rest : List Awaiting) → p.index ≡ length (instructions_at m p.function p.sequence) →

@@ -17,9 +17,11 @@ mod Leaving
 mod ListFacts
 mod Numeric
 mod Operated
+mod Outside
 mod Passed
 mod Points
 mod Reading
+mod Reached
 mod Repeated
 mod Returns
 mod Rooms

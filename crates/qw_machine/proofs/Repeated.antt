@@ -14,11 +14,10 @@ use Rattle.qw_module.specs.Start.{body_of}
 use Rattle.qw_module.specs.Syntax.{Sequences}
 use Rattle.qw_machine.specs.Inner.Points.{Point, entered, instructions_at, under, with_held}
 use Rattle.qw_machine.specs.Inner.Placed.{IsExecuted, IsPoint}
-use Rattle.qw_machine.specs.Inner.Operated.{Held}
 use Rattle.qw_machine.specs.Inner.Activities.{IsAtHand, IsDoneAt, IsJump, IsRun, IsTurn, Repeats}
 use Rattle.qw_machine.proofs.Around.{with_operands}
 use Rattle.qw_machine.proofs.Controlled.{br_if-operand, can-jump-br_if, executed-br_if, executed-loop}
-use Rattle.qw_machine.proofs.Runs.{run-operator}
+use Rattle.qw_machine.proofs.Runs.{run-none, run-operator}
 
 -- at the beginning of its sequence, with other operands
 abbrev pub anew : Point → List ℕ → Point
@@ -75,25 +74,23 @@ module _ {m : Module} {rooms : Rooms} (spare : ℕ) (executed : IsExecuted m) {p
   executed-again memory point =
       executed-loop spare executed point between-inside repeats.result p.sequence repeats.begins (anew p (under base left)) memory (sym entered_is)
 
-module _ (m : Module) (rooms : Rooms) (p : Point) (sequences : Sequences) (number : ℕ) (awaiting : List Awaiting) (sequence : List Instr) (first room : ℕ) (operands globals locals : List ℕ)
-    (start : IsAtHand m rooms sequences number awaiting sequence p first room operands globals locals) (spare most steps : ℕ) (memory : List ℕ) (index : ℕ) (now : Held)
-    (run : IsRun m rooms spare most (with_held p first operands globals locals) memory (record { steps = steps; last = Ran }) (with_held p index now.operands now.globals now.locals) now.memory) where
+module _ (m : Module) (rooms : Rooms) (p : Point) (sequences : Sequences) (number : ℕ) (awaiting : List Awaiting) (sequence : List Instr) (index room : ℕ) (operands globals locals : List ℕ)
+    (start : IsAtHand m rooms sequences number awaiting sequence p index room operands globals locals) (spare : ℕ) where
   found : slice_get sequence index ≡ Some (i.BrIf 0) → slice_get (instructions_at m p.function p.sequence) index ≡ Some (i.BrIf 0)
   found branches = rw start.followed.instructions branches
 
-  pub turned-ready : slice_get sequence index ≡ Some (i.BrIf 0) → 0 < length now.operands
-  turned-ready branches = br_if-operand spare start.executed run.running.point run.running.unfinished 0 (found branches)
+  pub turned-ready : slice_get sequence index ≡ Some (i.BrIf 0) → 0 < length operands
+  turned-ready branches = br_if-operand spare start.executed start.followed.running.point start.followed.running.unfinished 0 (found branches)
 
-  pub turned-next : (left : List ℕ) → IsTurn sequences number awaiting sequence index now.operands left → steps + 2 ≤ most →
-      IsRun m rooms spare most (with_held p first operands globals locals) memory (record { steps = steps + 2; last = Ran })
-      (with_held p 0 left now.globals now.locals) now.memory
-  turned-next left turn fits =
-      let here : Point = with_held p index now.operands now.globals now.locals in
+  pub turned-next : (most : ℕ) (memory left : List ℕ) → IsTurn sequences number awaiting sequence index operands left → 2 ≤ most →
+      IsRun m rooms spare most (with_held p index operands globals locals) memory (record { steps = 2; last = Ran }) (with_held p 0 left globals locals) memory
+  turned-next most memory left turn fits =
+      let here : Point = with_held p index operands globals locals in
+      let running = start.followed.running in
       let repeats : Repeats (body_of m p.function) p.sequence p.awaiting turn.base = rw (← start.body_is, start.number_is, start.awaiting_is) turn.repeats in
-      let middle : Point = between spare start.executed run.running.point run.running.unfinished (found turn.branches) turn.condition turn.holds turn.left turn.popped turn.base repeats in
-      let branch = executed-branch spare start.executed run.running.point run.running.unfinished (found turn.branches) turn.condition turn.holds turn.left turn.popped turn.base repeats now.memory in
-      let inside = between-inside spare start.executed run.running.point run.running.unfinished (found turn.branches) turn.condition turn.holds turn.left turn.popped turn.base repeats in
-      let again = executed-again spare start.executed run.running.point run.running.unfinished (found turn.branches) turn.condition turn.holds turn.left turn.popped turn.base repeats now.memory branch.0 in
-      let one = run-operator m rooms spare most (with_held p first operands globals locals) memory steps (steps + 1) here middle now.memory now.memory Ran run branch inside refl (omega (arith, fits)) in
-      rw turn.cut (run-operator m rooms spare most (with_held p first operands globals locals) memory (steps + 1) (steps + 2) middle (anew here (under turn.base turn.left)) now.memory now.memory Ran one again
-      (omega (arith, run.running.unfinished)) (omega arith) (omega (arith, fits)))
+      let middle : Point = between spare start.executed running.point running.unfinished (found turn.branches) turn.condition turn.holds turn.left turn.popped turn.base repeats in
+      let branch = executed-branch spare start.executed running.point running.unfinished (found turn.branches) turn.condition turn.holds turn.left turn.popped turn.base repeats memory in
+      let inside = between-inside spare start.executed running.point running.unfinished (found turn.branches) turn.condition turn.holds turn.left turn.popped turn.base repeats in
+      let again = executed-again spare start.executed running.point running.unfinished (found turn.branches) turn.condition turn.holds turn.left turn.popped turn.base repeats memory branch.0 in
+      let one = run-operator m rooms spare most here memory 0 1 here middle memory memory Ran (run-none m rooms spare most here memory 0 refl running) branch inside refl (omega (arith, fits)) in
+      rw turn.cut (run-operator m rooms spare most here memory 1 2 middle (anew here (under turn.base turn.left)) memory memory Ran one again (omega (arith, running.unfinished)) refl fits)

@@ -1,5 +1,5 @@
 -- A return in a numbered body, against the return of the configuration that this stands for.
-use Rattle.std.proofs.Common.{◌≡◌, ◌≢◌, ℕ, suc, ◌+◌, ◌-◌, ◌≤◌, List, [], ◌∷◌, ◌++◌, length, take, drop, Some, slice_get, refl, sym, ap, ap₂, subst, ◌∙◌, arith, length-append, append_assoc}
+use Rattle.std.proofs.Common.{◌≡◌, ◌≢◌, ℕ, suc, ◌-◌, ◌≤◌, List, [], ◌∷◌, ◌++◌, length, take, drop, Some, slice_get, refl, sym, ap, ap₂, subst, ◌∙◌, arith, length-append, append_assoc}
 use Rattle.std.proofs.lemmas.Bool.{le-leb}
 use Rattle.qw_module.specs.declared.instruction.ValType.{ValType}
 use Rattle.qw_module.specs.declared.module.Module.{Module}
@@ -8,16 +8,14 @@ use Rattle.qw_machine.specs.declared.activity.Awaiting.{Awaiting}
 use Rattle.qw_machine.specs.declared.activity.Awaiting.TheVariants.{Label, Call}
 use Rattle.qw_module.specs.Numbers.{truth}
 use Rattle.qw_module.specs.Execution.{Store, State, Returned, settled, left}
-use Rattle.qw_module.specs.Typing.{scope_of, Typed}
 use Rattle.qw_module.specs.Soundness.{AreOf}
-use Rattle.qw_module.specs.Validity.{outside_of}
-use Rattle.qw_machine.specs.Inner.Points.{code_at, instructions_at, Point, base_of, floor_of, under, contexts_of, store_with, state_at, resumed}
+use Rattle.qw_machine.specs.Inner.Points.{code_at, Point, base_of, floor_of, under, contexts_of, store_with, state_at, resumed}
 use Rattle.qw_machine.specs.declared.room.Rooms.{Rooms}
-use Rattle.qw_machine.specs.Inner.Rooms.{locals_of, HasRoom}
-use Rattle.qw_machine.specs.Inner.Placed.{AreAwaiting, StaysAt, IsPoint}
+use Rattle.qw_machine.specs.Inner.Placed.{AreAwaiting, IsCaller, IsPoint}
 use Rattle.qw_machine.specs.Inner.Activities.{CanLeave, IsReturn}
-use Rattle.qw_module.proofs.Sound.{AreOf-append, AreOf-length, AreOf-take}
+use Rattle.qw_module.proofs.Sound.{AreOf-length, AreOf-take}
 use Rattle.qw_machine.proofs.ListFacts.{above-append, under-append, kept-append}
+use Rattle.qw_machine.proofs.Outside.{caller-point}
 use Rattle.qw_machine.proofs.Points.{state_at-split}
 use Rattle.qw_machine.proofs.Around.{IsAround}
 
@@ -31,35 +29,17 @@ module _ (m : Module) (rooms : Rooms) where
   pub record IsFrame (function : ℕ) (awaiting : List Awaiting) (results : List ValType) (below values : List ℕ) : Type 0 where
     pub caller : Frame
     pub rest : List Awaiting
-    pub own : List ℕ
-    pub lower : List ℕ
-    pub types : List ValType
-    pub locals : List ValType
-    pub outer_results : List ValType
-    pub labels : List (List ValType)
-    pub next : List ValType
+    pub inner : List ℕ
+    pub is_caller : IsCaller m rooms results caller rest inner values
+    pub awaiting_are : AreAwaiting m rooms caller.function caller.first_local is_caller.locals is_caller.outer_results is_caller.labels is_caller.next rest is_caller.below (take caller.first_local values)
     pub cut : drop (length awaiting - floor_of awaiting) awaiting ≡ Call caller ∷ rest
     pub found : slice_get awaiting (length awaiting - floor_of awaiting) ≡ Some (Call caller)
-    pub leaves_are : truth caller.leaves ≡ length results
     pub base_in : caller.base ≤ length below
-    pub under_is : (on : List ℕ) → under caller.base (on ++ below) ≡ own ++ lower
-    pub lower_are : length lower ≡ base_of rest
-    pub own_are : AreOf own types
-    pub first_in : caller.first_local ≤ length values
-    pub locals_are : AreOf (drop caller.first_local values) locals
-    pub all_locals : length locals ≡ locals_of m caller.function
-    pub floor_is : caller.floor ≡ floor_of rest
-    pub after_typed : Typed (scope_of (outside_of m) locals outer_results labels) (code_at m caller.function caller.sequence caller.after) (results ++ types) next
-    pub after_in : caller.after ≤ length (instructions_at m caller.function caller.sequence)
-    pub operands_most : ℕ
-    pub labels_most : ℕ
-    pub after_within : StaysAt m caller.function caller.sequence caller.after operands_most labels_most (length own + length results)
-    pub room : HasRoom m rooms caller.function caller.sequence (length lower + operands_most) (length rest + labels_most) caller.first_local
-    pub awaiting_are : AreAwaiting m rooms caller.function caller.first_local locals outer_results labels next rest lower (take caller.first_local values)
+    pub under_is : (on : List ℕ) → under caller.base (on ++ below) ≡ inner
     pub leads : (store : Store) (operands : List ℕ) → truth caller.leaves ≤ length operands →
         left store (contexts_of m function awaiting below values) operands
-        ≡ Some (settled store (contexts_of m caller.function rest lower (take caller.first_local values)) (code_at m caller.function caller.sequence caller.after)
-        (take (truth caller.leaves) operands ++ own) (drop caller.first_local values))
+        ≡ Some (settled store (contexts_of m caller.function rest is_caller.below (take caller.first_local values)) (code_at m caller.function caller.sequence caller.after)
+        (take (truth caller.leaves) operands ++ is_caller.own) (drop caller.first_local values))
 
   pub found-frame : (function first_local : ℕ) (locals results : List ValType) (labels : List (List ValType)) (ends : List ValType) (awaiting : List Awaiting) (below values : List ℕ) →
       AreAwaiting m rooms function first_local locals results labels ends awaiting below values → length below ≡ base_of awaiting → floor_of awaiting ≢ 0 →
@@ -70,31 +50,13 @@ module _ (m : Module) (rooms : Rooms) where
       record {
         caller = caller;
         rest = rest;
-        own = f.own;
-        lower = f.below;
-        types = f.types;
-        locals = f.locals;
-        outer_results = f.outer_results;
-        labels = f.labels;
-        next = f.next;
+        inner = below;
+        is_caller = f;
+        awaiting_are = are;
         cut = rw here refl;
         found = rw here refl;
-        leaves_are = f.leaves_are;
         base_in = omega arith;
-        under_is = λ on. under-append caller.base on below base ∙ f.operands_are;
-        lower_are = f.below_are;
-        own_are = f.own_are;
-        first_in = f.first_in;
-        locals_are = f.locals_are;
-        all_locals = f.all_locals;
-        floor_is = f.floor_is;
-        after_typed = f.after_typed;
-        after_in = f.after_in;
-        operands_most = f.operands_most;
-        labels_most = f.labels_most;
-        after_within = f.after_within;
-        room = f.room;
-        awaiting_are = are;
+        under_is = λ on. under-append caller.base on below base;
         leads = λ store operands enough.
             rw (
               le-leb (truth caller.leaves) (length operands) enough,
@@ -109,32 +71,14 @@ module _ (m : Module) (rooms : Rooms) where
       record {
         caller = f.caller;
         rest = f.rest;
-        own = f.own;
-        lower = f.lower;
-        types = f.types;
-        locals = f.locals;
-        outer_results = f.outer_results;
-        labels = f.labels;
-        next = f.next;
+        inner = f.inner;
+        is_caller = f.is_caller;
+        awaiting_are = f.awaiting_are;
         cut = rw further f.cut;
         found = rw further f.found;
-        leaves_are = f.leaves_are;
         base_in = omega (arith, f.base_in, ap length e.operands_are, length-append e.own e.below);
         under_is = λ on. ap (λ (xs : List ℕ). under f.caller.base (on ++ xs)) e.operands_are
             ∙ ap (under f.caller.base) (sym (append_assoc on e.own e.below)) ∙ f.under_is (on ++ e.own);
-        lower_are = f.lower_are;
-        own_are = f.own_are;
-        first_in = f.first_in;
-        locals_are = f.locals_are;
-        all_locals = f.all_locals;
-        floor_is = f.floor_is;
-        after_typed = f.after_typed;
-        after_in = f.after_in;
-        operands_most = f.operands_most;
-        labels_most = f.labels_most;
-        after_within = f.after_within;
-        room = f.room;
-        awaiting_are = f.awaiting_are;
         leads = λ store operands enough. rw (e.operands_are, under-append (base_of rest) e.own e.below e.below_are) (f.leads store operands enough);
       }
 
@@ -166,14 +110,14 @@ module _ {m : Module} {rooms : Rooms} {p : Point} {own below : List ℕ} {locals
         caller = f.caller;
         there = ap (λ (n : ℕ). slice_get p.awaiting (length p.awaiting - n)) around.floor_is ∙ f.found;
         floor_in = omega (arith, around.floor_is, floor-within p.awaiting);
-        operands = omega (arith, ap length around.operands_are, length-append own below, f.base_in, f.leaves_are, enough);
+        operands = omega (arith, ap length around.operands_are, length-append own below, f.base_in, f.is_caller.leaves_are, enough);
       }
 
   -- the point that the return leads to
   abbrev target_point : Point
   target_point =
       let f = frame in
-      resumed (record p { awaiting = f.rest; operands = (take (length results) own ++ f.own) ++ f.lower }) f.caller
+      resumed (record p { awaiting = f.rest; operands = (take (length results) own ++ f.is_caller.own) ++ f.is_caller.below }) f.caller
 
   returned-is : (q : Point) → IsReturn p q → q ≡ target_point
   returned-is q returns =
@@ -182,9 +126,9 @@ module _ {m : Module} {rooms : Rooms} {p : Point} {own below : List ℕ} {locals
       sym returns.awaiting ∙ ap (λ (n : ℕ). drop (length p.awaiting - n) p.awaiting) around.floor_is ∙ f.cut in
       let caller : returns.caller ≡ f.caller = cc same in
       let rest : q.awaiting ≡ f.rest = cc same in
-      let operands : take (truth f.caller.leaves) p.operands ++ under f.caller.base p.operands ≡ (take (length results) own ++ f.own) ++ f.lower =
-      ap (λ (n : ℕ). take n p.operands ++ under f.caller.base p.operands) f.leaves_are
-      ∙ kept-append (length results) f.caller.base p.operands own below f.own f.lower around.operands_are enough (f.under_is own) in
+      let operands : take (truth f.caller.leaves) p.operands ++ under f.caller.base p.operands ≡ (take (length results) own ++ f.is_caller.own) ++ f.is_caller.below =
+      ap (λ (n : ℕ). take n p.operands ++ under f.caller.base p.operands) f.is_caller.leaves_are
+      ∙ kept-append (length results) f.caller.base p.operands own below f.is_caller.own f.is_caller.below around.operands_are enough (f.under_is own ∙ f.is_caller.operands_are) in
       let at : List Awaiting → Frame → Point =
       λ awaiting c. resumed (record p { awaiting = awaiting; operands = take (truth c.leaves) p.operands ++ under c.base p.operands }) c in
       let over : List ℕ → Point =
@@ -194,33 +138,7 @@ module _ {m : Module} {rooms : Rooms} {p : Point} {own below : List ℕ} {locals
   target_point-is : IsPoint m rooms target_point
   target_point-is =
       let f = frame in
-      let kept : AreOf (take (length results) own) results = AreOf-take own results more own_are in
-      let many : length f.own + length results ≡ length (take (length results) own ++ f.own) =
-      omega (arith, length-append (take (length results) own) f.own, AreOf-length (take (length results) own) results kept) in
-      record {
-        own = take (length results) own ++ f.own;
-        below = f.lower;
-        locals = f.locals;
-        results = f.outer_results;
-        labels = f.labels;
-        before = results ++ f.types;
-        ends = f.next;
-        operands_are = refl;
-        below_are = f.lower_are;
-        own_are = AreOf-append (take (length results) own) f.own results f.types kept f.own_are;
-        first_in = f.first_in;
-        locals_are = f.locals_are;
-        all_locals = f.all_locals;
-        globals_are = around.globals_are;
-        floor_is = f.floor_is;
-        typed = f.after_typed;
-        index_in = f.after_in;
-        operands_most = f.operands_most;
-        labels_most = f.labels_most;
-        stays = subst (λ (n : ℕ). StaysAt m f.caller.function f.caller.sequence f.caller.after f.operands_most f.labels_most n) many f.after_within;
-        room = f.room;
-        awaiting = f.awaiting_are;
-      }
+      caller-point (record p { operands = (take (length results) own ++ f.is_caller.own) ++ f.is_caller.below }) (take (length results) own) results (AreOf-take own results more own_are) around.globals_are f.is_caller f.awaiting_are refl
 
   -- a return leads to a point, and the configuration's return to what that stands for
   pub returned-point : (q : Point) → IsReturn p q → IsPoint m rooms q
@@ -230,10 +148,10 @@ module _ {m : Module} {rooms : Rooms} {p : Point} {own below : List ℕ} {locals
       left (store_with m p.globals) (contexts_of m p.function p.awaiting below outer_values) own ≡ Some (state_at m q)
   returned-state q returns =
       let f = frame in
-      let leads = f.leads (store_with m p.globals) own (omega (arith, enough, f.leaves_are)) in
-      let split = state_at-split m target_point (take (length results) own ++ f.own) f.lower refl f.lower_are in
-      let first : take (truth f.caller.leaves) own ++ f.own ≡ take (length results) own ++ f.own = ap (λ (n : ℕ). take n own ++ f.own) f.leaves_are in
+      let leads = f.leads (store_with m p.globals) own (omega (arith, enough, f.is_caller.leaves_are)) in
+      let split = state_at-split m target_point (take (length results) own ++ f.is_caller.own) f.is_caller.below refl f.is_caller.below_are in
+      let first : take (truth f.caller.leaves) own ++ f.is_caller.own ≡ take (length results) own ++ f.is_caller.own = ap (λ (n : ℕ). take n own ++ f.is_caller.own) f.is_caller.leaves_are in
       let reached : List ℕ → State =
-      λ xs. settled (store_with m p.globals) (contexts_of m f.caller.function f.rest f.lower (take f.caller.first_local outer_values))
+      λ xs. settled (store_with m p.globals) (contexts_of m f.caller.function f.rest f.is_caller.below (take f.caller.first_local outer_values))
       (code_at m f.caller.function f.caller.sequence f.caller.after) xs (drop f.caller.first_local outer_values) in
       leads ∙ ap (λ (xs : List ℕ). Some (reached xs)) first ∙ ap (λ (s : State). Some s) (sym split ∙ ap (state_at m) (sym (returned-is q returns)))

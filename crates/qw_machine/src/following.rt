@@ -33,6 +33,7 @@ pub(crate) fn following(
     ensures run { (m : Module) (rooms : Rooms) (p : Point) → IsFollowed m rooms sequence.now p first operands.old.room operands.old.values globals.old locals.old
         → IsRun m rooms spare (end - first) (with_held p first operands.old.values globals.old locals.old) memory.old.octets result
         (with_held p (first + result.steps) operands.new.values globals.new locals.new) memory.new.octets }
+    ensures few { result.steps ≤ end - first }
     ensures inside { first + result.steps ≤ length sequence.now }
     ensures room { operands.new.room ≡ operands.old.room }
     ensures reserved { memory.new.reserved ≡ memory.old.reserved }

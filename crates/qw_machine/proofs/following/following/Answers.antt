@@ -105,6 +105,11 @@ returns-clause-run c = λ m rooms p start.
     (record { steps = l.index - c.args.first; last = Ran })
     (with_held p n l.operands.values l.globals l.locals) l.memory.octets) here (l.invariant.3 m rooms p start))
 
+pub returns-clause-few : goal.returns-clause-few
+returns-clause-few c =
+    let at = c.requires.point in
+    omega (arith, (c.loop-index.invariant.3 at.0 at.1 at.2 at.3).few, ap (λ (r : Run). r.steps) c.going.ensures)
+
 pub returns-clause-inside : goal.returns-clause-inside
 returns-clause-inside c =
     let l = c.loop-index in
