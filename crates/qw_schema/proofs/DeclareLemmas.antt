@@ -1,5 +1,5 @@
 -- Names that come again and columns: what loops keep.
-use Rattle.std.proofs.Common.{◌≡◌, ℕ, add-one, ◌+◌, ◌-◌, ◌<◌, Bool, true, false, ◌||◌, List, [], ◌∷◌, ◌++◌, length, map, take, drop, get_or, Option, Some, None, Bor, Ok, Err, Result, refl, sym, ap, ◌∙◌, arith, inl, inr, append_assoc}
+use Rattle.std.proofs.Common.{◌≡◌, ℕ, add-one, ◌+◌, ◌-◌, ◌<◌, Bool, true, false, ◌||◌, List, [], ◌∷◌, ◌++◌, length, map, take, drop, get_or, Option, Some, Bor, Ok, Err, Result, refl, sym, ap, ◌∙◌, arith, inl, inr, append_assoc}
 use Rattle.std.specs.Prelude.{option_map}
 use Rattle.std.specs.List.{list_any}
 use Rattle.std.specs.Str.{bytes_eq}
@@ -55,9 +55,6 @@ columns_more front c cs ty all is before =
           let e = rw (is, some.1) at before in
           rw some.1 (ap Some (append_assoc front (column ∷ []) some.0) ∙ e))
     ]
-
-pub columns_stop : (front : List Column) (c : ColumnDefinition) (cs : List ColumnDefinition) (all : Option (List Column)) → c.ty ≡ None → option_map (λ x. front ++ x) (columns_of (map read_of (c ∷ cs))) ≡ all → None ≡ all
-columns_stop front c cs all is before = rw is at before
 
 -- ---- the loop over statements
 

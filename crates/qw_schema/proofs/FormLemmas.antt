@@ -1,7 +1,7 @@
 -- A reader reads a form exactly: what it takes is of the form, and what is of the form it takes. One lemma for each way to put
 -- readers together.
-use Rattle.std.proofs.Common.{◌≡◌, Bool, true, false, List, [], ◌∷◌, ◌++◌, Option, Some, None, refl, sym, ap, subst, ◌∙◌, inl, inr}
-use Rattle.std.specs.Prelude.{◌⊎◌, if◌then◌else◌}
+use Rattle.std.proofs.Common.{◌≡◌, true, List, [], ◌∷◌, ◌++◌, Option, Some, None, refl, sym, ap, subst, ◌∙◌, inl, inr}
+use Rattle.std.specs.Prelude.{◌⊎◌}
 use Rattle.std.specs.List.{AllZip}
 use Rattle.qw_token.specs.Token.{Lexeme}
 use Rattle.qw_ast.specs.Grammar.{Terminal, Matches}
@@ -107,44 +107,6 @@ made_exactly {A = A} {B = B} {form = form} {read = read} make first = record {
       let w = first.takes ts a.0 a.1 in
       (w.0, ap make w.1 ∙ ap (λ (y : B × List Lexeme). y.0) same, subst (λ (y : B × List Lexeme). Fronts (form w.0) ts y.1) same w.2);
   is = λ w ts rest h ends. rw (first.is w ts rest h ends) refl;
-}
-
--- another word for what is read
-pub same_exactly : {W A : Type 0} {form : W → List Terminal} {tree : W → A} {Stops : List Lexeme → Type 0} {read : List Lexeme → Option (A × List Lexeme)} (other : W → A)
-    → ((w : W) → tree w ≡ other w) → ReadsExactly form tree Stops read → ReadsExactly form other Stops read
-same_exactly other same first = record {
-  takes = λ ts x e. let w = first.takes ts x e in (w.0, sym (same w.0) ∙ w.1, w.2);
-  is = λ w ts rest h ends. first.is w ts rest h ends ∙ ap (λ y. Some (y, rest)) (same w);
-}
-
--- ---- a terminal that may be there
-
-module _ {W A : Type 0} {form : W → List Terminal} {tree tree' : W → A} {Stops : List Lexeme → Type 0} {read read' : List Lexeme → Option (A × List Lexeme)} (terminal : Terminal)
-    (behind_it : ReadsExactly form tree Stops read) (alone : ReadsExactly form tree' Stops read') where
-  abbrev form_if : Bool × W → List Terminal
-  form_if w = if w.0 then terminal ∷ form w.1 else form w.1
-
-  abbrev tree_if : Bool × W → A
-  tree_if w = if w.0 then tree w.1 else tree' w.1
-
-  optional_takes : (ts : List Lexeme) (x : A × List Lexeme) → optional_at terminal read read' ts ≡ Some x → (w : Bool × W) × (tree_if w ≡ x.0) × Fronts (form_if w) ts x.1
-  optional_takes ts x e =
-      elim (cases_option (terminal_at terminal ts)) [
-        | inl none ↦ (let w = alone.takes ts x (rw none at e) in ((false, w.0), w.1, w.2))
-        | inr some ↦ (let w = behind_it.takes some.0 x (rw some.1 at e) in ((true, w.0), w.1, (some.0, (terminal_exactly terminal ts some.0).0 some.1, w.2)))
-      ]
-
-  optional_is : ((w : W) (ts rest : List Lexeme) → Fronts (form w) ts rest → terminal_at terminal ts ≡ None) → (w : Bool × W) (ts rest : List Lexeme) → Fronts (form_if w) ts rest → Stops rest → optional_at terminal read read' ts ≡ Some (tree_if w, rest)
-  optional_is differs (true, w) ts rest h ends = rw ((terminal_exactly terminal ts h.0).1 h.1) (behind_it.is w h.0 rest h.2 ends)
-  optional_is differs (false, w) ts rest h ends = rw (differs w ts rest h) (alone.is w ts rest h ends)
-
--- where the form never begins with the terminal
-pub optional_exactly : {W A : Type 0} {form : W → List Terminal} {tree tree' : W → A} {Stops : List Lexeme → Type 0} {read read' : List Lexeme → Option (A × List Lexeme)} (terminal : Terminal)
-    → ReadsExactly form tree Stops read → ReadsExactly form tree' Stops read' → ((w : W) (ts rest : List Lexeme) → Fronts (form w) ts rest → terminal_at terminal ts ≡ None)
-    → ReadsExactly (λ (w : Bool × W). if w.0 then terminal ∷ form w.1 else form w.1) (λ (w : Bool × W). if w.0 then tree w.1 else tree' w.1) Stops (optional_at terminal read read')
-optional_exactly terminal behind_it alone differs = record {
-  takes = optional_takes terminal behind_it alone;
-  is = optional_is terminal behind_it alone differs;
 }
 
 -- ---- choices

@@ -21,7 +21,7 @@ use Rattle.qw_schema.specs.declared.parse.SchemaFault.{SchemaFault}
 use Rattle.qw_schema.specs.declared.parse.SchemaFault.TheVariants.{NotGrammar, TooDeep, TooMany, Duplicate, BadSize}
 use Rattle.qw_schema.specs.declared.parse.Count.TheVariants.{Columns}
 use Rattle.qw_schema.specs.Parse as parse
-use Rattle.qw_schema.specs.Parse.{IsTwice, here, later, IsDuplicate, HasBadSize, IsDeclared, HasFault}
+use Rattle.qw_schema.specs.Parse.{IsTwice, here, later, IsDuplicate, IsDeclared, HasFault}
 use Rattle.qw_schema.specs.Inner.Parser.{all_of}
 use Rattle.qw_schema.specs.Inner.Tables.{sized, create_table_at}
 use Rattle.qw_schema.specs.Inner.Judges.{AreSized, Read, name_in, is_twice, columns_of, is_named, judged}
@@ -198,20 +198,6 @@ err_same r x y e f = let both : r ≡ Err y = f in cc
 pub ok_not_err : {A B : Type 0} (r : Result A B) (x : A) (y : B) → r ≡ Ok x → r ≡ Err y → ⊥
 ok_not_err (Ok z) x y e f = absurd cc
 ok_not_err (Err z) x y e f = absurd cc
-
-pub judged_table : (before : List Table) (k : ℕ) (ts : List Lexeme) (t : Table) → judged before k ts ≡ Ok t → IsDeclared before ts t
-judged_table before k ts t e =
-    elim (statement_case before k ts) [
-      | inl is ↦ subst (IsDeclared before ts) (ok_same (judged before k ts) is.0 t (declared_judged before k ts is.0 is.1) e) is.1
-      | inr fault ↦ absurd (ok_not_err (judged before k ts) t fault.0 e (fault_judged before k ts fault.0 fault.1))
-    ]
-
-pub judged_fault : (before : List Table) (k : ℕ) (ts : List Lexeme) (f : SchemaFault) → judged before k ts ≡ Err f → HasFault before k ts f
-judged_fault before k ts f e =
-    elim (statement_case before k ts) [
-      | inl is ↦ absurd (ok_not_err (judged before k ts) is.0 f (declared_judged before k ts is.0 is.1) e)
-      | inr fault ↦ subst (HasFault before k ts) (err_same (judged before k ts) fault.0 f (fault_judged before k ts fault.0 fault.1) e) fault.1
-    ]
 
 -- ---- what the code needs
 

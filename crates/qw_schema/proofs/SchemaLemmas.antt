@@ -20,7 +20,7 @@ use Rattle.qw_schema.specs.declared.parse.SchemaFault.{SchemaFault}
 use Rattle.qw_schema.specs.declared.parse.SchemaFault.TheVariants.{NotToken, NotGrammar, TooMany, NoMemory}
 use Rattle.qw_schema.specs.declared.parse.Count.TheVariants.{Tables}
 use Rattle.qw_schema.specs.Parse as parse
-use Rattle.qw_schema.specs.Parse.{IsDeclared, HasFault, Declare, HasFirstFault, ReadsSchema, IsRefused}
+use Rattle.qw_schema.specs.Parse.{Declare, HasFirstFault, ReadsSchema, IsRefused}
 use Rattle.qw_schema.specs.Inner.Judges.{judged_from}
 use Rattle.qw_schema.proofs.JudgeLemmas.{declared_judged, fault_judged, statement_case, ok_same, err_same, ok_not_err}
 
