@@ -30,12 +30,12 @@ use Rattle.qw_physical.specs.Physical.{Operator, Pipeline, Sink, select}
 use Rattle.qw_physical.specs.Reads.{AreRead, AreScaled, IsScaled, is_read}
 use Rattle.qw_physical.specs.Spelled.{all_spelled, items_made, spelled, spelled_sink, spelled_steps}
 use Rattle.qw_physical.specs.declared.pipeline.ReadColumn.{ReadColumn}
-use Rattle.qw_physical.proofs.Bounded.{bounds, build_cost, built_long, joined_builds, spelled_more}
-use Rattle.qw_physical.proofs.Feeding.{spelled_count, pipelines_append}
+use Rattle.qw_physical.proofs.Bounded.{bounds, build_cost, joined_builds, spelled_more}
+use Rattle.qw_physical.proofs.Feeding.{built_count, spelled_count, pipelines_append}
 use Rattle.qw_physical.proofs.Charges.{charges, cost_respects, sink_cost}
 use Rattle.qw_physical.proofs.Grounded.{IsGround, clauses, query_grounded}
 use Rattle.qw_physical.proofs.JoinBound.{IsKnown, names_kept, table_bound}
-use Rattle.qw_physical.proofs.Totals.{sum_is, total, total_same}
+use Rattle.qw_physical.proofs.Totals.{later_cost, later_costs, sum_is, total, total_same, zero_and, zero_and_two}
 
 -- ---- pipelines that have begun
 
@@ -58,18 +58,6 @@ module _ (tables : List (List (List Val))) where
     behind : (front : List (List (List Val))) (entries : List (List Val)) (back : List (List (List Val))) → AreBuilt tables built xs front → AreBegun ((built ++ front) ++ entries ∷ []) ys back
         → costs tables built (xs ++ y ∷ ys) more ≡ costs tables built xs front + pipeline_cost tables (built ++ front) y + costs tables ((built ++ front) ++ entries ∷ []) ys back
         → IsBegunAt built xs y ys more
-
-  zero_and : (c : ℕ) → c ≡ 0 + c
-  zero_and c = omega arith
-
-  zero_and_two : (c d : ℕ) → c + d ≡ 0 + c + d
-  zero_and_two c d = omega arith
-
-  later_cost : (c whole a b : ℕ) → whole ≡ a + b → c + whole ≡ (c + a) + b
-  later_cost c whole a b e = omega (arith, e)
-
-  later_costs : (c whole a b d : ℕ) → whole ≡ a + b + d → c + whole ≡ (c + a) + b + d
-  later_costs c whole a b d e = omega (arith, e)
 
   pub begun_at : (built : List (List (List Val))) (xs : List Pipeline) (y : Pipeline) (ys : List Pipeline) (more : List (List (List Val))) → AreBegun built (xs ++ y ∷ ys) more → IsBegunAt built xs y ys more
   begun_at built [] y ys [] h =
@@ -145,7 +133,7 @@ module _ (same_rows : (row other : List Val) → is_same_row row other ≡ true 
           let less = built_first front are in
           let after : length ((built ++ front) ++ entries ∷ []) ≡ (next + length (split next right).builds) + 1 =
           length-append (built ++ front) (entries ∷ [])
-          ∙ ap (λ k. k + 1) (length-append built front ∙ ap₂ (λ a b. a + b) long (built_long tables built (builds_of next right) front are ∙ spelled_count columns next (split next right).builds)) in
+          ∙ ap (λ k. k + 1) (length-append built front ∙ ap₂ (λ a b. a + b) long (built_count tables built (builds_of next right) front are ∙ spelled_count columns next (split next right).builds)) in
           let rest = second ((built ++ front) ++ entries ∷ []) back after begun in
           let table = table_bound same_rows same_value columns tables (next + length (split next right).builds) outer left right on keys g.0 in
           omega (arith, cost, less, rest, table)

@@ -1,7 +1,6 @@
 -- The units of a plan's pipelines, over tables of keys and kept columns in any order, are within the units of the plan.
-use Rattle.std.proofs.Common.{◌≡◌, ◌∙◌, ℕ, suc, ◌+◌, ◌≤◌, Bool, true, false, List, [], ◌∷◌, ◌++◌, get_or, length, map, refl, sym, ap, ap₂, subst, arith, append-nil, append_assoc, length-append}
+use Rattle.std.proofs.Common.{◌≡◌, ◌∙◌, ℕ, ◌+◌, ◌≤◌, Bool, true, false, List, [], ◌∷◌, ◌++◌, get_or, length, map, refl, sym, ap, ap₂, subst, arith, append-nil, append_assoc, length-append}
 use Rattle.std.specs.List.{flat_map}
-use Rattle.std.specs.List.Sorted.{IsPermutation}
 use Rattle.std.specs.declared.cmp.Ordering.TheVariants as ordering
 use Rattle.std.proofs.lemmas.List.{length-map}
 use Rattle.qw_types.specs.Contents.{rows_of}
@@ -34,7 +33,7 @@ use Rattle.qw_physical.proofs.Grounded.{IsGround, IsKeyedJoin}
 use Rattle.qw_physical.proofs.JoinBound.{AreAll, AreLeft, IsKnown, kept_total, names_beside, names_kept, names_sought, probes_bound, probing, sought_units, table_bound, total_count}
 use Rattle.qw_physical.proofs.Scanned.{IsScanned}
 use Rattle.qw_physical.proofs.Totals.{spend_is, sum_is, total, total_flat, total_less, total_ones, total_permuted, total_plus, total_same}
-use Rattle.qw_physical.proofs.Feeding.{pipelines_append, spelled_count}
+use Rattle.qw_physical.proofs.Feeding.{AreCut, built_count, cut, pipelines_append, spelled_count}
 
 -- ---- pipelines one behind another
 
@@ -44,62 +43,6 @@ spelled_more columns (test conjuncts ∷ steps) s = ap (λ (os : List Operator).
 spelled_more columns (probe table look ∷ steps) s =
     ap (λ (os : List Operator). physical.probe (record { table = table; outer = look.outer; key = keys_sought look; kept = kept_columns columns look; on = beside_keys look.keys 0 look.on }) ∷ os) (spelled_more columns steps s)
 spelled_more columns (make items ∷ steps) s = spelled_more columns steps s
-
-module _ (tables : List (List (List Val))) where
-  pub built_long : (built : List (List (List Val))) (ps : List Pipeline) (more : List (List (List Val))) → AreBuilt tables built ps more → length more ≡ length ps
-  built_long built [] [] h = refl
-  built_long built [] (e ∷ more) h = absurd h
-  built_long built (p ∷ ps) [] h = absurd h
-  built_long built (p ∷ ps) (e ∷ more) h = ap suc (built_long (built ++ e ∷ []) ps more h.2)
-
-  -- tables that were built, before and behind one
-  pub record IsParted (built : List (List (List Val))) (xs : List Pipeline) (y : Pipeline) (ys : List Pipeline) (more : List (List (List Val))) : Type 0 where
-    pub front : List (List (List Val))
-    pub entries : List (List Val)
-    pub back : List (List (List Val))
-    pub is : more ≡ front ++ entries ∷ back
-    pub front_built : AreBuilt tables built xs front
-    pub same : IsPermutation (pipeline_fed tables (built ++ front) y).rows entries
-    pub back_built : AreBuilt tables ((built ++ front) ++ entries ∷ []) ys back
-    pub cost : costs tables built (xs ++ y ∷ ys) more
-        ≡ costs tables built xs front + pipeline_cost tables (built ++ front) y + costs tables ((built ++ front) ++ entries ∷ []) ys back
-
-  first_cost : (c r : ℕ) → c + r ≡ 0 + c + r
-  first_cost c r = omega arith
-
-  more_cost : (c whole a b d : ℕ) → whole ≡ a + b + d → c + whole ≡ (c + a) + b + d
-  more_cost c whole a b d e = omega (arith, e)
-
-  pub parted_built : (built : List (List (List Val))) (xs : List Pipeline) (y : Pipeline) (ys : List Pipeline) (more : List (List (List Val))) → AreBuilt tables built (xs ++ y ∷ ys) more
-      → IsParted built xs y ys more
-  parted_built built [] y ys [] h = absurd h
-  parted_built built [] y ys (e ∷ more) h = record {
-    front = [];
-    entries = e;
-    back = more;
-    is = refl;
-    front_built = tt;
-    same = subst (λ (b : List (List (List Val))). IsPermutation (pipeline_fed tables b y).rows e) (sym (append-nil built)) h.1;
-    back_built = subst (λ (b : List (List (List Val))). AreBuilt tables (b ++ e ∷ []) ys more) (sym (append-nil built)) h.2;
-    cost = first_cost (pipeline_cost tables built y) (costs tables (built ++ e ∷ []) ys more)
-        ∙ ap (λ (b : List (List (List Val))). 0 + pipeline_cost tables b y + costs tables (b ++ e ∷ []) ys more) (sym (append-nil built));
-  }
-  parted_built built (x ∷ xs) y ys [] h = absurd h
-  parted_built built (x ∷ xs) y ys (e ∷ more) h =
-      let rest = parted_built (built ++ e ∷ []) xs y ys more h.2 in
-      let same_built : (built ++ e ∷ []) ++ rest.front ≡ built ++ e ∷ rest.front = append_assoc built (e ∷ []) rest.front in
-      record {
-        front = e ∷ rest.front;
-        entries = rest.entries;
-        back = rest.back;
-        is = ap (λ (ms : List (List (List Val))). e ∷ ms) rest.is;
-        front_built = (h.0, h.1, rest.front_built);
-        same = subst (λ (b : List (List (List Val))). IsPermutation (pipeline_fed tables b y).rows rest.entries) same_built rest.same;
-        back_built = subst (λ (b : List (List (List Val))). AreBuilt tables (b ++ rest.entries ∷ []) ys rest.back) same_built rest.back_built;
-        cost = more_cost (pipeline_cost tables built x) (costs tables (built ++ e ∷ []) (xs ++ y ∷ ys) more) (costs tables (built ++ e ∷ []) xs rest.front)
-            (pipeline_cost tables ((built ++ e ∷ []) ++ rest.front) y) (costs tables (((built ++ e ∷ []) ++ rest.front) ++ rest.entries ∷ []) ys rest.back) rest.cost
-            ∙ ap (λ (b : List (List (List Val))). (pipeline_cost tables built x + costs tables (built ++ e ∷ []) xs rest.front) + pipeline_cost tables b y + costs tables (b ++ rest.entries ∷ []) ys rest.back) same_built;
-      }
 
 -- ---- plans
 
@@ -214,48 +157,48 @@ module _ (same_rows : (row other : List Val) → is_same_row row other ≡ true 
     abbrev y : Pipeline
     y = spelled columns m (building tables outer next right on keys)
 
-    module _ (h : IsParted tables built (builds_of next right) y (builds_of (m + 1) left) more) where
+    module _ (h : AreCut tables built (builds_of next right) y (builds_of (m + 1) left) more) where
       abbrev before : List (List (List Val))
-      before = built ++ h.front
+      before = built ++ h.before
 
       abbrev after_it : List (List (List Val))
       after_it = before ++ h.entries ∷ []
 
       before_long : length before ≡ m
       before_long =
-          length-append built h.front
-          ∙ ap₂ (λ a b. a + b) long (built_long tables built (builds_of next right) h.front h.front_built ∙ spelled_count columns next (split next right).builds)
+          length-append built h.before
+          ∙ ap₂ (λ a b. a + b) long (built_count tables built (builds_of next right) h.before h.first ∙ spelled_count columns next (split next right).builds)
 
       after_long : length after_it ≡ m + 1
       after_long = length-append before (h.entries ∷ []) ∙ ap (λ n. n + 1) before_long
 
-      whole_after : full ≡ (after_it ++ h.back) ++ tail
+      whole_after : full ≡ (after_it ++ h.behind) ++ tail
       whole_after =
-          whole ∙ ap (λ (ms : List (List (List Val))). (built ++ ms) ++ tail) h.is
-          ∙ ap (λ (bs : List (List (List Val))). bs ++ tail) (sym (append_assoc built h.front (h.entries ∷ h.back)) ∙ sym (append_assoc before (h.entries ∷ []) h.back))
+          whole ∙ ap (λ (ms : List (List (List Val))). (built ++ ms) ++ tail) (sym h.whole)
+          ∙ ap (λ (bs : List (List (List Val))). bs ++ tail) (sym (append_assoc built h.before (h.entries ∷ h.behind)) ∙ sym (append_assoc before (h.entries ∷ []) h.behind))
 
       there : get_or full m [] ≡ h.entries
-      there = table_built tables before h.entries (h.back ++ tail) m full (whole_after ∙ append_assoc after_it h.back tail) before_long
+      there = table_built tables before h.entries (h.behind ++ tail) m full (whole_after ∙ append_assoc after_it h.behind tail) before_long
 
       -- what the rows of the right side leave, and all of it where that is a scan
       all_by : outer ≡ true → AreAll same_rows same_value columns tables m outer left right on keys ground h.entries
       all_by is_outer g =
-          let permuted = total_permuted g (pipeline_fed tables before y).rows h.entries h.same in
+          let permuted = total_permuted g (pipeline_fed tables before y).rows h.entries h.permuted in
           let exact : total g (pipeline_fed tables before y).rows ≡ total (λ r. total g (sink_fed y.sink r).rows) (node_flow tables right).rows =
           ap (λ (os : List Operator). total g (flow_over (fed before os y.sink) (scanned (split next right).last)).rows) (sym (append-nil (steps_of next right)))
           ∙ scanned_fed right (ground.scanned is_outer) next before y.sink g [] in
           omega (arith, permuted, exact)
 
-      left_by : ((g : List Val → ℕ) → Bound false right next built h.front before (λ r. total g (sink_fed y.sink r).rows)) → AreLeft same_rows same_value columns tables m outer left right on keys ground h.entries
+      left_by : ((g : List Val → ℕ) → Bound false right next built h.before before (λ r. total g (sink_fed y.sink r).rows)) → AreLeft same_rows same_value columns tables m outer left right on keys ground h.entries
       left_by fed_bound g =
-          let permuted = total_permuted g (pipeline_fed tables before y).rows h.entries h.same in
+          let permuted = total_permuted g (pipeline_fed tables before y).rows h.entries h.permuted in
           let fed_less = build_fed before y g in
           let within = fed_bound g in
           omega (arith, permuted, fed_less, within)
 
       join_bound : (counted : Bool) (after : List Val → ℕ) → Respects read after
-          → ((g : List Val → ℕ) → Bound false right next built h.front before (λ r. total g (sink_fed y.sink r).rows)) → Bound true right next built h.front before (sink_cost y.sink)
-          → Bound counted left (m + 1) after_it h.back full (probe_charge counted after (probing same_rows same_value columns tables m outer left right on keys ground) h.entries)
+          → ((g : List Val → ℕ) → Bound false right next built h.before before (λ r. total g (sink_fed y.sink r).rows)) → Bound true right next built h.before before (sink_cost y.sink)
+          → Bound counted left (m + 1) after_it h.behind full (probe_charge counted after (probing same_rows same_value columns tables m outer left right on keys ground) h.entries)
           → count counted (costs tables built (builds_of next right ++ y ∷ builds_of (m + 1) left) more)
           + total (λ row. count counted 1 + charges counted full (steps_of next (join outer left right on keys)) after row) (scanned (split (m + 1) left).last)
           ≤ count counted (units_of general_hashing tables (join outer left right on keys)) + total after (node_flow tables (join outer left right on keys)).rows
@@ -268,8 +211,8 @@ module _ (same_rows : (row other : List Val) → is_same_row row other ≡ true 
           ∙ charges_more counted full (steps_of (m + 1) left) (physical.probe p) after ∙ ap (charges counted full (steps_of (m + 1) left)) charged in
           let probes = probes_bound same_rows same_value columns tables m outer left right on keys ground h.entries (left_by fed_bound) all_by counted after respects in
           let table = table_bound same_rows same_value columns tables m outer left right on keys ground in
-          join_step counted (costs tables built (builds_of next right ++ y ∷ builds_of (m + 1) left) more) (costs tables built (builds_of next right) h.front) (pipeline_cost tables before y)
-          (costs tables after_it (builds_of (m + 1) left) h.back)
+          join_step counted (costs tables built (builds_of next right ++ y ∷ builds_of (m + 1) left) more) (costs tables built (builds_of next right) h.before) (pipeline_cost tables before y)
+          (costs tables after_it (builds_of (m + 1) left) h.behind)
           (total (λ row. count counted 1 + charges counted full (steps_of next (join outer left right on keys)) after row) (scanned (split (m + 1) left).last))
           (total (λ row. 1 + charges true before (steps_of next right) (sink_cost y.sink) row) (scanned (split next right).last))
           (units_of general_hashing tables right) (total (sink_cost y.sink) (node_flow tables right).rows) (units_of general_hashing tables left) (total K (node_flow tables left).rows)
@@ -277,7 +220,7 @@ module _ (same_rows : (row other : List Val) → is_same_row row other ≡ true 
           (total after (node_flow tables (join outer left right on keys)).rows)
           (table_units general_hashing (lookup tables outer right on keys) (node_flow tables left).rows (node_flow tables right).rows)
           h.cost (build_cost before y) right_bound
-          (subst (λ (c : List Val → ℕ). count counted (costs tables after_it (builds_of (m + 1) left) h.back) + total (λ row. count counted 1 + c row) (scanned (split (m + 1) left).last)
+          (subst (λ (c : List Val → ℕ). count counted (costs tables after_it (builds_of (m + 1) left) h.behind) + total (λ row. count counted 1 + c row) (scanned (split (m + 1) left).last)
           ≤ count counted (units_of general_hashing tables left) + total K (node_flow tables left).rows) (sym steps) left_bound)
           probes table
 
@@ -301,19 +244,19 @@ module _ (same_rows : (row other : List Val) → is_same_row row other ≡ true 
   bounds (join outer left right on keys) counted next built more full tail after g long whole respects h =
       let m : ℕ = next + length (split next right).builds in
       let y : Pipeline = spelled columns m (building tables outer next right on keys) in
-      let s = parted_built tables built (builds_of next right) y (builds_of (m + 1) left) more (subst (λ (ps : List Pipeline). AreBuilt tables built ps more) (joined_builds next outer left right on keys) h) in
-      let before : List (List (List Val)) = built ++ s.front in
-      let own : before ≡ (built ++ s.front) ++ [] = sym (append-nil (built ++ s.front)) in
-      let fed_bound : (f : List Val → ℕ) → Bound false right next built s.front before (λ r. total f (sink_fed y.sink r).rows) =
-      λ f. bounds right false next built s.front before [] (λ r. total f (sink_fed y.sink r).rows) g.1.1 long own
-      (fed_respects read f y.sink (names_kept same_rows same_value columns tables m outer left right on keys g.0)) s.front_built in
-      let right_bound : Bound true right next built s.front before (sink_cost y.sink) =
-      bounds right true next built s.front before [] (sink_cost y.sink) g.1.1 long own (cost_respects read y.sink (names_kept same_rows same_value columns tables m outer left right on keys g.0)) s.front_built in
+      let s = cut tables (builds_of next right) y (builds_of (m + 1) left) built more (subst (λ (ps : List Pipeline). AreBuilt tables built ps more) (joined_builds next outer left right on keys) h) in
+      let before : List (List (List Val)) = built ++ s.before in
+      let own : before ≡ (built ++ s.before) ++ [] = sym (append-nil (built ++ s.before)) in
+      let fed_bound : (f : List Val → ℕ) → Bound false right next built s.before before (λ r. total f (sink_fed y.sink r).rows) =
+      λ f. bounds right false next built s.before before [] (λ r. total f (sink_fed y.sink r).rows) g.1.1 long own
+      (fed_respects read f y.sink (names_kept same_rows same_value columns tables m outer left right on keys g.0)) s.first in
+      let right_bound : Bound true right next built s.before before (sink_cost y.sink) =
+      bounds right true next built s.before before [] (sink_cost y.sink) g.1.1 long own (cost_respects read y.sink (names_kept same_rows same_value columns tables m outer left right on keys g.0)) s.first in
       let p = probing same_rows same_value columns tables m outer left right on keys g.0 in
-      let left_bound = bounds left counted (m + 1) (before ++ s.entries ∷ []) s.back full tail (probe_charge counted after p s.entries) g.1.0
+      let left_bound = bounds left counted (m + 1) (before ++ s.entries ∷ []) s.behind full tail (probe_charge counted after p s.entries) g.1.0
       (after_long outer left right on keys g.0 next built more full tail long whole s) (whole_after outer left right on keys g.0 next built more full tail long whole s)
       (probe_respects read counted after p s.entries (names_sought same_rows same_value columns tables m outer left right on keys g.0) (names_beside same_rows same_value columns tables m outer left right on keys g.0) respects)
-      s.back_built in
+      s.rest in
       subst (λ (ps : List Pipeline). count counted (costs tables built ps more) + total (λ row. count counted 1 + charges counted full (steps_of next (join outer left right on keys)) after row) (scanned (split (m + 1) left).last)
       ≤ count counted (units_of general_hashing tables (join outer left right on keys)) + total after (node_flow tables (join outer left right on keys)).rows) (sym (joined_builds next outer left right on keys))
       (join_bound outer left right on keys g.0 next built more full tail long whole s counted after respects fed_bound right_bound left_bound)

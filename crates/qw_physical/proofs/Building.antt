@@ -31,8 +31,9 @@ use Rattle.qw_physical.specs.Spelled.{all_spelled, kept_columns, spelled}
 use Rattle.qw_physical.specs.declared.pipeline.ReadColumn.{ReadColumn}
 use Rattle.qw_physical.proofs.Declared.{AllScans, IsDeclared, ScanDeclared, rows_declared}
 use Rattle.qw_physical.proofs.Entries.{front_dropped, front_taken, kept_values}
+use Rattle.qw_physical.proofs.EntryRows.{all_filter}
 use Rattle.qw_physical.proofs.Feeding.{Feeds, built_count, building, feeds, lookup, side_fed, spelled_count, spelled_join}
-use Rattle.qw_physical.proofs.Joining.{entry_is, entry_key, filtered_all, kept_are, kept_count, the_build}
+use Rattle.qw_physical.proofs.Joining.{entry_is, entry_key, kept_are, kept_count, the_build}
 use Rattle.qw_physical.proofs.Placed.{F, IsReady, ReadyJoin}
 use Rattle.qw_physical.proofs.QueryNulls.{NullAt, OuterRights}
 use Rattle.qw_leaves.proofs.LeafLists.{all_pairs}
@@ -142,7 +143,7 @@ module _ (entries : List Entry) (tables : List (List (List Val))) (columns : Lis
             kept = subst (AllZip (λ (c : ReadColumn) (v : Val). IsOfTypeOrNull c.ty c.not_null v) b.kept)
                 (sym (front_dropped (length b.key) ws kv (kept_count entries tables columns sized outer left right on keys m j r over)))
                 (kept_typed (owns right) b.kept r (filter_holds (λ (c : ReadColumn). owns right c.number) columns)
-                (filtered_all (IsOfEntries known) (λ (c : ReadColumn). owns right c.number) columns there) declared);
+                (all_filter (IsOfEntries known) (λ (c : ReadColumn). owns right c.number) columns there) declared);
           },
           tt,
         )

@@ -1,27 +1,25 @@
 -- What a row costs at the operators of a pipeline, when it is known what each row that comes out of them costs: bounds of what is fed and of its cost.
 -- Where costs are left out (`counted` is false) it is the sum over the rows that come out. A row that an outer probe has go on by itself is one of them.
 use Rattle.std.proofs.Common.{◌≡◌, ◌∙◌, ℕ, ◌+◌, ◌≤◌, Bool, true, false, not, ◌&&◌, if◌then◌else◌, List, [], ◌∷◌, ◌++◌, ◌==◌, drop, get_or, length, take, Result, Ok, Err, refl, sym, ap, ap₂, subst, arith}
-use Rattle.std.specs.List.{AllByRecursion, filter as filter_list, list_any}
+use Rattle.std.specs.List.{filter as filter_list, list_any}
 use Rattle.qw_types.specs.ValueOrder.{is_same_row}
 use Rattle.qw_types.specs.declared.code.Code.{Code}
 use Rattle.qw_types.specs.declared.value.Val.{Val}
 use Rattle.qw_layout.specs.Hash.{slot}
 use Rattle.qw_scalar.specs.Conjuncts.{passes}
 use Rattle.qw_scalar.specs.Evaluation.{at_row}
-use Rattle.qw_scalar.specs.Expression.{Condition, Expression}
+use Rattle.qw_scalar.specs.Expression.{Condition}
 use Rattle.qw_scalar.specs.Units.{units_of_all, units_of_items}
 use Rattle.qw_meaning.specs.Flow.{Flow, values_of}
-use Rattle.qw_meaning.specs.From.{merged}
-use Rattle.qw_meaning.proofs.FromLemmas.{cell, merged_cell}
-use Rattle.qw_algebra.specs.Columns.{names_only}
-use Rattle.qw_rewrite.proofs.Rows.{NamesOnly, passes_agrees, value_agrees}
+use Rattle.qw_rewrite.proofs.Rows.{NamesOnly, passes_agrees}
 use Rattle.qw_feed.specs.Feeds.{flow_by, flow_over, nothing, spend, where_true}
 use Rattle.qw_table.specs.Joins.{have_values, keyed, where_values}
 use Rattle.qw_table.specs.Keys.{text_octets}
 use Rattle.qw_table.specs.Tables.{in_slot}
-use Rattle.qw_physical.specs.Courses.{alone_cost, by_values, cost, fed, is_alone, isnt_failed, meets, met, met_cost, pair_of, placed, row_of, sink_key, sink_values, where_passed}
+use Rattle.qw_physical.specs.Courses.{alone_cost, by_values, cost, fed, is_alone, meets, met, met_cost, pair_of, placed, row_of, sink_key, sink_values, where_passed}
 use Rattle.qw_physical.specs.Physical.{Operator, Probe, Sink, filter, probe}
 use Rattle.qw_physical.proofs.Alone.{alone_is, any_same}
+use Rattle.qw_physical.proofs.Sight.{Agree, AllName, meets_sees, merged_agree, values_agree}
 use Rattle.qw_physical.proofs.SeenUnits.{conjuncts_agree, items_agree}
 use Rattle.qw_physical.proofs.Totals.{spend_is, total, total_filter, total_flat, total_less, total_plus, total_same}
 
@@ -218,61 +216,43 @@ module _ (built : List (List (List Val))) where
 -- ---- what a charge sees of a row
 
 module _ (test : ℕ → Bool) where
-  abbrev pub Agrees : (r s : List Val) → Type 0
-  Agrees r s = (i : ℕ) → test i ≡ true → cell r i ≡ cell s i
-
   abbrev pub Respects : (List Val → ℕ) → Type 0
-  Respects f = (r s : List Val) → Agrees r s → f r ≡ f s
-
-  abbrev pub NamesItems : List Expression → Type 0
-  NamesItems es = AllByRecursion (λ e. names_only test e ≡ true) es
-
-  pub values_agrees : (r s : List Val) → Agrees r s → (es : List Expression) → NamesItems es → values_of es (at_row r) ≡ values_of es (at_row s)
-  values_agrees r s h [] t = refl
-  values_agrees r s h (e ∷ es) t = rw (value_agrees test r s h e t.0, values_agrees r s h es t.1) refl
-
-  pub pair_agrees : (l m r s : List Val) → Agrees l m → Agrees r s → Agrees (merged l r) (merged m s)
-  pair_agrees l m r s h g i t = merged_cell l r i ∙ (rw (h i t, g i t) (sym (merged_cell m s i)))
+  Respects f = (r s : List Val) → Agree test r s → f r ≡ f s
 
   pub filter_respects : (counted : Bool) (after : List Val → ℕ) (conjuncts : List Condition) → NamesOnly test conjuncts → Respects after → Respects (filter_charge counted after conjuncts)
   filter_respects counted after conjuncts names after_respects r s h =
       rw (conjuncts_agree test r s h conjuncts names, passes_agrees test r s h conjuncts names, after_respects r s h) refl
 
-  same_rows_agree : (r : List Val) → Agrees r r
+  same_rows_agree : (r : List Val) → Agree test r r
   same_rows_agree r i t = refl
 
-  matched_respects : (counted : Bool) (after : List Val → ℕ) (p : Probe) → NamesOnly test p.on → Respects after → (r s : List Val) → Agrees r s → (key entry : List Val)
+  matched_respects : (counted : Bool) (after : List Val → ℕ) (p : Probe) → NamesOnly test p.on → Respects after → (r s : List Val) → Agree test r s → (key entry : List Val)
       → matched counted after p r key entry ≡ matched counted after p s key entry
   matched_respects counted after p names after_respects r s h key entry =
-      let same : Agrees (pair_of p r entry) (pair_of p s entry) = pair_agrees r s (row_of p.kept (drop (length p.key) entry)) (row_of p.kept (drop (length p.key) entry)) h (same_rows_agree (row_of p.kept (drop (length p.key) entry))) in
+      let same : Agree test (pair_of p r entry) (pair_of p s entry) = merged_agree test r s (row_of p.kept (drop (length p.key) entry)) (row_of p.kept (drop (length p.key) entry)) h (same_rows_agree (row_of p.kept (drop (length p.key) entry))) in
       rw (conjuncts_agree test (pair_of p r entry) (pair_of p s entry) same p.on names, passes_agrees test (pair_of p r entry) (pair_of p s entry) same p.on names, after_respects (pair_of p r entry) (pair_of p s entry) same) refl
 
   by_values_same : (r : Result (List Val) Code) (f g : List Val → ℕ) → ((values : List Val) → f values ≡ g values) → by_values r f ≡ by_values r g
   by_values_same (Ok values) f g h = h values
   by_values_same (Err code) f g h = refl
 
-  meets_respects : (p : Probe) → NamesOnly test p.on → (r s : List Val) → Agrees r s → (key entry : List Val) → meets p r key entry ≡ meets p s key entry
-  meets_respects p names r s h key entry =
-      let same : Agrees (pair_of p r entry) (pair_of p s entry) = pair_agrees r s (row_of p.kept (drop (length p.key) entry)) (row_of p.kept (drop (length p.key) entry)) h (same_rows_agree (row_of p.kept (drop (length p.key) entry))) in
-      ap (λ (q : Result Bool Code). is_same_row key (take (length p.key) entry) && isnt_failed q) (passes_agrees test (pair_of p r entry) (pair_of p s entry) same p.on names)
-
-  alone_respects : (counted : Bool) (after : List Val → ℕ) (p : Probe) (entries : List (List Val)) → NamesOnly test p.on → Respects after → (r s : List Val) → Agrees r s → (key : List Val)
+  alone_respects : (counted : Bool) (after : List Val → ℕ) (p : Probe) (entries : List (List Val)) → NamesOnly test p.on → Respects after → (r s : List Val) → Agree test r s → (key : List Val)
       → alone_charge counted after p entries r key ≡ alone_charge counted after p entries s key
   alone_respects counted after p entries names after_respects r s h key =
       ap₂ (λ (a : Bool) (n : ℕ). if p.outer then count counted 1 + (if a then n else 0) else 0)
-      (alone_is p p r s key entries entries refl (any_same (meets p r key) (meets p s key) entries (meets_respects p names r s h key))) (after_respects r s h)
+      (alone_is p p r s key entries entries refl (any_same (meets p r key) (meets p s key) entries (meets_sees test [] p key names r s h))) (after_respects r s h)
 
-  pub probe_respects : (counted : Bool) (after : List Val → ℕ) (p : Probe) (entries : List (List Val)) → NamesItems p.key → NamesOnly test p.on → Respects after → Respects (probe_charge counted after p entries)
+  pub probe_respects : (counted : Bool) (after : List Val → ℕ) (p : Probe) (entries : List (List Val)) → AllName test p.key → NamesOnly test p.on → Respects after → Respects (probe_charge counted after p entries)
   probe_respects counted after p entries key_names on_names after_respects r s h =
-      ap₂ (λ (a : ℕ) (q : Result (List Val) Code). count counted a + by_values q (keyed_charge counted after p entries r)) (items_agree test r s h p.key key_names) (values_agrees r s h p.key key_names)
+      ap₂ (λ (a : ℕ) (q : Result (List Val) Code). count counted a + by_values q (keyed_charge counted after p entries r)) (items_agree test r s h p.key key_names) (values_agree test r s h p.key key_names)
       ∙ ap (λ (n : ℕ). count counted (units_of_items p.key (at_row s)) + n)
       (by_values_same (values_of p.key (at_row s)) (keyed_charge counted after p entries r) (keyed_charge counted after p entries s)
       (λ key. ap₂ (λ (n m : ℕ). (count counted (text_octets key + total (λ (e : List Val). 1 + text_octets key) (in_slot (keyed (length p.key)) (slot key) entries)) + n) + m)
       (total_same (matched counted after p r key) (matched counted after p s key) entries (λ entry. matched_respects counted after p on_names after_respects r s h key entry))
       (alone_respects counted after p entries on_names after_respects r s h key)))
 
-  pub cost_respects : (sink : Sink) → NamesItems (sink_values sink) → Respects (sink_cost sink)
-  cost_respects sink names r s h = rw (items_agree test r s h (sink_values sink) names, values_agrees r s h (sink_values sink) names) refl
+  pub cost_respects : (sink : Sink) → AllName test (sink_values sink) → Respects (sink_cost sink)
+  cost_respects sink names r s h = rw (items_agree test r s h (sink_values sink) names, values_agree test r s h (sink_values sink) names) refl
 
-  pub fed_respects : (g : List Val → ℕ) (sink : Sink) → NamesItems (sink_values sink) → Respects (λ row. total g (sink_fed sink row).rows)
-  fed_respects g sink names r s h = ap (λ (q : Result (List Val) Code). total g (flow_by q (placed sink)).rows) (values_agrees r s h (sink_values sink) names)
+  pub fed_respects : (g : List Val → ℕ) (sink : Sink) → AllName test (sink_values sink) → Respects (λ row. total g (sink_fed sink row).rows)
+  fed_respects g sink names r s h = ap (λ (q : Result (List Val) Code). total g (flow_by q (placed sink)).rows) (values_agree test r s h (sink_values sink) names)

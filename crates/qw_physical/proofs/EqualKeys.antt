@@ -1,12 +1,10 @@
 -- Where the keys of a row and of an entry meet: they have no null and are the same.
 use Rattle.std.proofs.Common.{◌≡◌, ◌∙◌, ◌≤◌, ◌<ℤ◌, ◌*ℤ◌, neg_ℤ, negsuc, mul-pos, zero-lt-suc, le_antisymm, le_of_eq, le_of_mul-le-mul_right, ◌*◌, ◌^◌, unsigned_abs, ℕ, zero, suc, ℤ, pos, Bool, true, false, not, ◌&&◌, ◌||◌, if◌then◌else◌, List, [], ◌∷◌, map, length, Option, Some, None, Result, Ok, Err, refl, sym, ap, ap₂, arith}
 use Rattle.std.specs.List.{AllByRecursion, AllZip}
-use Rattle.std.proofs.lemmas.Cmp.{int_cmp_total}
 use Rattle.std.proofs.lemmas.Int.{unsigned_abs-mul}
 use Rattle.std.proofs.Math.IntN.{negsuc-*ℤ-pos, pos-*ℤ-pos}
 use Rattle.std.specs.Cmp.{int_ranks}
-use Rattle.std.specs.Cmp.Lexicographic.{slice_cmp, nat_list_cmp_total}
-use Rattle.std.specs.Ordering.{MatchOrdering, int_cmp, is_eq, nat_cmp, ordering_reverse, ordering_then}
+use Rattle.std.specs.Ordering.{MatchOrdering, int_cmp, is_eq, ordering_reverse, ordering_then}
 use Rattle.std.specs.declared.cmp.Ordering.{Ordering}
 use Rattle.std.specs.declared.cmp.Ordering.TheVariants as ordering
 use Rattle.qw_types.specs.Arithmetic.{◌>>=◌, order_of}
@@ -15,6 +13,7 @@ use Rattle.qw_types.specs.ValueOrder.{is_same_row, row_order, value_order}
 use Rattle.qw_types.specs.declared.code.Code.{Code}
 use Rattle.qw_types.specs.declared.value.Val.{Val}
 use Rattle.qw_types.specs.declared.value.Val.TheVariants.{Null, Num, Date, Text}
+use Rattle.qw_types.proofs.ValueOrderLemmas.{turned}
 use Rattle.qw_scalar.specs.declared.comparison.Comparison.{Comparison}
 use Rattle.qw_scalar.specs.declared.comparison.Comparison.TheVariants.{Equal, NotEqual, Less, LessOrEqual, Greater, GreaterOrEqual, Like, NotLike}
 use Rattle.qw_scalar.specs.Evaluation.{Environment, at_row, compared, truth_if, value_of}
@@ -110,35 +109,8 @@ reversed ordering.Less = refl
 reversed ordering.Equal = refl
 reversed ordering.Greater = refl
 
-int_turned : (a b : ℤ) → is_eq (int_cmp b a) ≡ is_eq (int_cmp a b)
-int_turned a b = ap is_eq (int_cmp_total.antisymm b a) ∙ reversed (int_cmp a b)
-
-as_slices : (left right : List ℕ) → text_order left right ≡ slice_cmp nat_cmp left right
-as_slices [] [] = refl
-as_slices [] (b ∷ others) = refl
-as_slices (a ∷ rest) [] = refl
-as_slices (a ∷ rest) (b ∷ others) = ap (ordering_then (nat_cmp a b)) (as_slices rest others)
-
-text_turned : (a b : List ℕ) → is_eq (text_order b a) ≡ is_eq (text_order a b)
-text_turned a b = ap is_eq (as_slices b a ∙ nat_list_cmp_total.antisymm b a ∙ ap ordering_reverse (sym (as_slices a b))) ∙ reversed (text_order a b)
-
 order_turned : (v w : Val) → is_eq (value_order w v) ≡ is_eq (value_order v w)
-order_turned Null Null = refl
-order_turned Null (Num b) = refl
-order_turned Null (Date b) = refl
-order_turned Null (Text b) = refl
-order_turned (Num a) Null = refl
-order_turned (Num a) (Num b) = int_turned a b
-order_turned (Num a) (Date b) = refl
-order_turned (Num a) (Text b) = refl
-order_turned (Date a) Null = refl
-order_turned (Date a) (Num b) = refl
-order_turned (Date a) (Date b) = int_turned a b
-order_turned (Date a) (Text b) = refl
-order_turned (Text a) Null = refl
-order_turned (Text a) (Num b) = refl
-order_turned (Text a) (Date b) = refl
-order_turned (Text a) (Text b) = text_turned a b
+order_turned v w = ap is_eq (turned v w) ∙ reversed (value_order v w)
 
 and_turned : (a b : Bool) → (a && b) ≡ (b && a)
 and_turned true true = refl

@@ -21,7 +21,7 @@ use Rattle.qw_pipe.specs.Pipes as pipes
 use Rattle.qw_pipe.specs.Pipes.{Lookup, make, split, test, to_table}
 use Rattle.qw_feed.specs.Feeds.{flow_over}
 use Rattle.qw_physical.specs.Physical.{Operator, Pipeline, Sink, build, filter as filter_by, probe}
-use Rattle.qw_physical.specs.Courses.{AreBuilt, fed, pipeline_fed}
+use Rattle.qw_physical.specs.Courses.{AreBuilt, costs, fed, pipeline_cost, pipeline_fed}
 use Rattle.qw_physical.specs.Reads.{is_read}
 use Rattle.qw_physical.specs.Spelled.{all_spelled, kept_columns, keys_kept, keys_sought, spelled, spelled_steps}
 use Rattle.qw_physical.specs.declared.pipeline.ReadColumn.{ReadColumn}
@@ -29,6 +29,7 @@ use Rattle.qw_physical.proofs.Joining.{build_sees, joined, passed_on, probe_sees
 use Rattle.qw_physical.proofs.Orders.{Alike, alike_refl, alike_trans, over_same, spread_twice}
 use Rattle.qw_physical.proofs.Placed.{IsReady}
 use Rattle.qw_physical.proofs.Sight.{Sees, operator_sees}
+use Rattle.qw_physical.proofs.Totals.{later_costs, zero_and_two}
 use Rattle.qw_physical.proofs.Through.{at_operator, fed_through, through, through_last}
 
 -- ---- pipelines spelled out, one behind another
@@ -70,6 +71,7 @@ module _ (tables : List (List (List Val))) where
     pub none : (pipeline_fed tables (start ++ before) p).codes ≡ []
     pub permuted : IsPermutation (pipeline_fed tables (start ++ before) p).rows entries
     pub rest : AreBuilt tables ((start ++ before) ++ entries ∷ []) ys behind
+    pub cost : costs tables start (xs ++ p ∷ ys) own ≡ costs tables start xs before + pipeline_cost tables (start ++ before) p + costs tables ((start ++ before) ++ entries ∷ []) ys behind
 
   pub cut : (xs : List Pipeline) (p : Pipeline) (ys : List Pipeline) (start own : List (List (List Val))) → AreBuilt tables start (xs ++ p ∷ ys) own → AreCut start xs p ys own
   cut [] p ys start [] h = absurd h
@@ -84,6 +86,7 @@ module _ (tables : List (List (List Val))) where
         none = subst (λ (b : List (List (List Val))). (pipeline_fed tables b p).codes ≡ []) same h.0;
         permuted = subst (λ (b : List (List (List Val))). IsPermutation (pipeline_fed tables b p).rows e) same h.1;
         rest = subst (λ (b : List (List (List Val))). AreBuilt tables (b ++ e ∷ []) ys own) same h.2;
+        cost = zero_and_two (pipeline_cost tables start p) (costs tables (start ++ e ∷ []) ys own) ∙ ap (λ (b : List (List (List Val))). 0 + pipeline_cost tables b p + costs tables (b ++ e ∷ []) ys own) same;
       }
   cut (x ∷ xs) p ys start [] h = absurd h
   cut (x ∷ xs) p ys start (e ∷ own) h =
@@ -98,6 +101,9 @@ module _ (tables : List (List (List Val))) where
         none = subst (λ (b : List (List (List Val))). (pipeline_fed tables b p).codes ≡ []) same c.none;
         permuted = subst (λ (b : List (List (List Val))). IsPermutation (pipeline_fed tables b p).rows c.entries) same c.permuted;
         rest = subst (λ (b : List (List (List Val))). AreBuilt tables (b ++ c.entries ∷ []) ys c.behind) same c.rest;
+        cost = later_costs (pipeline_cost tables start x) (costs tables (start ++ e ∷ []) (xs ++ p ∷ ys) own) (costs tables (start ++ e ∷ []) xs c.before)
+            (pipeline_cost tables ((start ++ e ∷ []) ++ c.before) p) (costs tables (((start ++ e ∷ []) ++ c.before) ++ c.entries ∷ []) ys c.behind) c.cost
+            ∙ ap (λ (b : List (List (List Val))). (pipeline_cost tables start x + costs tables (start ++ e ∷ []) xs c.before) + pipeline_cost tables b p + costs tables (b ++ c.entries ∷ []) ys c.behind) same;
       }
 
 pub none_permuted : {A : Type 0} (xs : List A) → IsPermutation xs [] → xs ≡ []

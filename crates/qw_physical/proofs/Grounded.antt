@@ -27,7 +27,7 @@ use Rattle.qw_rewrite.proofs.Probes.{placed_probes}
 use Rattle.qw_rewrite.proofs.Sifting.{IsHonest, IsOver, IsSound, rows_over}
 use Rattle.qw_rewrite.proofs.Stages.{all_filtered}
 use Rattle.qw_physical.proofs.Scanned.{IsScanned, ScansRights, clauses_scan, keyed_scanned, sifted_scan}
-use Rattle.qw_physical.proofs.Throughout.{Throughout, clauses_through, sifted_through}
+use Rattle.qw_physical.proofs.Conjuncts.{AllConjuncts, clauses_all, sifted_all}
 use Rattle.qw_physical.proofs.Plans.{at_seam}
 
 -- ---- the equalities at the keys
@@ -94,7 +94,7 @@ module _ (tables : List (List (List Val))) (P : Condition → Type 0) where
       subst₂ (λ (es : List ℕ) (f : Flow (List Val)). AllByRecursion (IsNullBeside (is_of es)) f.rows) (sym (keyed_entries node clean)) (sym (keyed_flow tables clean node))
       (all_more (IsOver tables Fits (owns node)) (IsNullBeside (owns node)) (node_flow tables node).rows (λ row over. over.elsewhere) (rows_over tables Fits node s))
 
-  pub grounded : (Fits : ℕ → Val → Type 0) (node : Node) (clean : Bool) → IsSound tables Fits node → Throughout P node → ScansRights node → AreProbes tables (keyed clean node) → IsGround (keyed clean node)
+  pub grounded : (Fits : ℕ → Val → Type 0) (node : Node) (clean : Bool) → IsSound tables Fits node → AllConjuncts P node → ScansRights node → AreProbes tables (keyed clean node) → IsGround (keyed clean node)
   grounded Fits (scan entry table) clean s h z p = tt
   grounded Fits (filter conjuncts below) clean s h z p = (h.0, grounded Fits below clean s.1 h.1 z p)
   grounded Fits (join outer left right on keys) clean s h z p = (
@@ -164,5 +164,5 @@ query_grounded P query tables whole of sized h =
     let from : Node = filter query.conjuncts (from_written query.sources) in
     let fits : ℕ → Val → Type 0 = FitsAt (entries_of query.sources) tables in
     let sound : IsSound tables fits (sifted true [] from) = sifted_sound tables fits from true [] tt (clauses_sound query tables whole of sized) in
-    grounded tables P fits (sifted true [] from) true sound (sifted_through P from true [] tt (clauses_through P query h))
+    grounded tables P fits (sifted true [] from) true sound (sifted_all P from true [] tt (clauses_all P query h))
     (sifted_scan from true [] (clauses_scan query)) (placed_probes query tables (keyed true (sifted true [] (written query))) whole of sized refl)

@@ -34,12 +34,12 @@ use Rattle.qw_physical.specs.Reads.{AreRead, AreScaled, is_read}
 use Rattle.qw_physical.specs.Spelled.{all_spelled, keys_kept, spelled, spelled_steps}
 use Rattle.qw_physical.specs.declared.pipeline.ReadColumn.{ReadColumn}
 use Rattle.qw_physical.proofs.Begun.{AreBegun, are_begun, known_all, sink_last, steps_last}
-use Rattle.qw_physical.proofs.Bounded.{bounds, build_fed, built_long, joined_builds}
-use Rattle.qw_physical.proofs.Feeding.{spelled_count, pipelines_append}
+use Rattle.qw_physical.proofs.Bounded.{bounds, build_fed, joined_builds}
+use Rattle.qw_physical.proofs.Feeding.{built_count, spelled_count, pipelines_append}
 use Rattle.qw_physical.proofs.Charges.{Respects, charges, fed_respects, sink_fed}
 use Rattle.qw_physical.proofs.Grounded.{IsGround, clauses, query_grounded}
 use Rattle.qw_physical.proofs.JoinBound.{IsKnown, names_kept}
-use Rattle.qw_physical.proofs.Totals.{total, total_flat, total_less, total_ones, total_same}
+use Rattle.qw_physical.proofs.Totals.{later_cost, later_costs, total, total_flat, total_less, total_ones, total_same, zero_and, zero_and_two}
 
 -- ---- sizes
 
@@ -71,18 +71,6 @@ module _ (tables : List (List (List Val))) where
         → held tables built (xs ++ y ∷ ys) more ≡ held tables built xs front + sink_octets y.sink (length entries) + held tables ((built ++ front) ++ entries ∷ []) ys back
         → IsHeldAt built xs y ys more
 
-  zero_and : (c : ℕ) → c ≡ 0 + c
-  zero_and c = omega arith
-
-  zero_and_two : (c d : ℕ) → c + d ≡ 0 + c + d
-  zero_and_two c d = omega arith
-
-  later : (c whole a b : ℕ) → whole ≡ a + b → c + whole ≡ (c + a) + b
-  later c whole a b e = omega (arith, e)
-
-  later_two : (c whole a b d : ℕ) → whole ≡ a + b + d → c + whole ≡ (c + a) + b + d
-  later_two c whole a b d e = omega (arith, e)
-
   held_at : (built : List (List (List Val))) (xs : List Pipeline) (y : Pipeline) (ys : List Pipeline) (more : List (List (List Val))) → AreBegun tables built (xs ++ y ∷ ys) more → IsHeldAt built xs y ys more
   held_at built [] y ys [] h =
       at tt tt (zero_and (held_next built y) ∙ ap (λ (b : List (List (List Val))). 0 + held_next b y) (sym (append-nil built)))
@@ -98,13 +86,13 @@ module _ (tables : List (List (List Val))) where
       one (before begun is) = before (h.0, h.1, begun) (ap (λ (n : ℕ). sink_octets x.sink (length e) + n) is)
       one (at are begun is) =
           at (h.0, h.1, are) (h.0, h.1, begun)
-          (later (sink_octets x.sink (length e)) (held tables (built ++ e ∷ []) (xs ++ y ∷ ys) more) (held tables (built ++ e ∷ []) xs more) (held_next ((built ++ e ∷ []) ++ more) y) is
+          (later_cost (sink_octets x.sink (length e)) (held tables (built ++ e ∷ []) (xs ++ y ∷ ys) more) (held tables (built ++ e ∷ []) xs more) (held_next ((built ++ e ∷ []) ++ more) y) is
           ∙ ap (λ (b : List (List (List Val))). (sink_octets x.sink (length e) + held tables (built ++ e ∷ []) xs more) + held_next b y) (append_assoc built (e ∷ []) more))
       one (behind front entries back are begun many rest is) =
           behind (e ∷ front) entries back (h.0, h.1, are) (h.0, h.1, begun)
           (subst (λ (b : List (List (List Val))). length entries ≡ length (pipeline_fed tables b y).rows) (append_assoc built (e ∷ []) front) many)
           (subst (λ (b : List (List (List Val))). AreBegun tables (b ++ entries ∷ []) ys back) (append_assoc built (e ∷ []) front) rest)
-          (later_two (sink_octets x.sink (length e)) (held tables (built ++ e ∷ []) (xs ++ y ∷ ys) more) (held tables (built ++ e ∷ []) xs front) (sink_octets y.sink (length entries))
+          (later_costs (sink_octets x.sink (length e)) (held tables (built ++ e ∷ []) (xs ++ y ∷ ys) more) (held tables (built ++ e ∷ []) xs front) (sink_octets y.sink (length entries))
           (held tables (((built ++ e ∷ []) ++ front) ++ entries ∷ []) ys back) is
           ∙ ap (λ (b : List (List (List Val))). (sink_octets x.sink (length e) + held tables (built ++ e ∷ []) xs front) + sink_octets y.sink (length entries) + held tables (b ++ entries ∷ []) ys back) (append_assoc built (e ∷ []) front))
 
@@ -220,7 +208,7 @@ module _ (same_rows : (row other : List Val) → is_same_row row other ≡ true 
           let less = first front begun in
           let after : length ((built ++ front) ++ entries ∷ []) ≡ (next + length (split next right).builds) + 1 =
           length-append (built ++ front) (entries ∷ [])
-          ∙ ap (λ k. k + 1) (length-append built front ∙ ap₂ (λ a b. a + b) long (built_long tables built (builds_of next right) front are ∙ spelled_count columns next (split next right).builds)) in
+          ∙ ap (λ k. k + 1) (length-append built front ∙ ap₂ (λ a b. a + b) long (built_count tables built (builds_of next right) front are ∙ spelled_count columns next (split next right).builds)) in
           let fed : length entries ≤ length (node_flow tables right).rows = (let n = few front are in omega (arith, many, n)) in
           let own = it_octets outer left right on keys next (length entries) fed in
           let others = second ((built ++ front) ++ entries ∷ []) back after rest in

@@ -40,7 +40,8 @@ use Rattle.qw_physical.specs.Reads.{IsScaled, is_read}
 use Rattle.qw_physical.specs.Spelled.{kept_columns, keys_kept, keys_sought}
 use Rattle.qw_physical.specs.declared.pipeline.ReadColumn.{ReadColumn}
 use Rattle.qw_physical.proofs.Alone.{any_none, none_found}
-use Rattle.qw_physical.proofs.Charges.{Agrees, NamesItems, Respects, alone_charge, count, keyed_charge, matched, pair_agrees, probe_charge, sink_cost, sink_fed}
+use Rattle.qw_physical.proofs.Charges.{Respects, alone_charge, count, keyed_charge, matched, probe_charge, sink_cost, sink_fed}
+use Rattle.qw_physical.proofs.Sight.{Agree, AllName, merged_agree}
 use Rattle.qw_physical.proofs.EntryRows.{Values, all_filter, all_read, columns_units, drop_front, made_again, take_front, values_append, values_long}
 use Rattle.qw_physical.proofs.Grounded.{IsKeyedJoin, IsNullBeside}
 use Rattle.qw_physical.proofs.Meeting.{keys_pair, parted}
@@ -89,7 +90,7 @@ operand_names test side = by_compared (λ c o. condition_names_only test c ≡ t
     one x y h true = and_left (names_only test x) (names_only test y) h
     one x y h false = and_right (names_only test x) (names_only test y) h
 
-operands_name : (test side : ℕ → Bool) (cs : List Condition) → NamesOnly test cs → NamesItems test (map (operand_of side) cs)
+operands_name : (test side : ℕ → Bool) (cs : List Condition) → NamesOnly test cs → AllName test (map (operand_of side) cs)
 operands_name test side [] h = tt
 operands_name test side (c ∷ cs) h = (operand_names test side c h.0, operands_name test side cs h.1)
 
@@ -140,7 +141,7 @@ read_kept entries (c ∷ cs) i h o = one (is_of entries c.number) refl (λ g. re
     one true e rest = or_cases (nat_eq c.number i) (is_read cs i) (is_read (filter_list (λ (d : ReadColumn). is_of entries d.number) cs) i) h rest
     one false e rest = rest (missed e (nat_eq c.number i) refl h)
 
-columns_name : (test : ℕ → Bool) (cs : List ReadColumn) → AllByRecursion (λ (c : ReadColumn). test c.number ≡ true) cs → NamesItems test (map column_of cs)
+columns_name : (test : ℕ → Bool) (cs : List ReadColumn) → AllByRecursion (λ (c : ReadColumn). test c.number ≡ true) cs → AllName test (map column_of cs)
 columns_name test [] h = tt
 columns_name test (c ∷ cs) h = (h.0, columns_name test cs h.1)
 
@@ -223,10 +224,10 @@ module _ (same_rows : (row other : List Val) → is_same_row row other ≡ true 
   pub names_beside : NamesOnly read (beside_keys keys 0 on)
   names_beside = beside_all (λ c. condition_names_only read c ≡ true) keys 0 on names_on
 
-  pub names_sought : NamesItems read (keys_sought look)
+  pub names_sought : AllName read (keys_sought look)
   names_sought = operands_name read (λ i. not (is_of look.entries i)) (equalities look) names_equal
 
-  pub names_kept : NamesItems read (sink_values building)
+  pub names_kept : AllName read (sink_values building)
   names_kept =
       all_append (λ e. names_only read e ≡ true) (keys_kept look) (map column_of (kept_columns columns look)) (operands_name read (is_of look.entries) (equalities look) names_equal)
       (columns_name read (kept_columns columns look) (all_filter (λ (c : ReadColumn). is_read columns c.number ≡ true) (λ (c : ReadColumn). is_of look.entries c.number) columns (all_read columns)))
@@ -266,7 +267,7 @@ module _ (same_rows : (row other : List Val) → is_same_row row other ≡ true 
       back_dropped : drop (length (keys_sought look)) values ≡ parts.back
       back_dropped = ap (drop (length (keys_sought look))) parts.is ∙ drop_front parts.front parts.back (length (keys_sought look)) (front_long ∙ sym same_length)
 
-      made : Agrees read (row_of (kept_columns columns look) (drop (length (keys_sought look)) values)) r
+      made : Agree read (row_of (kept_columns columns look) (drop (length (keys_sought look)) values)) r
       made i t =
           ap (λ (vs : List Val). cell (row_of (kept_columns columns look) vs) i) back_dropped
           ∙ made_again (kept_columns columns look) r parts.back parts.back_is i ∙ one (owns right i) refl
@@ -279,8 +280,8 @@ module _ (same_rows : (row other : List Val) → is_same_row row other ≡ true 
           one true e = ap (λ (b : Bool). if b then cell r i else Null) (read_kept look.entries columns i t e)
           one false e = null_anyway (is_read (kept_columns columns look) i) (rights i e)
 
-      same_pair : Agrees read (pair_of probing l values) (merged l r)
-      same_pair = pair_agrees read l l (row_of (kept_columns columns look) (drop (length (keys_sought look)) values)) r (λ i t. refl) made
+      same_pair : Agree read (pair_of probing l values) (merged l r)
+      same_pair = merged_agree read l l (row_of (kept_columns columns look) (drop (length (keys_sought look)) values)) r (λ i t. refl) made
 
       matched_bound : matched counted after probing l key values ≤ pair_bound counted after l r
       matched_bound = one (is_same_row key (take (length (keys_sought look)) values)) refl

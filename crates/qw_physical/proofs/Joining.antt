@@ -1,10 +1,9 @@
 -- A row that looks up a table goes on with the pairs that the join makes of it, in some order.
-use Rattle.std.proofs.Common.{◌≡◌, ◌∙◌, ℕ, nat_eq, Bool, true, false, not, ◌&&◌, ◌||◌, if◌then◌else◌, List, [], ◌∷◌, ◌++◌, get_or, length, map, Result, Ok, Err, refl, sym, ap, ap₂, subst, append-nil, arith}
+use Rattle.std.proofs.Common.{◌≡◌, ◌∙◌, ℕ, Bool, true, false, not, ◌&&◌, ◌||◌, if◌then◌else◌, List, [], ◌∷◌, ◌++◌, get_or, length, map, Result, Ok, Err, refl, sym, ap, ap₂, subst, append-nil, arith}
 use Rattle.std.specs.List.{AllByRecursion, flat_map, list_any}
 use Rattle.std.specs.List as list
 use Rattle.std.specs.List.Sorted.{IsPermutation}
 use Rattle.std.proofs.lemmas.List.Sorted.{list_any-IsPermutation}
-use Rattle.std.proofs.lemmas.Bool.Decides.{nat_tests}
 use Rattle.qw_types.specs.Arithmetic.{◌>>=◌}
 use Rattle.qw_types.specs.Value.{IsSized}
 use Rattle.qw_types.specs.ValueOrder.{is_same_row}
@@ -38,6 +37,7 @@ use Rattle.qw_physical.specs.Spelled.{kept_columns, keys_kept, keys_sought}
 use Rattle.qw_physical.specs.declared.pipeline.ReadColumn.{ReadColumn}
 use Rattle.qw_physical.proofs.Alone.{any_flat, any_more, any_none, is_partner, with_partner, without_partner}
 use Rattle.qw_physical.proofs.Entries.{columns_values, filtered_number, front_dropped, front_taken, kept_values, row_of_cell, values_append}
+use Rattle.qw_physical.proofs.EntryRows.{all_filter, all_read}
 use Rattle.qw_physical.proofs.EqualKeys.{AreTold, all_meets, all_told, sought}
 use Rattle.qw_physical.proofs.Orders.{Alike, alike_is, alike_refl, alike_sym, alike_trans, over_permuted, spread_same, spread_twice}
 use Rattle.qw_physical.proofs.Placed.{F, ReadyJoin}
@@ -92,30 +92,6 @@ over_nothing f xs h =
     (flat_map_none (λ x. (f x).codes) xs (all_more (λ x. f x ≡ nothing) (λ x. (f x).codes ≡ []) xs (λ x e. ap (λ (g : Flow (List Val)). g.codes) e) h))
 
 -- ---- columns that are kept are read
-
-pub filtered_all : {A : Type 0} (P : A → Type 0) (test : A → Bool) (xs : List A) → AllByRecursion P xs → AllByRecursion P (list.filter test xs)
-filtered_all P test [] h = tt
-filtered_all P test (x ∷ xs) h = one (test x) (list.filter test xs) (filtered_all P test xs h.1)
-  where
-    one : (b : Bool) (rest : List _) → AllByRecursion P rest → AllByRecursion P (if b then x ∷ rest else rest)
-    one true rest g = (h.0, g)
-    one false rest g = g
-
-itself : (k : ℕ) → nat_eq k k ≡ true
-itself k = grind (arith, nat_tests)
-
-or_left : (a b : Bool) → a ≡ true → (a || b) ≡ true
-or_left true b h = refl
-or_left false b h = absurd cc
-
-or_right : (a b : Bool) → b ≡ true → (a || b) ≡ true
-or_right true b h = refl
-or_right false b h = h
-
-all_read : (columns cs : List ReadColumn) → ((i : ℕ) → is_read cs i ≡ true → is_read columns i ≡ true) → AllByRecursion (λ (c : ReadColumn). is_read columns c.number ≡ true) cs
-all_read columns [] h = tt
-all_read columns (c ∷ cs) h =
-    (h c.number (or_left (nat_eq c.number c.number) (is_read cs c.number) (itself c.number)), all_read columns cs (λ i t. h i (or_right (nat_eq c.number i) (is_read cs i) t)))
 
 same_count : (f g : Condition → Expression) (cs : List Condition) → length (map f cs) ≡ length (map g cs)
 same_count f g [] = refl
@@ -178,7 +154,7 @@ module _ (entries : List Entry) (tables : List (List (List Val))) (columns : Lis
   build_names =
       all_append (λ e. names_only (is_read columns) e ≡ true) (keys_kept lookup) (map column_of kept_here) (subst (AllName (is_read columns)) (sym kept_are) (ready.named (owns right)))
       (all_map (λ e. names_only (is_read columns) e ≡ true) column_of kept_here
-      (filtered_all (λ (c : ReadColumn). is_read columns c.number ≡ true) (λ (c : ReadColumn). owns right c.number) columns (all_read columns columns (λ i t. t))))
+      (all_filter (λ (c : ReadColumn). is_read columns c.number ≡ true) (λ (c : ReadColumn). owns right c.number) columns (all_read columns)))
 
   -- ---- an entry, and the row that is made of it
 

@@ -25,6 +25,7 @@ pub mod Begun
 mod Bounded
 mod Building
 mod Charges
+mod Conjuncts
 mod Declared
 mod Entries
 mod EntryRows
@@ -40,7 +41,6 @@ mod Outcomes
 mod Placed
 mod Scanned
 mod SeenUnits
-mod Throughout
 mod Totals
 pub mod ServedBy
 pub mod AlikeLookups

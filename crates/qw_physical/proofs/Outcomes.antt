@@ -17,14 +17,14 @@ use Rattle.qw_meaning.specs.Select.{AreOfEntries, Entry, IsColumnOf, IsCondition
 use Rattle.qw_algebra.specs.Columns.{condition_names_only}
 use Rattle.qw_algebra.specs.Node.{Node, filter, project, node_flow}
 use Rattle.qw_algebra.specs.Written.{from_written, written}
-use Rattle.qw_algebra.proofs.Lists.{all_of_any}
+use Rattle.qw_algebra.proofs.Lists.{all_append, all_of_any}
 use Rattle.qw_rewrite.specs.Placed.{IsSizedPlan, IsWellPlaced}
 use Rattle.qw_rewrite.specs.Probe.{keyed}
 use Rattle.qw_rewrite.specs.Sift.{sifted}
 use Rattle.qw_rewrite.proofs.Grounds.{IsLaid, clauses_sound, flow_of_query, sound, written_sized}
 use Rattle.qw_rewrite.proofs.Probes.{placed_probes}
 use Rattle.qw_pipe.specs.Pipes as pipes
-use Rattle.qw_pipe.specs.Pipes.{make, pipelines, split, test, to_result}
+use Rattle.qw_pipe.specs.Pipes.{make, split, test}
 use Rattle.qw_pipe.proofs.Ordering.{in_order}
 use Rattle.qw_feed.specs.Feeds.{flow_by, flow_over, one_row}
 use Rattle.qw_physical.specs.Physical.{Operator, Pipeline, Sink, select}
@@ -34,7 +34,8 @@ use Rattle.qw_physical.specs.Spelled.{all_spelled, items_made, spelled, spelled_
 use Rattle.qw_physical.specs.declared.pipeline.ReadColumn.{ReadColumn}
 use Rattle.qw_physical.proofs.Feeding.{feeds, none_permuted, spelled_append}
 use Rattle.qw_physical.proofs.Orders.{Alike, alike_is, alike_trans, over_same, spread_same}
-use Rattle.qw_physical.proofs.Placed.{AllConjuncts, IsReady, from_all, keyed_all, keyed_keys, keyed_laid, laid_of, parts_all, ready, sifted_all, sifted_laid, sized_of, sources_over, typed_of}
+use Rattle.qw_physical.proofs.Conjuncts.{AllConjuncts, placed_all, sources_over}
+use Rattle.qw_physical.proofs.Placed.{IsReady, keyed_keys, keyed_laid, laid_of, ready, sifted_laid, sized_of, typed_of}
 use Rattle.qw_physical.proofs.Sight.{sink_sees}
 use Rattle.qw_physical.proofs.Through.{fed_through, through}
 
@@ -68,21 +69,13 @@ module _ (query : Specification) (tables : List (List (List Val))) (columns : Li
   pub typed_below : AllConjuncts (λ c. IsConditionOver (IsColumnOf (entries_of query.sources)) c) below
   typed_below =
       let P : Condition → Type 0 = λ c. IsConditionOver (IsColumnOf (entries_of query.sources)) c in
-      keyed_all P (sifted true [] from) true (sifted_all P from true [] tt (whole.conjuncts, from_all P query.sources (sources_over (entries_of query.sources) 0 query.sources whole.sources)))
-
-  read_in : AllByRecursion (λ (c : Condition). condition_names_only (is_read columns) c ≡ true) (conjuncts_on query.sources)
-      × AllByRecursion (λ (c : Condition). condition_names_only (is_read columns) c ≡ true) query.conjuncts
-  read_in = parts_all (λ (c : Condition). condition_names_only (is_read columns) c ≡ true) (conjuncts_on query.sources) query.conjuncts read.conjuncts
+      placed_all P query (all_append P (conjuncts_on query.sources) query.conjuncts (sources_over (entries_of query.sources) 0 query.sources whole.sources) whole.conjuncts)
 
   scaled_below : AllConjuncts IsScaled below
-  scaled_below =
-      let parts = parts_all IsScaled (conjuncts_on query.sources) query.conjuncts scaled in
-      keyed_all IsScaled (sifted true [] from) true (sifted_all IsScaled from true [] tt (parts.1, from_all IsScaled query.sources parts.0))
+  scaled_below = placed_all IsScaled query scaled
 
   pub names_below : AllConjuncts (λ c. condition_names_only (is_read columns) c ≡ true) below
-  names_below =
-      let P : Condition → Type 0 = λ c. condition_names_only (is_read columns) c ≡ true in
-      keyed_all P (sifted true [] from) true (sifted_all P from true [] tt (read_in.1, from_all P query.sources read_in.0))
+  names_below = placed_all (λ c. condition_names_only (is_read columns) c ≡ true) query read.conjuncts
 
   laid_below : IsLaid (entries_of query.sources) tables below
   laid_below =

@@ -1,6 +1,6 @@
 -- What the steps of a well placed plan keep, so that its joins may look up by keys of their own and rows made again from what is kept.
-use Rattle.std.proofs.Common.{◌≡◌, ◌∙◌, ℕ, zero, suc, ◌+◌, ◌/◌, ◌%◌, Bool, true, false, not, ◌&&◌, if◌then◌else◌, List, [], ◌∷◌, ◌++◌, map, length, IfOk, Some, Result, slice_get, refl, sym, ap, subst, subst₂, arith}
-use Rattle.std.specs.List.{AllByRecursion, filter_map, flat_map}
+use Rattle.std.proofs.Common.{◌≡◌, ◌∙◌, ℕ, zero, suc, ◌+◌, ◌/◌, ◌%◌, Bool, true, false, ◌&&◌, if◌then◌else◌, List, [], ◌∷◌, ◌++◌, map, IfOk, Some, Result, slice_get, refl, sym, ap, subst, subst₂, arith}
+use Rattle.std.specs.List.{AllByRecursion, filter_map}
 use Rattle.std.specs.List as list
 use Rattle.qw_types.specs.Value.{IsSized}
 use Rattle.qw_types.specs.declared.code.Code.{Code}
@@ -17,19 +17,17 @@ use Rattle.qw_raise.specs.Range.{IsInRange, IsSizedColumn}
 use Rattle.qw_raise.proofs.RaiseLemmas.{holds_of, or_false, quiet_value}
 use Rattle.qw_leaves.specs.Compared.{OfCompared}
 use Rattle.qw_leaves.proofs.ComparedLemmas.{by_compared}
-use Rattle.qw_meaning.specs.Select.{AreJoinsOver, AreSourcesOver, Entry, IsColumnOf, IsConditionOver, IsReached, Joined, Source, conjuncts_on, entries_in, type_in, types_of}
+use Rattle.qw_meaning.specs.Select.{Entry, IsColumnOf, IsConditionOver, type_in, types_of}
 use Rattle.qw_algebra.specs.Columns.{condition_names_only, is_of, names_only, owns}
 use Rattle.qw_algebra.specs.Node.{Node, scan, filter, join, project, node_flow}
-use Rattle.qw_algebra.specs.Written.{from_written, source_written, with_joins, with_sources}
-use Rattle.qw_algebra.proofs.Lists.{all_append, all_map, all_more}
+use Rattle.qw_algebra.proofs.Lists.{all_map, all_more}
 use Rattle.qw_rewrite.specs.Placed.{IsSizedCondition, IsSizedPlan}
 use Rattle.qw_rewrite.specs.Probe.{are_alike, are_eligible, face, is_eligible, is_equality, keyed, keys_from, keys_of_join}
 use Rattle.qw_rewrite.specs.Probed.{AreProbes, at_keys, beside_keys, is_key, probed_by}
-use Rattle.qw_rewrite.specs.Sift.{beyond, is_clean_on, is_quiet, moved, quiet_front, sifted, stayed, within}
+use Rattle.qw_rewrite.specs.Sift.{beyond, is_clean_on, is_quiet, moved, quiet_front, sifted, within}
 use Rattle.qw_rewrite.proofs.Grounds.{FitsAt, IsLaid, IsTypedNode}
 use Rattle.qw_rewrite.proofs.Joins.{tested}
 use Rattle.qw_rewrite.proofs.Keys.{keys_are, none_of}
-use Rattle.qw_rewrite.proofs.Moved.{moved_all, stayed_all}
 use Rattle.qw_rewrite.proofs.Once.{keyed_entries, sifted_entries}
 use Rattle.qw_rewrite.proofs.Names.{and_left, and_right}
 use Rattle.qw_rewrite.proofs.Rows.{NamesOnly}
@@ -38,93 +36,9 @@ use Rattle.qw_rewrite.proofs.Stages.{all_filtered}
 use Rattle.qw_pipe.specs.Units.{operand_of}
 use Rattle.qw_physical.specs.Reads.{IsScaled, is_read}
 use Rattle.qw_physical.specs.declared.pipeline.ReadColumn.{ReadColumn}
+use Rattle.qw_physical.proofs.Conjuncts.{AllConjuncts}
 use Rattle.qw_physical.proofs.EqualKeys.{AllOperands, BothOperands, HasOneScale, IsDivided, IsTold, divided, operand_has}
 use Rattle.qw_leaves.proofs.LeafLists.{all_pairs}
-
--- ---- conjuncts
-
-pub parts_all : {A : Type 0} (P : A → Type 0) (xs ys : List A) → AllByRecursion P (xs ++ ys) → AllByRecursion P xs × AllByRecursion P ys
-parts_all P [] ys h = (tt, h)
-parts_all P (x ∷ xs) ys h = let rest = parts_all P xs ys h.1 in ((h.0, rest.0), rest.1)
-
--- something holds of each conjunct of a plan
-abbrev pub AllConjuncts : (Condition → Type 0) → Node → Type 0
-AllConjuncts P (scan entry table) = Unit {0}
-AllConjuncts P (filter conjuncts below) = AllByRecursion P conjuncts × AllConjuncts P below
-AllConjuncts P (join outer left right on keys) = AllByRecursion P on × (AllConjuncts P left × AllConjuncts P right)
-AllConjuncts P (project below items) = AllConjuncts P below
-
-module _ (P : Condition → Type 0) where
-  pub sifted_all : (node : Node) (clean : Bool) (above : List Condition) → AllByRecursion P above → AllConjuncts P node → AllConjuncts P (sifted clean above node)
-  sifted_all (scan entry table) clean above ha h = (ha, tt)
-  sifted_all (filter conjuncts below) clean above ha h =
-      let own : Bool = clean && is_quiet below in (
-        stayed_all P own conjuncts h.0,
-        sifted_all below clean (moved own conjuncts ++ above) (all_append P (moved own conjuncts) above (moved_all P own conjuncts h.0) ha) h.1,
-      )
-  sifted_all (join true left right on keys) clean above ha h = (
-    all_filtered P (λ c. not (condition_names_only (owns left) c)) above ha,
-    (
-      h.0,
-      (
-        sifted_all left clean (within left above) (all_filtered P (condition_names_only (owns left)) above ha) h.1.0,
-        sifted_all right (clean && is_quiet left) [] tt h.1.1,
-      ),
-    ),
-  )
-  sifted_all (join false left right on keys) clean above ha h =
-      let own : Bool = is_clean_on clean left right in
-      let down : List Condition = moved own on ++ above in
-      let hd : AllByRecursion P down = all_append P (moved own on) above (moved_all P own on h.0) ha in
-      let rest : AllByRecursion P (beyond left down) = all_filtered P (λ c. not (condition_names_only (owns left) c)) down hd in (
-        all_append P (beyond right (beyond left down)) (stayed own on) (all_filtered P (λ c. not (condition_names_only (owns right) c)) (beyond left down) rest) (stayed_all P own on h.0),
-        (
-          sifted_all left clean (within left down) (all_filtered P (condition_names_only (owns left)) down hd) h.1.0,
-          sifted_all right (clean && is_quiet left) (within right (beyond left down)) (all_filtered P (condition_names_only (owns right)) (beyond left down) rest) h.1.1,
-        ),
-      )
-  sifted_all (project below items) clean above ha h = sifted_all below clean above ha h
-
-  pub keyed_all : (node : Node) (clean : Bool) → AllConjuncts P node → AllConjuncts P (keyed clean node)
-  keyed_all (scan entry table) clean h = tt
-  keyed_all (filter conjuncts below) clean h = (h.0, keyed_all below clean h.1)
-  keyed_all (join outer left right on keys) clean h = (h.0, (keyed_all left clean h.1.0, keyed_all right (clean && is_quiet left) h.1.1))
-  keyed_all (project below items) clean h = keyed_all below clean h
-
-  joins_all : (joins : List Joined) (next : ℕ) (node : Node) → AllConjuncts P node → AllByRecursion P (flat_map (λ (j : Joined). j.on) joins) → AllConjuncts P (with_joins next node joins)
-  joins_all [] next node h g = h
-  joins_all (j ∷ joins) next node h g =
-      let p = parts_all P j.on (flat_map (λ (i : Joined). i.on) joins) g in
-      joins_all joins (next + 1) (join j.outer node (scan next j.entry.table) j.on []) (p.0, (h, tt)) p.1
-
-  sources_all : (sources : List Source) (next : ℕ) (node : Node) → AllConjuncts P node → AllByRecursion P (conjuncts_on sources) → AllConjuncts P (with_sources next node sources)
-  sources_all [] next node h g = h
-  sources_all (source ∷ sources) next node h g =
-      let p = parts_all P (flat_map (λ (j : Joined). j.on) source.joins) (conjuncts_on sources) g in
-      sources_all sources (next + length (entries_in source)) (join false node (source_written next source) [] [])
-      (tt, (h, joins_all source.joins (next + 1) (scan next source.first.table) tt p.0)) p.1
-
-  pub from_all : (sources : List Source) → AllByRecursion P (conjuncts_on sources) → AllConjuncts P (from_written sources)
-  from_all [] g = tt
-  from_all (source ∷ sources) g =
-      let p = parts_all P (flat_map (λ (j : Joined). j.on) source.joins) (conjuncts_on sources) g in
-      sources_all sources (length (entries_in source)) (source_written 0 source) (joins_all source.joins 1 (scan 0 source.first.table) tt p.0) p.1
-
--- each ON is over columns of the entries
-joins_over : (entries : List Entry) (first next : ℕ) (joins : List Joined) → AreJoinsOver entries first next joins
-    → AllByRecursion (IsConditionOver (IsColumnOf entries)) (flat_map (λ (j : Joined). j.on) joins)
-joins_over entries first next [] h = tt
-joins_over entries first next (j ∷ joins) h =
-    all_append (IsConditionOver (IsColumnOf entries)) j.on (flat_map (λ (i : Joined). i.on) joins)
-    (all_more (IsConditionOver (IsReached entries first (next + 1))) (IsConditionOver (IsColumnOf entries)) j.on
-    (λ c t. (t.0, conditions_more (IsReached entries first (next + 1)) (IsColumnOf entries) (λ i ty r. r.0) c t.1)) h.0)
-    (joins_over entries first (next + 1) joins h.1)
-
-pub sources_over : (entries : List Entry) (first : ℕ) (sources : List Source) → AreSourcesOver entries first sources → AllByRecursion (IsConditionOver (IsColumnOf entries)) (conjuncts_on sources)
-sources_over entries first [] h = tt
-sources_over entries first (source ∷ sources) h =
-    all_append (IsConditionOver (IsColumnOf entries)) (flat_map (λ (j : Joined). j.on) source.joins) (conjuncts_on sources)
-    (joins_over entries first (first + 1) source.joins h.0) (sources_over entries (first + length (entries_in source)) sources h.1)
 
 -- ---- keys
 
@@ -278,7 +192,7 @@ module _ (entries : List Entry) (tables : List (List (List Val))) (columns : Lis
   typed_of (scan entry table) h = tt
   typed_of (filter conjuncts below) h = (h.0, typed_of below h.1)
   typed_of (join outer left right on keys) h = (h.0, (typed_of left h.1.0, typed_of right h.1.1))
-  typed_of (project below items) h = typed_of below h
+  typed_of (project below items) h = absurd h
 
   sized_condition : (c : Condition) → IsOver_entries c → IsSizedCondition c
   sized_condition c t = (t.0, conditions_more (IsColumnOf entries) IsSizedColumn (λ i ty h. entry_sized entries (i / 64) (i % 64) ty sized h) c t.1)
@@ -287,7 +201,7 @@ module _ (entries : List Entry) (tables : List (List (List Val))) (columns : Lis
   sized_of (scan entry table) h = tt
   sized_of (filter conjuncts below) h = (all_more IsOver_entries IsSizedCondition conjuncts sized_condition h.0, sized_of below h.1)
   sized_of (join outer left right on keys) h = (all_more IsOver_entries IsSizedCondition on sized_condition h.0, (sized_of left h.1.0, sized_of right h.1.1))
-  sized_of (project below items) h = sized_of below h
+  sized_of (project below items) h = absurd h
 
   -- ---- operands of keys have values
 

@@ -21,9 +21,10 @@ use Rattle.qw_physical.specs.Named.{typed_numbers}
 use Rattle.qw_physical.specs.Physical.{Operator, filter as filter_by, probe}
 use Rattle.qw_physical.specs.Spelled.{all_spelled, kept_columns, keys_kept, keys_sought, spelled, spelled_steps}
 use Rattle.qw_physical.specs.declared.pipeline.ReadColumn.{ReadColumn}
+use Rattle.qw_physical.proofs.Conjuncts.{AllConjuncts}
 use Rattle.qw_physical.proofs.EqualKeys.{AllOperands, BothOperands, IsDivided, operand_has, sought}
 use Rattle.qw_physical.proofs.Feeding.{building, spelled_append, spelled_join}
-use Rattle.qw_physical.proofs.Placed.{AllConjuncts, IsReady, keys_have}
+use Rattle.qw_physical.proofs.Placed.{IsReady, keys_have}
 use Rattle.qw_leaves.proofs.LeafLists.{all_pairs}
 use Rattle.qw_physical.proofs.Shown.{IsAmong, IsSeen, Sees, Shows, ShowsIn, Within, all_shown_in, among_owned, columns_shown, of_entry, owned, owned_among, sees_more, shown, shows_in_more, within_left, within_owned, within_right}
 

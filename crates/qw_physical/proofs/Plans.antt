@@ -4,19 +4,18 @@ use Rattle.std.specs.List.{AllByRecursion, cons_option, filter_map}
 use Rattle.qw_leaves.specs.Compared.{Compared, compared_in}
 use Rattle.qw_scalar.specs.Expression.{Condition}
 use Rattle.qw_scalar.specs.Typing.{AreTyped}
-use Rattle.qw_meaning.specs.Select.{AreJoinsOver, AreSourcesOver, Entry, IsColumnOf, IsConditionOver, IsItemOver, IsReached, IsSpecification, Joined, Source, Specification, entries_in, entries_of}
+use Rattle.qw_meaning.specs.Select.{IsColumnOf, IsConditionOver, IsItemOver, IsSpecification, Specification, conjuncts_on, entries_of}
 use Rattle.qw_raise.specs.Raise.{condition_can_raise}
 use Rattle.qw_algebra.specs.Node.{Node, scan, filter, join, project}
-use Rattle.qw_algebra.specs.Columns.{condition_names_only, entries_below, owns}
-use Rattle.qw_algebra.specs.Written.{from_written, source_written, with_joins, with_sources, written}
+use Rattle.qw_algebra.specs.Columns.{entries_below, owns}
+use Rattle.qw_algebra.specs.Written.{from_written, written}
 use Rattle.qw_pipe.specs.Pipes.{Lookup, Pipeline, Step, make, pipelines, probe, split, test, to_table}
 use Rattle.qw_rewrite.specs.Placed.{IsWellPlaced}
 use Rattle.qw_rewrite.specs.Probe.{are_eligible, is_eligible, keyed, keys_from, keys_of_join}
-use Rattle.qw_rewrite.specs.Sift.{beyond, is_clean_on, is_quiet, moved, sifted, stayed, within}
-use Rattle.qw_rewrite.proofs.Moved.{moved_all, stayed_all}
-use Rattle.qw_rewrite.proofs.Stages.{all_filtered}
+use Rattle.qw_rewrite.specs.Sift.{is_clean_on, is_quiet, sifted}
 use Rattle.qw_physical.specs.Typed.{AreTypedPipelines, Compares, IsComparison, IsTypedNode, IsTypedPipeline, IsTypedStep, IsValued}
 use Rattle.qw_leaves.proofs.LeafLists.{all_joined, all_weaker}
+use Rattle.qw_physical.proofs.Conjuncts.{AllConjuncts, clauses_all, sifted_all, sources_over}
 
 -- ---- pipelines of a plan
 record AreTypedParts (next : ℕ) (node : Node) : Type 0 where
@@ -90,79 +89,23 @@ keys_compare clean left right on = by_test (is_clean_on clean left right) (from_
     by_test false h = tt
 
 -- ---- plans, whatever their keys are
-abbrev IsTypedPlan : Node → Type 0
-IsTypedPlan (scan entry table) = Unit {0}
-IsTypedPlan (filter conjuncts below) = AllByRecursion AreTyped conjuncts × IsTypedPlan below
-IsTypedPlan (join outer left right on keys) = AllByRecursion AreTyped on × (IsTypedPlan left × IsTypedPlan right)
-IsTypedPlan (project below items) = AllByRecursion IsValued items × IsTypedPlan below
-
-keyed_typed : (clean : Bool) (node : Node) → IsTypedPlan node → IsTypedNode (keyed clean node)
+keyed_typed : (clean : Bool) (node : Node) → AllConjuncts AreTyped node → IsTypedNode (keyed clean node)
 keyed_typed clean (scan entry table) h = tt
 keyed_typed clean (filter conjuncts below) h = (h.0, keyed_typed clean below h.1)
 keyed_typed clean (join outer left right on keys) h =
     (record { on = h.0; keys = keys_compare clean left right on }, (keyed_typed clean left h.1.0, keyed_typed (clean && is_quiet left) right h.1.1))
-keyed_typed clean (project below items) h = (h.0, keyed_typed clean below h.1)
+keyed_typed clean (project below items) h = absurd h
 
-abbrev All : List Condition → Type 0
-All cs = AllByRecursion AreTyped cs
-
-within_typed : (node : Node) (cs : List Condition) → All cs → All (within node cs)
-within_typed node cs h = all_filtered AreTyped (condition_names_only (owns node)) cs h
-
-beyond_typed : (node : Node) (cs : List Condition) → All cs → All (beyond node cs)
-beyond_typed node cs h = all_filtered AreTyped (λ c. Rattle.std.proofs.Common.not (condition_names_only (owns node) c)) cs h
-
-sifted_typed : (node : Node) (clean : Bool) (above : List Condition) → All above → IsTypedPlan node → IsTypedPlan (sifted clean above node)
-sifted_typed (scan entry table) clean above ha h = (ha, tt)
-sifted_typed (filter conjuncts below) clean above ha h =
-    let own : Bool = clean && is_quiet below in (
-      stayed_all AreTyped own conjuncts h.0,
-      sifted_typed below clean (moved own conjuncts ++ above) (all_joined AreTyped (moved own conjuncts) above (moved_all AreTyped own conjuncts h.0) ha) h.1,
-    )
-sifted_typed (join true left right on keys) clean above ha h = (
-  beyond_typed left above ha,
-  (h.0, (sifted_typed left clean (within left above) (within_typed left above ha) h.1.0, sifted_typed right (clean && is_quiet left) [] tt h.1.1)),
-)
-sifted_typed (join false left right on keys) clean above ha h =
-    let own : Bool = is_clean_on clean left right in
-    let down : List Condition = moved own on ++ above in
-    let hd : All down = all_joined AreTyped (moved own on) above (moved_all AreTyped own on h.0) ha in
-    let rest : All (beyond left down) = beyond_typed left down hd in (
-      all_joined AreTyped (beyond right (beyond left down)) (stayed own on) (beyond_typed right (beyond left down) rest) (stayed_all AreTyped own on h.0),
-      (
-        sifted_typed left clean (within left down) (within_typed left down hd) h.1.0,
-        sifted_typed right (clean && is_quiet left) (within right (beyond left down)) (within_typed right (beyond left down) rest) h.1.1,
-      ),
-    )
-sifted_typed (project below items) clean above ha h = (h.0, sifted_typed below clean above ha h.1)
-
--- ---- as they are written
-joins_typed : (entries : List Entry) (first next : ℕ) (node : Node) (joins : List Joined) → IsTypedPlan node → AreJoinsOver entries first next joins → IsTypedPlan (with_joins next node joins)
-joins_typed entries first next node [] p h = p
-joins_typed entries first next node (j ∷ joins) p h =
-    joins_typed entries first (next + 1) (join j.outer node (scan next j.entry.table) j.on []) joins
-    (all_weaker (IsConditionOver (IsReached entries first (next + 1))) AreTyped (λ c k. k.0) j.on h.0, (p, tt)) h.1
-
-sources_typed : (entries : List Entry) (next : ℕ) (node : Node) (sources : List Source) → IsTypedPlan node → AreSourcesOver entries next sources → IsTypedPlan (with_sources next node sources)
-sources_typed entries next node [] p h = p
-sources_typed entries next node (source ∷ sources) p h =
-    sources_typed entries (next + length (entries_in source)) (join false node (source_written next source) [] []) sources
-    (tt, (p, joins_typed entries next (next + 1) (scan next source.first.table) source.joins tt h.0)) h.1
-
-from_typed : (entries : List Entry) (sources : List Source) → AreSourcesOver entries 0 sources → IsTypedPlan (from_written sources)
-from_typed entries [] h = tt
-from_typed entries (source ∷ sources) h =
-    sources_typed entries (length (entries_in source)) (source_written 0 source) sources (joins_typed entries 0 1 (scan 0 source.first.table) source.joins tt h.0)
-    (subst (λ (n : ℕ). AreSourcesOver entries n sources) (omega arith) h.1)
-
-written_typed : (query : Specification) → IsSpecification query → IsTypedPlan (written query)
-written_typed query h =
-    let entries = entries_of query.sources in (
-      all_weaker (IsItemOver (IsColumnOf entries)) IsValued (λ e k. k.0) query.items h.items,
-      (all_weaker (IsConditionOver (IsColumnOf entries)) AreTyped (λ c k. k.0) query.conjuncts h.conjuncts, from_typed entries query.sources h.sources),
-    )
+clauses_typed : (query : Specification) → IsSpecification query → AllByRecursion AreTyped (conjuncts_on query.sources ++ query.conjuncts)
+clauses_typed query h =
+    let P : Condition → Type 0 = IsConditionOver (IsColumnOf (entries_of query.sources)) in
+    all_weaker P AreTyped (λ c k. k.0) (conjuncts_on query.sources ++ query.conjuncts) (all_joined P (conjuncts_on query.sources) query.conjuncts (sources_over (entries_of query.sources) 0 query.sources h.sources) h.conjuncts)
 
 pub placed_typed : (query : Specification) (node : Node) → IsSpecification query → IsWellPlaced query node → AreTypedPipelines (pipelines node)
 placed_typed query node h placed =
+    let from : Node = filter query.conjuncts (from_written query.sources) in
     subst (λ (n : Node). AreTypedPipelines (pipelines n)) (sym placed)
-    (pipelines_typed (keyed true (sifted true [] (written query))) (keyed_typed true (sifted true [] (written query)) (sifted_typed (written query) true [] tt (written_typed query h))))
+    (pipelines_typed (keyed true (sifted true [] (written query))) (
+      all_weaker (IsItemOver (IsColumnOf (entries_of query.sources))) IsValued (λ e k. k.0) query.items h.items,
+      keyed_typed true (sifted true [] from) (sifted_all AreTyped from true [] tt (clauses_all AreTyped query (clauses_typed query h))),
+    ))

@@ -25,7 +25,7 @@ use Rattle.qw_physical.specs.declared.pipeline.ReadColumn.{ReadColumn}
 use Rattle.qw_leaves.proofs.LeafLemmas.{columns_both}
 use Rattle.qw_leaves.proofs.LeafLists.{all_back, all_front, all_joined}
 use Rattle.qw_physical.proofs.Outcomes.{below, last_is, ready_below}
-use Rattle.qw_physical.proofs.Placed.{AllConjuncts, from_all, keyed_all, sifted_all}
+use Rattle.qw_physical.proofs.Conjuncts.{AllConjuncts, placed_all}
 use Rattle.qw_physical.proofs.PlanSeen.{builds_see, last_sees}
 use Rattle.qw_physical.proofs.Shown.{IsAmong, IsSeen, Sees, Shows, ShowsIn, among_owned, of_entry, owned}
 use Rattle.qw_physical.proofs.Typing.{tests_columns, values_columns}
@@ -111,9 +111,7 @@ module _ (query : Specification) (tables : List (List (List Val))) (columns : Li
   plan = below query tables columns planned.specification planned.loaded planned.sized planned.read planned.scaled
 
   plan_shown : AllConjuncts (ShowsIn columns) plan
-  plan_shown =
-      let P : Condition → Type 0 = ShowsIn columns in
-      keyed_all P (sifted true [] (filter query.conjuncts (from_written query.sources))) true (sifted_all P (filter query.conjuncts (from_written query.sources)) true [] tt (conjuncts, from_all P query.sources on))
+  plan_shown = placed_all (ShowsIn columns) query (all_joined (ShowsIn columns) (conjuncts_on query.sources) query.conjuncts on conjuncts)
 
   plan_names : NamesBelow plan
   plan_names = placed_below query (project plan query.items) planned.specification refl

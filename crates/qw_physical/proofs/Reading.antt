@@ -366,10 +366,6 @@ pub if_ok : {X E : Type 0} (r : Result X E) (P Q : X → Type 0) → ((x : X) �
 if_ok (Ok x) P Q f h = f x h
 if_ok (Err e) P Q f h = h
 
-pub if_ok_both : {X E : Type 0} (r : Result X E) (P R Q : X → Type 0) → ((x : X) → P x → R x → Q x) → IfOk r P → IfOk r R → IfOk r Q
-if_ok_both (Ok x) P R Q f h k = f x h k
-if_ok_both (Err e) P R Q f h k = h
-
 pub on_ok : {X E : Type 0} (r : Result X E) (P Q : Type 0) → (P → Q) → OnOk r P → OnOk r Q
 on_ok (Ok x) P Q f h = f h
 on_ok (Err e) P Q f h = h
@@ -377,10 +373,6 @@ on_ok (Err e) P Q f h = h
 -- ---- what was read of a query
 pub declared_of : (entries : List Entry) (all : List (List ColumnType)) (cs : List ReadColumn) → all ≡ columns_of_entries entries → AllByRecursion (IsDeclared all) cs → AllByRecursion (IsDeclared (columns_of_entries entries)) cs
 declared_of entries all cs is h = subst (λ (l : List (List ColumnType)). AllByRecursion (IsDeclared l) cs) is h
-
-pub once_reads : (query : QueryParts) (all : List (List ColumnType)) (named : List ℕ) (cs : List ReadColumn) → IsSpecification (query_of query) → all ≡ columns_of_entries (entries_of (query_of query).sources) → named ≡ columns_of_query query →
-    numbers cs ≡ and_columns [] named → AllByRecursion (IsDeclared all) cs → ReadsAll query cs
-once_reads query all named cs h is same ns declared = reads_all query cs h (ns ∙ ap (and_columns []) same) (declared_of (entries_of (query_of query).sources) all cs is declared)
 
 pub named_there : (query : QueryParts) (all : List (List ColumnType)) (named : List ℕ) → IsSpecification (query_of query) → all ≡ columns_of_entries (entries_of (query_of query).sources) → named ≡ columns_of_query query → AllByRecursion (HasColumn all) named
 named_there query all named h is same =

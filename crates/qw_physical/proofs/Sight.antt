@@ -50,7 +50,7 @@ module _ (test : ℕ → Bool) where
         ap₂ (λ (q : Result Bool Code) (x : Flow (List Val)). if is_same_row key (take (length p.key) entry) then flow_by q (where_true x) else nothing)
         (passes_agrees test (pair_of p r entry) (pair_of p s entry) same p.on names) (w (pair_of p r entry) (pair_of p s entry) same)
 
-    meets_sees : (p : Probe) (key : List Val) → NamesOnly test p.on → (r s : List Val) → Agree r s → (entry : List Val) → meets p r key entry ≡ meets p s key entry
+    pub meets_sees : (p : Probe) (key : List Val) → NamesOnly test p.on → (r s : List Val) → Agree r s → (entry : List Val) → meets p r key entry ≡ meets p s key entry
     meets_sees p key names r s h entry =
         ap (λ (q : Result Bool Code). is_same_row key (take (length p.key) entry) && isnt_failed q)
         (passes_agrees test (pair_of p r entry) (pair_of p s entry) (merged_agree r s (row_of p.kept (drop (length p.key) entry)) (row_of p.kept (drop (length p.key) entry)) h (λ i t. refl)) p.on names)

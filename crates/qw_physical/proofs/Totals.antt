@@ -87,3 +87,16 @@ none_counted test (x ∷ xs) h = one (test x) (none_counted test xs) h
         → (if b then 1 else 0) + total (λ y. if test y then 1 else 0) xs ≡ 0
     one true rest g = absurd cc
     one false rest g = let none = rest g in omega (arith, none)
+
+-- ---- sums, with one more in front
+pub zero_and : (c : ℕ) → c ≡ 0 + c
+zero_and c = omega arith
+
+pub zero_and_two : (c d : ℕ) → c + d ≡ 0 + c + d
+zero_and_two c d = omega arith
+
+pub later_cost : (c whole a b : ℕ) → whole ≡ a + b → c + whole ≡ (c + a) + b
+later_cost c whole a b e = omega (arith, e)
+
+pub later_costs : (c whole a b d : ℕ) → whole ≡ a + b + d → c + whole ≡ (c + a) + b + d
+later_costs c whole a b d e = omega (arith, e)
