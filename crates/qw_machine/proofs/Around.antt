@@ -4,12 +4,12 @@ use Rattle.qw_module.specs.declared.instruction.ValType.{ValType}
 use Rattle.qw_module.specs.declared.module.Module.{Module}
 use Rattle.qw_module.specs.Syntax.{Code}
 use Rattle.qw_module.specs.Typing.{scope_of, Typed}
-use Rattle.qw_module.specs.Soundness.{AreOf, AreGlobalsOf}
+use Rattle.qw_module.specs.Soundness.{AreOf}
 use Rattle.qw_module.specs.Validity.{outside_of}
 use Rattle.qw_machine.specs.Inner.Points.{Point, code_at, instructions_at, base_of, floor_of, contexts_of, store_with, config_at, at_index}
 use Rattle.qw_machine.specs.declared.room.Rooms.{Rooms}
-use Rattle.qw_machine.specs.Inner.Rooms.{locals_of, HasRoom}
-use Rattle.qw_machine.specs.Inner.Placed.{AreAwaiting, StaysAt, IsPoint}
+use Rattle.qw_machine.specs.Inner.Rooms.{HasRoom}
+use Rattle.qw_machine.specs.Inner.Placed.{AreAwaiting, HasLocals, StaysAt, IsPoint}
 use Rattle.qw_module.proofs.TypedOperands.{first_of_types}
 use Rattle.qw_machine.proofs.Points.{config_at-split}
 use Rattle.qw_machine.proofs.Stays.{begins-within, needed_below-some}
@@ -23,11 +23,8 @@ pub record IsAround (m : Module) (rooms : Rooms) (p : Point) (own below : List �
   pub operands_are : p.operands ≡ own ++ below
   pub below_are : length below ≡ base_of p.awaiting
   pub own_are : AreOf own types
-  pub first_in : p.first_local ≤ length p.locals
-  pub locals_are : AreOf (drop p.first_local p.locals) locals
-  pub all_locals : length locals ≡ locals_of m p.function
-  pub globals_are : AreGlobalsOf p.globals ((outside_of m).globals)
-  pub floor_is : p.floor ≡ floor_of p.awaiting
+  pub has_locals : HasLocals m p.function p.first_local p.floor (floor_of p.awaiting) p.locals p.globals locals
+  pub open has_locals use *
   pub index_in : p.index < length (instructions_at m p.function p.sequence)
   pub fits : length own ≤ operands_most
   pub room : HasRoom m rooms p.function p.sequence (length below + operands_most) (length p.awaiting + labels_most) p.first_local
@@ -43,11 +40,7 @@ module _ {m : Module} {rooms : Rooms} {p : Point} (is : IsPoint m rooms p) (insi
     operands_are = is.operands_are;
     below_are = is.below_are;
     own_are = is.own_are;
-    first_in = is.first_in;
-    locals_are = is.locals_are;
-    all_locals = is.all_locals;
-    globals_are = is.globals_are;
-    floor_is = is.floor_is;
+    has_locals = is.has_locals;
     index_in = inside;
     fits = own_fits;
     room = is.room;
@@ -67,11 +60,7 @@ module _ {m : Module} {rooms : Rooms} {p : Point} (is : IsPoint m rooms p) (insi
           operands_are = cc same;
           below_are = is.below_are;
           own_are = first.4;
-          first_in = is.first_in;
-          locals_are = is.locals_are;
-          all_locals = is.all_locals;
-          globals_are = is.globals_are;
-          floor_is = is.floor_is;
+          has_locals = is.has_locals;
           index_in = inside;
           fits = omega (arith, more, own_fits);
           room = is.room;
@@ -117,11 +106,7 @@ module _ {m : Module} {rooms : Rooms} {p : Point} {own below : List ℕ} {locals
     operands_are = around.operands_are;
     below_are = around.below_are;
     own_are = around.own_are;
-    first_in = around.first_in;
-    locals_are = around.locals_are;
-    all_locals = around.all_locals;
-    globals_are = around.globals_are;
-    floor_is = around.floor_is;
+    has_locals = around.has_locals;
     typed = typed;
     index_in = omega (arith, around.index_in);
     operands_most = operands_most;

@@ -13,12 +13,12 @@ use Rattle.qw_module.specs.Syntax.{Code, done, code_of, IsNumbered}
 use Rattle.qw_module.specs.Execution.{label, settled}
 use Rattle.qw_module.specs.Typing.{Signature, Scope, scope_of, Typed, typed-done}
 use Rattle.qw_valid.specs.Heights.{StaysWithin, AreHeightsOf}
-use Rattle.qw_module.specs.Soundness.{AreOf, AreGlobalsOf, IsClosureOf}
+use Rattle.qw_module.specs.Soundness.{IsClosureOf}
 use Rattle.qw_module.specs.Start.{closure_of, body_of}
 use Rattle.qw_module.specs.Validity.{outside_of, function_scope, IsValidType, IsValid}
 use Rattle.qw_machine.specs.Inner.Points.{code_at, instructions_at, Point, base_of, floor_of, contexts_of, store_with, state_at, in_body, has_result}
-use Rattle.qw_machine.specs.Inner.Rooms.{bounds_of, locals_of, needed_below, HasRoom}
-use Rattle.qw_machine.specs.Inner.Placed.{IsExecuted, AreAwaiting, StaysAt, IsPoint}
+use Rattle.qw_machine.specs.Inner.Rooms.{bounds_of, needed_below, HasRoom}
+use Rattle.qw_machine.specs.Inner.Placed.{IsExecuted, AreAwaiting, StaysAt, IsPoint, HasLocals}
 use Rattle.qw_machine.proofs.Begins.{signature_is}
 use Rattle.qw_machine.proofs.Functions.{typed_function, body_is, numbered-of}
 use Rattle.qw_machine.proofs.ListFacts.{above-append, under-append}
@@ -67,11 +67,7 @@ body-room m rooms heights number below depth first_local have valid inside opera
 
 -- ---- an own function of a module that is executed, over operands and locals that are its own
 pub record IsBegun (m : Module) (rooms : Rooms) (q : Point) (number : ℕ) (function : Function) (signature : Signature) (closure : IsClosureOf (outside_of m) (closure_of m function) signature) : Type 0 where
-  pub first_in : q.first_local ≤ length q.locals
-  pub locals_are : AreOf (drop q.first_local q.locals) (signature.params ++ closure.declared)
-  pub all_locals : length (signature.params ++ closure.declared) ≡ locals_of m number
-  pub globals_are : AreGlobalsOf q.globals ((outside_of m).globals)
-  pub floor_is : q.floor ≡ floor_of q.awaiting
+  pub has_locals : HasLocals m number q.first_local q.floor (floor_of q.awaiting) q.locals q.globals (signature.params ++ closure.declared)
   pub base_is : length q.operands ≡ base_of q.awaiting
   pub operands_most : ℕ
   pub labels_most : ℕ
@@ -130,11 +126,7 @@ module _ (m : Module) (executed : IsExecuted m) (rooms : Rooms) (q : Point) (num
     operands_are = refl;
     below_are = refl;
     own_are = tt;
-    first_in = is.first_in;
-    locals_are = is.locals_are;
-    all_locals = is.all_locals;
-    globals_are = is.globals_are;
-    floor_is = is.floor_is;
+    has_locals = is.has_locals;
     typed = body_typed;
     index_in = omega arith;
     operands_most = is.operands_most;

@@ -324,11 +324,13 @@ module _ (m : Module) (executed : IsExecuted m) {rooms : Rooms} {p : Point} (is 
 
       called-begun : IsBegun m rooms q number function signature closure_is
       called-begun = record {
-        first_in = omega (arith, ap length split_locals, length-append p.locals values);
-        locals_are = new_locals-are;
-        all_locals = omega (arith, length-append signature.params closure_is.declared, closure_is.params_are, closure_is.declared_are, needs-locals);
-        globals_are = is.globals_are;
-        floor_is = refl;
+        has_locals = record {
+          first_in = omega (arith, ap length split_locals, length-append p.locals values);
+          locals_are = new_locals-are;
+          all_locals = omega (arith, length-append signature.params closure_is.declared, closure_is.params_are, closure_is.declared_are, needs-locals);
+          globals_are = is.globals_are;
+          floor_is = refl;
+        };
         base_is = refl;
         operands_most = (bounds_of heights number).operands;
         labels_most = (bounds_of heights number).labels;

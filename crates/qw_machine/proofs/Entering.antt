@@ -72,11 +72,7 @@ module _ {m : Module} {rooms : Rooms} {p : Point} {own below : List ℕ} {locals
       operands_are = refl;
       below_are = refl;
       own_are = tt;
-      first_in = around.first_in;
-      locals_are = around.locals_are;
-      all_locals = around.all_locals;
-      globals_are = around.globals_are;
-      floor_is = around.floor_is;
+      has_locals = around.has_locals;
       typed = is.inner_typed;
       index_in = omega arith;
       operands_most = operands_most - length own;

@@ -1,5 +1,5 @@
 -- Operators that follow one another: what they work on is held apart from the point.
-use Rattle.std.proofs.Common.{◌≡◌, ℕ, ◌+◌, ◌-◌, ◌<◌, ◌≤◌, List, ◌++◌, length, take, drop, Some, slice_get, get_or, refl, sym, ap, subst, ◌∙◌, arith}
+use Rattle.std.proofs.Common.{◌≡◌, ℕ, ◌+◌, ◌<◌, ◌≤◌, List, ◌++◌, length, take, drop, Some, slice_get, get_or, refl, sym, ap, subst, ◌∙◌}
 use Rattle.std.proofs.lemmas.List.{take-append-drop}
 use Rattle.std.proofs.lemmas.Option.{slice_get-get_or}
 use Rattle.qw_module.specs.declared.instruction.Instr.{Instr}
@@ -8,17 +8,16 @@ use Rattle.qw_module.specs.declared.instruction.Op.{Op}
 use Rattle.qw_module.specs.declared.module.Module.{Module}
 use Rattle.qw_machine.specs.declared.operators.Operated.{Operated}
 use Rattle.qw_machine.specs.declared.room.Rooms.{Rooms}
-use Rattle.qw_machine.specs.declared.stepped.Run.{Run}
 use Rattle.qw_machine.specs.declared.stepped.Stepped.TheVariants.{Ran}
 use Rattle.qw_module.specs.Step.{op_wants}
 use Rattle.qw_machine.specs.Inner.Activities.{IsDoneAt, IsFollowed, IsRun}
 use Rattle.qw_machine.specs.Inner.Ended.{answer_of}
 use Rattle.qw_machine.specs.Inner.Operated.{CanOperate, Held, IsDone}
-use Rattle.qw_machine.specs.Inner.Placed.{IsPoint, IsRunning}
+use Rattle.qw_machine.specs.Inner.Placed.{IsPoint}
 use Rattle.qw_machine.specs.Inner.Points.{Point, instructions_at, with_held}
 use Rattle.qw_machine.proofs.ListFacts.{take-front, drop-front}
 use Rattle.qw_machine.proofs.Operated.{operator-ready, executed-operator}
-use Rattle.qw_machine.proofs.Runs.{run-after, run-operator}
+use Rattle.qw_machine.proofs.Runs.{run-operator}
 
 module _ (m : Module) (rooms : Rooms) (p : Point) (first_in : p.first_local ≤ length p.locals) (index : ℕ) (operands globals locals : List ℕ)
     (is : IsPoint m rooms (with_held p index operands globals locals)) (operator : Op)
@@ -72,27 +71,3 @@ module _ (m : Module) (rooms : Rooms) (p : Point) (sequence : List Instr) (first
 -- a point with what it holds is itself
 pub held-own : (p : Point) → with_held p p.index p.operands p.globals (drop p.first_local p.locals) ≡ p
 held-own p = ap (λ (xs : List ℕ). record p { locals = xs }) (take-append-drop p.first_local p.locals)
-
--- where it runs later, what it holds then is held apart in the same way
-pub followed-on : (m : Module) (rooms : Rooms) (p : Point) (sequence : List Instr) (first index room now_room : ℕ) (operands globals locals : List ℕ) (now : Held) →
-    IsFollowed m rooms sequence p first room operands globals locals → now_room ≡ room → IsRunning m rooms (with_held p index now.operands now.globals now.locals) →
-    IsFollowed m rooms sequence p index now_room now.operands now.globals now.locals
-followed-on m rooms p sequence first index room now_room operands globals locals now start same running = record {
-  instructions = start.instructions;
-  first_in = start.first_in;
-  room_is = start.room_is ∙ sym same;
-  running = running;
-}
-
--- steps from an index on after those from the first one
-pub followed-more : (m : Module) (rooms : Rooms) (p : Point) (first end index : ℕ) (operands globals locals : List ℕ) (spare : ℕ) (memory : List ℕ) (now after : Held) (more : Run) →
-    first ≤ index →
-    IsRun m rooms spare (end - first) (with_held p first operands globals locals) memory (record { steps = index - first; last = Ran }) (with_held p index now.operands now.globals now.locals) now.memory →
-    IsRun m rooms spare (end - index) (with_held p index now.operands now.globals now.locals) now.memory more
-    (with_held p (index + more.steps) after.operands after.globals after.locals) after.memory →
-    IsRun m rooms spare (end - first) (with_held p first operands globals locals) memory (record { steps = index + more.steps - first; last = more.last })
-    (with_held p (index + more.steps) after.operands after.globals after.locals) after.memory
-followed-more m rooms p first end index operands globals locals spare memory now after more later run next =
-    run-after m rooms spare (end - first) (with_held p first operands globals locals) memory (index - first) (end - index) (index + more.steps - first)
-    (with_held p index now.operands now.globals now.locals) (with_held p (index + more.steps) after.operands after.globals after.locals) now.memory after.memory more rooms refl
-    run next (omega (arith, later)) (omega (arith, later, run.few))

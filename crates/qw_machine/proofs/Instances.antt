@@ -31,8 +31,7 @@ state_after-running (Some end) runs s = absurd (false≢true (sym runs))
 over-is : (end : Option RunEnd) → is_some end ≡ true → (s : State) → IsOver (state_after end s)
 over-is None over s = absurd (false≢true over)
 over-is (Some end.Returned) over s = tt
-over-is (Some (end.Raised code)) over s = tt
-over-is (Some (end.Trapped why)) over s = tt
+over-is _ over s = tt
 
 pub over-not-running : (i : Inside) → is_some i.ended ≡ true → (c : Config) → state_of i ≡ Running c → ⊥
 over-not-running i over c same = subst IsOver same (over-is i.ended over (state_at i.valid (point_of i.activity)))

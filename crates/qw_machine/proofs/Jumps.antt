@@ -12,7 +12,7 @@ use Rattle.qw_module.specs.Execution.{Store, State, settled, branched}
 use Rattle.qw_module.specs.Soundness.{AreOf}
 use Rattle.qw_machine.specs.Inner.Points.{code_at, Point, base_of, floor_of, under, contexts_of, store_with, state_at}
 use Rattle.qw_machine.specs.declared.room.Rooms.{Rooms}
-use Rattle.qw_machine.specs.Inner.Placed.{AreAwaiting, IsEntry, IsPoint}
+use Rattle.qw_machine.specs.Inner.Placed.{AreAwaiting, HasLocals, IsEntry, IsPoint}
 use Rattle.qw_machine.specs.Inner.Activities.{CanJump, IsJump}
 use Rattle.qw_module.proofs.Sound.{AreOf-length, AreOf-take}
 use Rattle.qw_machine.proofs.ListFacts.{above-append, under-append, kept-append}
@@ -143,8 +143,8 @@ module _ {m : Module} {rooms : Rooms} {p : Point} {own below : List ℕ} {locals
       let f = found_label in
       let e = f.is_entry in
       let left : AreOf (take (length taken) own) e.taken = rw f.taken_is (AreOf-take own taken more own_are) in
-      entry-point (record p { operands = (take (length taken) own ++ e.own) ++ e.below }) (take (length taken) own) e.taken left around.globals_are e f.entry.target e.target_typed e.target_in e.target_within
-      f.awaiting_are around.first_in around.locals_are around.all_locals (around.floor_is ∙ f.floor_is) refl
+      entry-point (record p { operands = (take (length taken) own ++ e.own) ++ e.below }) (take (length taken) own) e.taken left e f.entry.target e.target_typed e.target_in e.target_within
+      f.awaiting_are (subst (λ (n : ℕ). HasLocals m p.function p.first_local p.floor n p.locals p.globals locals) f.floor_is around.has_locals) refl
 
   -- a branch leads to a point, and the configuration's branch to what that stands for
   pub jumped-point : (q : Point) → IsJump index p q → IsPoint m rooms q

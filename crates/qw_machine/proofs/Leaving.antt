@@ -42,8 +42,8 @@ module _ (m : Module) (rooms : Rooms) (p : Point) (entry : Entry) (rest : List A
   after_label-point : IsPoint m rooms (after_label p entry rest)
   after_label-point =
       let e = is.awaiting.0 in
-      entry-point p is.own is.ends (leaves m rooms (record p { awaiting = Label entry ∷ rest }) ended is) is.globals_are e entry.after e.after_typed e.after_in e.after_within
-      is.awaiting.1 is.first_in is.locals_are is.all_locals is.floor_is label_operands
+      entry-point p is.own is.ends (leaves m rooms (record p { awaiting = Label entry ∷ rest }) ended is) e entry.after e.after_typed e.after_in e.after_within
+      is.awaiting.1 is.has_locals label_operands
 
   after_label-state : state_at m (record p { awaiting = Label entry ∷ rest }) ≡ state_at m (after_label p entry rest)
   after_label-state =
@@ -63,7 +63,7 @@ module _ (m : Module) (rooms : Rooms) (p : Point) (caller : Frame) (rest : List 
   after_call-point : IsPoint m rooms (after_call p caller rest)
   after_call-point =
       let left : AreOf is.own is.results = subst (λ (types : List ValType). AreOf is.own types) is.awaiting.1 (leaves m rooms (record p { awaiting = Call caller ∷ rest }) ended is) in
-      caller-point p is.own is.results left is.globals_are is.awaiting.2 is.awaiting.3 call_operands
+      caller-point p is.own is.results left is.awaiting.2 is.awaiting.3 is.globals_are call_operands
 
   after_call-state : state_at m (record p { awaiting = Call caller ∷ rest }) ≡ state_at m (after_call p caller rest)
   after_call-state =

@@ -42,21 +42,14 @@ ready Nop globals own below values has = tt
 ready Drop globals own below values has = rw (has.2) (omega arith)
 ready Select globals own below values has = rw (has.4) (omega arith)
 ready (LocalGet x) globals own below values has = has
-ready (LocalSet x) globals own below values has = rw (has.2) (omega arith, has.3)
-ready (LocalTee x) globals own below values has = rw (has.2) (omega arith, has.3)
 ready (GlobalGet x) globals own below values has = has
-ready (GlobalSet x) globals own below values has = rw (has.2) (omega arith, has.3)
 ready (o.Const n) globals own below values has = tt
-ready (o.Unary t u) globals own below values has = rw (has.2) (omega arith, has.3)
 ready (o.Binary t b) globals own below values has = rw (has.3) (omega arith, has.4, has.5)
 ready (o.Division t d) globals own below values has = rw (has.3) (omega arith, has.4, has.5)
-ready (Eqz t) globals own below values has = rw (has.2) (omega arith, has.3)
 ready (o.Relation t r) globals own below values has = rw (has.3) (omega arith, has.4, has.5)
-ready (Convert v) globals own below values has = rw (has.2) (omega arith, has.3)
-ready (o.Load l arg) globals own below values has = rw (has.2) (omega arith, has.3)
 ready (o.Store s arg) globals own below values has = rw (has.3) (omega arith, has.5)
 ready MemorySize globals own below values has = tt
-ready MemoryGrow globals own below values has = rw (has.2) (omega arith, has.3)
+ready _ globals own below values has = rw (has.2) (omega arith, has.3)
 
 -- what is wanted over more operands below
 abbrev over : List ℕ → OpWant → OpWant
@@ -80,7 +73,6 @@ leaves-over (Err why) own below values = refl
 wants-over : (operator : Op) (globals own below values : List ℕ) → HasFor operator globals own values →
     op_wants operator globals (own ++ below) values ≡ over below (op_wants operator globals own values)
 wants-over Nop globals own below values has = refl
-wants-over Drop globals own below values has = rw (has.2) refl
 wants-over Select globals own below values has = rw (has.4) refl
 wants-over (LocalGet x) globals own below values has = pushes-over (slice_get values x) own below values
 wants-over (LocalSet x) globals own below values has = rw (has.2, lt-ltb x (length values) has.3) refl
@@ -88,16 +80,12 @@ wants-over (LocalTee x) globals own below values has = rw (has.2, lt-ltb x (leng
 wants-over (GlobalGet x) globals own below values has = pushes-over (slice_get globals x) own below values
 wants-over (GlobalSet x) globals own below values has = rw (has.2, lt-ltb x (length globals) has.3) refl
 wants-over (o.Const n) globals own below values has = refl
-wants-over (o.Unary t u) globals own below values has = rw (has.2) refl
 wants-over (o.Binary t b) globals own below values has = rw (has.3) refl
 wants-over (o.Division t d) globals own below values has = rw (has.3) (leaves-over (division t d has.1 has.0) has.2 below values)
-wants-over (Eqz t) globals own below values has = rw (has.2) refl
 wants-over (o.Relation t r) globals own below values has = rw (has.3) refl
-wants-over (Convert v) globals own below values has = rw (has.2) refl
-wants-over (o.Load l arg) globals own below values has = rw (has.2) refl
 wants-over (o.Store s arg) globals own below values has = rw (has.3) refl
 wants-over MemorySize globals own below values has = refl
-wants-over MemoryGrow globals own below values has = rw (has.2) refl
+wants-over _ globals own below values has = rw (has.2) refl
 
 -- a point whose code begins with such an instruction
 module _ {m : Module} {rooms : Rooms} (spare : ℕ) {p : Point} (is : IsPoint m rooms p) {operator : Op}
@@ -165,11 +153,13 @@ module _ {m : Module} {rooms : Rooms} (spare : ℕ) {p : Point} (is : IsPoint m 
         operands_are = refl;
         below_are = is.below_are;
         own_are = are;
-        first_in = omega (arith, length-append (take p.first_local p.locals) locals, length-take-le p.first_local p.locals is.first_in);
-        locals_are = rw inner are_locals;
-        all_locals = is.all_locals;
-        globals_are = are_globals;
-        floor_is = is.floor_is;
+        has_locals = record {
+          first_in = omega (arith, length-append (take p.first_local p.locals) locals, length-take-le p.first_local p.locals is.first_in);
+          locals_are = rw inner are_locals;
+          all_locals = is.all_locals;
+          globals_are = are_globals;
+          floor_is = is.floor_is;
+        };
         typed = op_is.2;
         index_in = omega (arith, within);
         operands_most = is.operands_most;

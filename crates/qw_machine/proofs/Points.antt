@@ -1,8 +1,7 @@
 -- What a point stands for, by its own operands and those below, and the code at an index.
-use Rattle.std.proofs.Common.{◌≡◌, ◌≢◌, ℕ, ◌+◌, ◌<◌, List, ◌∷◌, ◌++◌, length, get_or, drop, take, Option, None, Some, slice_get, refl, sym, ap, ◌∙◌}
+use Rattle.std.proofs.Common.{◌≡◌, ◌≢◌, ℕ, ◌+◌, ◌<◌, List, ◌∷◌, ◌++◌, length, get_or, drop, take, None, Some, slice_get, refl, sym, ap, ◌∙◌}
 use Rattle.std.proofs.Math.Seq.{drop-length}
 use Rattle.std.proofs.lemmas.Option.{slice_get-get_or}
-use Rattle.qw_module.specs.declared.instruction.ValType.{ValType}
 use Rattle.qw_module.specs.declared.instruction.Instr.{Instr}
 use Rattle.qw_module.specs.declared.instruction.Instr.TheVariants as i
 use Rattle.qw_module.specs.declared.module.Module.{Module}
@@ -57,22 +56,9 @@ config_at-split m p own below are base =
     rw (are, above-append (base_of p.awaiting) own below base, under-append (base_of p.awaiting) own below base) refl
 
 -- ---- before the end of its sequence a point stands for its configuration
-if_nested-more : (labels : List ℕ) (name : ℕ → Code) (result : Option ValType) (then_body : ℕ) (else_body : Option ℕ) (rest : List Instr) →
-    nested labels name (i.If result then_body else_body ∷ rest) ≢ done
-if_nested-more labels name result then_body None rest e = cc
-if_nested-more labels name result then_body (Some number) rest e = cc
-
 nested-more : (labels : List ℕ) (name : ℕ → Code) (instruction : Instr) (rest : List Instr) → nested labels name (instruction ∷ rest) ≢ done
-nested-more labels name (i.Op o) rest e = cc
-nested-more labels name i.Unreachable rest e = cc
-nested-more labels name (i.Block result body) rest e = cc
-nested-more labels name (i.Loop result body) rest e = cc
-nested-more labels name (i.If result then_body else_body) rest e = if_nested-more labels name result then_body else_body rest e
-nested-more labels name (i.Br label) rest e = cc
-nested-more labels name (i.BrIf label) rest e = cc
-nested-more labels name (i.BrTable first count default) rest e = cc
-nested-more labels name i.Return rest e = cc
-nested-more labels name (i.Call index) rest e = cc
+nested-more labels name (i.If result then_body None) rest e = cc
+nested-more labels name _ rest e = cc
 
 code_in-unfinished : (sequences : Sequences) (number index : ℕ) → index < length (sequence_at sequences number) → code_in sequences number index ≢ done
 code_in-unfinished sequences number index inside ended =

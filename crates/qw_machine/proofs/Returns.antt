@@ -138,7 +138,7 @@ module _ {m : Module} {rooms : Rooms} {p : Point} {own below : List ℕ} {locals
   target_point-is : IsPoint m rooms target_point
   target_point-is =
       let f = frame in
-      caller-point (record p { operands = (take (length results) own ++ f.is_caller.own) ++ f.is_caller.below }) (take (length results) own) results (AreOf-take own results more own_are) around.globals_are f.is_caller f.awaiting_are refl
+      caller-point (record p { operands = (take (length results) own ++ f.is_caller.own) ++ f.is_caller.below }) (take (length results) own) results (AreOf-take own results more own_are) f.is_caller f.awaiting_are around.globals_are refl
 
   -- a return leads to a point, and the configuration's return to what that stands for
   pub returned-point : (q : Point) → IsReturn p q → IsPoint m rooms q

@@ -120,11 +120,13 @@ module _ (m : Module) (number : ℕ) (function : Function) (executed : IsExecute
 
       run-begun : IsBegun m rooms before number function raise_signature closure
       run-begun = record {
-        first_in = omega arith;
-        locals_are = run_values;
-        all_locals = omega (arith, closure.declared_are, run_locals);
-        globals_are = first_globals-are m executed.valid;
-        floor_is = refl;
+        has_locals = record {
+          first_in = omega arith;
+          locals_are = run_values;
+          all_locals = omega (arith, closure.declared_are, run_locals);
+          globals_are = first_globals-are m executed.valid;
+          floor_is = refl;
+        };
         base_is = refl;
         operands_most = (bounds_of heights number).operands;
         labels_most = (bounds_of heights number).labels;

@@ -5,8 +5,8 @@ use Rattle.qw_module.specs.declared.instruction.ValType.{ValType}
 use Rattle.qw_module.specs.declared.instruction.Op.{Op}
 use Rattle.qw_module.specs.declared.module.Function.{Function}
 use Rattle.qw_module.specs.declared.module.Module.{Module}
-use Rattle.qw_module.specs.Syntax.{Code, done, op, unreachable, block, loop, if_then, if_else, br, br_if, br_table, return, call}
-use Rattle.qw_module.specs.Typing.{Signature, Scope, OpTyped, typed-nop, typed-drop, typed-select, typed-local_get, typed-local_set, typed-local_tee, typed-global_get, typed-global_set, typed-const, typed-unary, typed-binary, typed-division, typed-eqz, typed-relation, typed-convert, typed-load, typed-store, typed-size, typed-grow}
+use Rattle.qw_module.specs.Syntax.{Code, done, unreachable, br, br_table, return}
+use Rattle.qw_module.specs.Typing.{Signature, Scope, OpTyped, typed-nop}
 use Rattle.qw_valid.specs.Heights.{taken_by, left_by, parameters_at, results_at, StaysWithin, AreHeightsOf}
 use Rattle.qw_valid.specs.declared.heights.Heights.{Heights}
 use Rattle.qw_valid.specs.ModuleHeights.{HaveHeights}
@@ -15,17 +15,11 @@ use Rattle.qw_machine.specs.Inner.Rooms.{bounds_of, needed_below}
 -- it begins on no more operands than it has at most
 pub begins-within : (signatures : List Signature) (code : Code) (operands labels now : ℕ) → StaysWithin signatures operands labels code now → now ≤ operands
 begins-within signatures done a b now stays = stays
-begins-within signatures (op o rest) a b now stays = stays.0
 begins-within signatures (unreachable rest) a b now stays = stays
-begins-within signatures (block result inner rest) a b now stays = stays.0
-begins-within signatures (loop result inner rest) a b now stays = stays.0
-begins-within signatures (if_then result inner rest) a b now stays = stays.0
-begins-within signatures (if_else result inner other rest) a b now stays = stays.0
 begins-within signatures (br label rest) a b now stays = stays
-begins-within signatures (br_if label rest) a b now stays = stays.0
 begins-within signatures (br_table table default rest) a b now stays = stays
 begins-within signatures (return rest) a b now stays = stays
-begins-within signatures (call index rest) a b now stays = stays.0
+begins-within signatures _ a b now stays = stays.0
 
 -- the same of so many operands
 pub stays-on : (signatures : List Signature) (code : Code) (operands labels now other : ℕ) → now ≡ other → StaysWithin signatures operands labels code now →
@@ -36,24 +30,7 @@ stays-on signatures code a b now other same stays = subst (λ (n : ℕ). StaysWi
 pub length-op_typed : (scope : Scope) (operator : Op) (before after : List ValType) → OpTyped scope operator before after →
     length before - taken_by operator + left_by operator ≡ length after
 length-op_typed _ _ _ _ (typed-nop scope types) = omega arith
-length-op_typed _ _ _ _ (typed-drop scope types t) = omega arith
-length-op_typed _ _ _ _ (typed-select scope types t) = omega arith
-length-op_typed _ _ _ _ (typed-local_get scope types x t found) = omega arith
-length-op_typed _ _ _ _ (typed-local_set scope types x t found) = omega arith
-length-op_typed _ _ _ _ (typed-local_tee scope types x t found) = omega arith
-length-op_typed _ _ _ _ (typed-global_get scope types x g found) = omega arith
-length-op_typed _ _ _ _ (typed-global_set scope types x g found mutable) = omega arith
-length-op_typed _ _ _ _ (typed-const scope types k value) = omega arith
-length-op_typed _ _ _ _ (typed-unary scope types t u) = omega arith
-length-op_typed _ _ _ _ (typed-binary scope types t b) = omega arith
-length-op_typed _ _ _ _ (typed-division scope types t d) = omega arith
-length-op_typed _ _ _ _ (typed-eqz scope types t) = omega arith
-length-op_typed _ _ _ _ (typed-relation scope types t r) = omega arith
-length-op_typed _ _ _ _ (typed-convert scope types v) = omega arith
-length-op_typed _ _ _ _ (typed-load scope types l arg memory aligned) = omega arith
-length-op_typed _ _ _ _ (typed-store scope types s arg memory aligned) = omega arith
-length-op_typed _ _ _ _ (typed-size scope types memory) = omega arith
-length-op_typed _ _ _ _ (typed-grow scope types memory) = omega arith
+length-op_typed _ _ _ _ _ = omega arith
 
 -- how many operands a call takes and leaves, by the type that was found
 pub parameters-are : (signatures : List Signature) (index : ℕ) (signature : Signature) → slice_get signatures index ≡ Some signature →

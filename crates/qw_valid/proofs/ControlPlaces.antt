@@ -53,10 +53,7 @@ whole_below f a (b ∷ around) whole = whole.1
 taken_same : (f : Typing) (opener : Opener) (result : Option ValType) (below : List ValType) → (opener ≡ Body → types_of result ≡ f.results) →
     places.taken_by f (opened_of opener result below) ≡ taken_by opener result
 taken_same f Body result below is = sym (is refl)
-taken_same f Block result below is = refl
-taken_same f Loop result below is = refl
-taken_same f Then result below is = refl
-taken_same f Else result below is = refl
+taken_same f _ result below is = refl
 
 labels_same : (f : Typing) (around : List Around) (os : List Opened) → AreWhole f around → AreOpened around os → map (places.taken_by f) os ≡ map taken_in around
 labels_same f [] [] whole are = refl

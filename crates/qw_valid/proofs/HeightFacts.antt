@@ -1,11 +1,10 @@
 -- What sequences need is enough for the code that they stand for.
-use Rattle.std.proofs.Common.{◌≡◌, ℕ, ◌+◌, ◌-◌, ◌<◌, ◌≤◌, List, [], ◌∷◌, ◌++◌, length, drop, get_or, Some, None, refl, subst, ⊎_elim, arith}
-use Rattle.std.specs.Prelude.{max}
+use Rattle.std.proofs.Common.{◌≡◌, ℕ, ◌+◌, ◌-◌, ◌<◌, ◌≤◌, List, [], ◌∷◌, ◌++◌, length, Some, None, subst, ⊎_elim, arith}
 use Rattle.std.specs.List.{AllByRecursion}
 use Rattle.std.proofs.Math.Nat.{le_refl}
 use Rattle.std.proofs.Math.Seq.{get_or-append_seam}
 use Rattle.std.proofs.lemmas.Bool.{cases_eq}
-use Rattle.std.proofs.lemmas.List.{drop_all, drop_more, get_or_append_left}
+use Rattle.std.proofs.lemmas.List.{get_or_append_left}
 use Rattle.qw_module.specs.declared.instruction.Instr.{Instr}
 use Rattle.qw_module.specs.declared.instruction.Instr.TheVariants as i
 use Rattle.qw_module.specs.declared.module.Function.{Function}
@@ -17,7 +16,7 @@ use Rattle.qw_valid.specs.Heights.{taken_by, left_by, parameters_at, results_at,
 use Rattle.qw_module.specs.Validity.{code_of_body, outside_of, signature_in}
 use Rattle.qw_module.proofs.Numbered.{named-at}
 use Rattle.qw_valid.specs.declared.heights.Heights.{Heights}
-use Rattle.qw_valid.specs.Inner.Heights.{around, at_number, behind, holding, instruction_needs, needs, wider}
+use Rattle.qw_valid.specs.Inner.Heights.{at_number, holding, needs, wider}
 
 module _ (signatures : List Signature) where
   -- wider bounds do too
@@ -78,24 +77,6 @@ module _ (signatures : List Signature) where
     needs_within (i.Return ∷ rest) now a b names p q = omega (arith, p)
     needs_within (i.Call index ∷ rest) now a b names p q =
         (omega (arith, p), needs_within rest (now - parameters_at signatures index + results_at signatures index) a b names.1 (omega (arith, p)) (omega (arith, q)))
-
--- what is enough for three
-wider-wider : (a b c : Heights) → wider a (wider b c) ≡ wider (wider a b) c
-wider-wider a b c =
-    let first : max a.operands (max b.operands c.operands) ≡ max (max a.operands b.operands) c.operands = omega arith in
-    let second : max a.labels (max b.labels c.labels) ≡ max (max a.labels b.labels) c.labels = omega arith in
-    rw (first, second) refl
-
--- the first instruction of what is left of a sequence taken from it
-pub needs_more : (signatures : List Signature) (inner : ℕ → Heights) (sequence : List Instr) (index now : ℕ) (d : Instr) (most : Heights) → index < length sequence →
-    wider most (needs signatures inner (drop index sequence) now)
-    ≡ wider (wider most (instruction_needs inner (get_or sequence index d) now)) (needs signatures inner (drop (index + 1) sequence) (behind signatures (get_or sequence index d) now))
-needs_more signatures inner sequence index now d most h = rw (drop_more sequence index d h) (wider-wider most _ _)
-
--- nothing is left behind the last instruction
-pub needs_none : (signatures : List Signature) (inner : ℕ → Heights) (sequence : List Instr) (index now : ℕ) (most : Heights) → length sequence ≤ index →
-    wider most (needs signatures inner (drop index sequence) now) ≡ wider most (holding now)
-needs_none signatures inner sequence index now most h = rw (drop_all index sequence h) refl
 
 -- each sequence up to one stays within what is kept of it
 abbrev pub WithinBelow : List Signature → Sequences → List Heights → ℕ → Type 0

@@ -18,31 +18,14 @@ use Rattle.qw_valid.specs.Inner.Initial.{constant_operator, constant_instruction
 module _ (labels : List ℕ) (inner : ℕ → Code) where
   -- a sequence of some instructions has not ended
   goes_on : (x : Instr) (rest : List Instr) → nested labels inner (x ∷ rest) ≢ done
-  goes_on (i.Op operator) rest = λ e. cc
-  goes_on i.Unreachable rest = λ e. cc
-  goes_on (i.Block result body) rest = λ e. cc
-  goes_on (i.Loop result body) rest = λ e. cc
   goes_on (i.If result first None) rest = λ e. cc
-  goes_on (i.If result first (Some second)) rest = λ e. cc
-  goes_on (i.Br label) rest = λ e. cc
-  goes_on (i.BrIf label) rest = λ e. cc
-  goes_on (i.BrTable start count default) rest = λ e. cc
-  goes_on i.Return rest = λ e. cc
-  goes_on (i.Call index) rest = λ e. cc
+  goes_on _ rest = λ e. cc
 
   -- what a sequence begins with whose code is one constant
   begins : (x : Instr) (rest : List Instr) (v : Const) → nested labels inner (x ∷ rest) ≡ op (o.Const v) done → (x ≡ i.Op (o.Const v)) × (nested labels inner rest ≡ done)
   begins (i.Op operator) rest v e = (cc, cc)
-  begins i.Unreachable rest v e = absurd cc
-  begins (i.Block result body) rest v e = absurd cc
-  begins (i.Loop result body) rest v e = absurd cc
   begins (i.If result first None) rest v e = absurd cc
-  begins (i.If result first (Some second)) rest v e = absurd cc
-  begins (i.Br label) rest v e = absurd cc
-  begins (i.BrIf label) rest v e = absurd cc
-  begins (i.BrTable start count default) rest v e = absurd cc
-  begins i.Return rest v e = absurd cc
-  begins (i.Call index) rest v e = absurd cc
+  begins _ rest v e = absurd cc
 
   found : (sequence : List Instr) (v : Const) → nested labels inner sequence ≡ op (o.Const v) done → constant_in sequence ≡ Some v
   found [] v e = absurd cc
@@ -51,38 +34,12 @@ module _ (labels : List ℕ) (inner : ℕ → Code) where
 
   operator-is : (operator : Op) (v : Const) → constant_operator operator ≡ Some v → nested labels inner (i.Op operator ∷ []) ≡ op (o.Const v) done
   operator-is (o.Const value) v e = let same : value ≡ v = cc in ap (λ (k : Const). op (o.Const k) done) same
-  operator-is o.Nop v e = absurd cc
-  operator-is o.Drop v e = absurd cc
-  operator-is o.Select v e = absurd cc
-  operator-is (o.LocalGet x) v e = absurd cc
-  operator-is (o.LocalSet x) v e = absurd cc
-  operator-is (o.LocalTee x) v e = absurd cc
-  operator-is (o.GlobalGet x) v e = absurd cc
-  operator-is (o.GlobalSet x) v e = absurd cc
-  operator-is (o.Unary t u) v e = absurd cc
-  operator-is (o.Binary t b) v e = absurd cc
-  operator-is (o.Division t d) v e = absurd cc
-  operator-is (o.Eqz t) v e = absurd cc
-  operator-is (o.Relation t r) v e = absurd cc
-  operator-is (o.Convert c) v e = absurd cc
-  operator-is (o.Load l arg) v e = absurd cc
-  operator-is (o.Store s arg) v e = absurd cc
-  operator-is o.MemorySize v e = absurd cc
-  operator-is o.MemoryGrow v e = absurd cc
+  operator-is _ v e = absurd cc
 
   stands_for : (sequence : List Instr) (v : Const) → constant_in sequence ≡ Some v → nested labels inner sequence ≡ op (o.Const v) done
-  stands_for [] v e = absurd cc
-  stands_for (i.Op operator ∷ []) v e = operator-is operator v e
-  stands_for (i.Unreachable ∷ []) v e = absurd cc
-  stands_for (i.Block result body ∷ []) v e = absurd cc
-  stands_for (i.Loop result body ∷ []) v e = absurd cc
-  stands_for (i.If result first second ∷ []) v e = absurd cc
-  stands_for (i.Br label ∷ []) v e = absurd cc
-  stands_for (i.BrIf label ∷ []) v e = absurd cc
-  stands_for (i.BrTable start count default ∷ []) v e = absurd cc
-  stands_for (i.Return ∷ []) v e = absurd cc
-  stands_for (i.Call index ∷ []) v e = absurd cc
   stands_for (x ∷ y ∷ rest) v e = absurd cc
+  stands_for (i.Op operator ∷ []) v e = operator-is operator v e
+  stands_for _ v e = absurd cc
 
 module _ (body : Body) (kept : Vec Instr) (numbered : IsNumbered (sequences_of body)) (read : slice_get body.sequences.items (length body.sequences.items - 1) ≡ Some kept) where
   -- the code of a body is that of its last sequence

@@ -1,10 +1,10 @@
 pub mod ControlPlaces
-mod Faults
+pub mod Faults
 mod HeightFacts
 mod InitialConstants
 pub mod KindFacts
 mod LocalsLemmas
-mod NameLemmas
+pub mod NameOrder
 mod Numbering
 mod OpPlaces
 pub mod Places

@@ -63,12 +63,6 @@ module _ (f : Typing) (around : List Around) (os : List Opened) (opened_are : Ar
       let w : Walked = opened opener result other after around inner below in
       (w, e, subst (Describes w.known w.around) (sym same) (refl, (types, refl, are, opened_are)))
 
-  anything-on : (taken below any : List ValType) (known : Known) (r : Option Known) → AreAs known (taken ++ below) →
-      ((k : Known) → all_popped taken known ≡ Some k → r ≡ Some anything) → On r any
-  anything-on taken below any known r are e =
-      let k = all_popped-on taken known below are in
-      (anything, e k.0 k.1, tt)
-
 pub place-on : (f : Typing) (code : Code) (a : Around) (around : List Around) (known : Known) (os : List Opened) (types : List ValType) (q : Place) → AreWhole f (a ∷ around) →
     AreAs known types → AreOpened (a ∷ around) os → Follows f (token_here code a.opener a.other) (at os types) q → PlaceOn (advanced_by f code known (a ∷ around)) q
 place-on f done a around known [] types q whole are opened_are follows = absurd opened_are

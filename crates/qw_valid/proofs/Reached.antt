@@ -33,9 +33,6 @@ goes_known f a around rest r w whole e =
     let m = map_some (λ k. walked k (a ∷ around) rest) r w e in
     goes_to f (tokens_before rest (left_around (a ∷ around))) (walked m.0 (a ∷ around) rest) w (ap (λ (v : Walked). Some v) m.2) refl whole (λ none. not_empty a around none)
 
-whole_with : (f : Typing) (new a : Around) (around : List Around) → new.opener ≢ Body → AreWhole f (a ∷ around) → AreWhole f (new ∷ a ∷ around)
-whole_with f new a around other whole = (other, whole)
-
 -- what goes on after an end
 end_whole : (f : Typing) (a : Around) (around : List Around) → AreWhole f (a ∷ around) → AreWhole f around
 end_whole f a [] whole = tt
@@ -76,10 +73,7 @@ close-next f a Then (Some other) is also around known whole =
     (tokens_before other (ends ∷ tokens_before a.after (left_around around)), refl, λ w e. turned_goes f a other around known w is whole (rw also at e))
 close-next f a Then None is also around known whole =
     (tokens_before a.after (left_around around), refl, λ w e. ended_goes f a around known w whole (if_some (is_none a.result) (ended a around known) w (rw also at e)).1)
-close-next f a Body other is also around known whole = (tokens_before a.after (left_around around), refl, λ w e. ended_goes f a around known w whole e)
-close-next f a Block other is also around known whole = (tokens_before a.after (left_around around), refl, λ w e. ended_goes f a around known w whole e)
-close-next f a Loop other is also around known whole = (tokens_before a.after (left_around around), refl, λ w e. ended_goes f a around known w whole e)
-close-next f a Else other is also around known whole = (tokens_before a.after (left_around around), refl, λ w e. ended_goes f a around known w whole e)
+close-next f a _ other is also around known whole = (tokens_before a.after (left_around around), refl, λ w e. ended_goes f a around known w whole e)
 
 begins-next : (f : Typing) (opener : Opener) (result : Option ValType) (other : Option Code) (after inner : Code) (a : Around) (around : List Around) (below : Known) (w : Walked) → opener ≢ Body →
     AreWhole f (a ∷ around) → opened opener result other after (a ∷ around) inner below ≡ w → Goes f (tokens_before inner (ending_by opener other after (left_around (a ∷ around)))) w

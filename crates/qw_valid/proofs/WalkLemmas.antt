@@ -53,8 +53,6 @@ first_named sequences numbered n h = named-at sequences numbered n h
 -- the nested sequence begins with its first instruction
 first_nested : (sequences : Sequences) → IsNumbered sequences → (n : ℕ) → n < length sequences.each → (x : Instr) (rest : List Instr) → NamesBelow (length sequences.labels) n x →
     nested sequences.labels (named sequences) (x ∷ rest) ≡ with_first sequences x (nested sequences.labels (named sequences) rest)
-first_nested s numbered n h (i.Op o) rest below = refl
-first_nested s numbered n h i.Unreachable rest below = refl
 first_nested s numbered n h (i.Block result body) rest below =
     ap (λ (c : Code). block result c (nested s.labels (named s) rest)) (first_named s numbered body (omega arith))
 first_nested s numbered n h (i.Loop result body) rest below =
@@ -65,11 +63,7 @@ first_nested s numbered n h (i.If result then_body (Some else_body)) rest below 
     let one : then_body < length s.each = omega (arith, below.0) in
     let two : else_body < length s.each = omega (arith, below.1) in
     ap₂ (λ (c d : Code). if_else result c d (nested s.labels (named s) rest)) (first_named s numbered then_body one) (first_named s numbered else_body two)
-first_nested s numbered n h (i.Br label) rest below = refl
-first_nested s numbered n h (i.BrIf label) rest below = refl
-first_nested s numbered n h (i.BrTable first count default) rest below = refl
-first_nested s numbered n h i.Return rest below = refl
-first_nested s numbered n h (i.Call index) rest below = refl
+first_nested s numbered n h _ rest below = refl
 
 pub code_at-found : (sequences : Sequences) → IsNumbered sequences → (n k : ℕ) (x : Instr) → slice_get (sequence_at sequences n) k ≡ Some x →
     code_at sequences n k ≡ with_first sequences x (code_at sequences n (k + 1))

@@ -1,6 +1,6 @@
 -- How many operands and labels the code of a function needs at most. The standard's stacks have no bound; a bound here is one that no
 -- execution of a typed code passes, of the function's own operands and labels alone.
-use Rattle.std.specs.Prelude.{ℕ, ◌+◌, ◌-◌, ◌≤◌, List, length, Option, Some, None, slice_get}
+use Rattle.std.specs.Prelude.{ℕ, ◌+◌, ◌-◌, ◌≤◌, List, length, slice_get}
 use Rattle.std.specs.Option.{option_map_or}
 use Rattle.qw_module.specs.declared.instruction.Op.{Op}
 use Rattle.qw_module.specs.declared.instruction.Op.TheVariants as o
@@ -9,7 +9,7 @@ use Rattle.qw_module.specs.declared.module.Module.{Module}
 use Rattle.qw_module.specs.Syntax.{Code, done, op, unreachable, block, loop, if_then, if_else, br, br_if, br_table, return, call}
 use Rattle.qw_module.specs.Execution.{arity_of}
 use Rattle.qw_module.specs.Typing.{Signature}
-use Rattle.qw_module.specs.Validity.{code_of_body, signature_in, functions_of, outside_of}
+use Rattle.qw_module.specs.Validity.{code_of_body, signature_in, outside_of}
 
 -- how many operands an instruction takes, and how many it leaves (3.3.1 to 3.3.5)
 abbrev pub taken_by : Op → ℕ

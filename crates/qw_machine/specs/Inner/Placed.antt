@@ -83,6 +83,15 @@ AreAwaiting m rooms function first_local locals results labels ends (Call caller
     (labels ≡ []) × (ends ≡ results) × (f : IsCaller m rooms results caller rest operands values)
     × AreAwaiting m rooms caller.function caller.first_local f.locals f.outer_results f.labels f.next rest f.below (take caller.first_local values)
 
+-- The locals of a function that runs are the last of `values`, and are of these types; the globals are of theirs, and so many labels
+-- and frames are counted up to its frame.
+pub record HasLocals (m : Module) (function first_local floor frames : ℕ) (values globals : List ℕ) (locals : List ValType) : Type 0 where
+  pub first_in : first_local ≤ length values
+  pub locals_are : AreOf (drop first_local values) locals
+  pub all_locals : length locals ≡ locals_of m function
+  pub globals_are : AreGlobalsOf globals ((outside_of m).globals)
+  pub floor_is : floor ≡ frames
+
 -- A point is typed, and what it can need has room.
 pub record IsPoint (m : Module) (rooms : Rooms) (p : Point) : Type 0 where
   pub own : List ℕ
@@ -95,11 +104,8 @@ pub record IsPoint (m : Module) (rooms : Rooms) (p : Point) : Type 0 where
   pub operands_are : p.operands ≡ own ++ below
   pub below_are : length below ≡ base_of p.awaiting
   pub own_are : AreOf own before
-  pub first_in : p.first_local ≤ length p.locals
-  pub locals_are : AreOf (drop p.first_local p.locals) locals
-  pub all_locals : length locals ≡ locals_of m p.function
-  pub globals_are : AreGlobalsOf p.globals ((outside_of m).globals)
-  pub floor_is : p.floor ≡ floor_of p.awaiting
+  pub has_locals : HasLocals m p.function p.first_local p.floor (floor_of p.awaiting) p.locals p.globals locals
+  pub open has_locals use *
   pub typed : Typed (scope_of (outside_of m) locals results labels) (code_at m p.function p.sequence p.index) before ends
   pub index_in : p.index ≤ length (instructions_at m p.function p.sequence)
   pub operands_most : ℕ

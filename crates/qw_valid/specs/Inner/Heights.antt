@@ -1,5 +1,5 @@
 -- Mirrors heights.rt: how many operands and labels sequences need, from the first instruction on, where those of lower numbers are known.
-use Rattle.std.specs.Prelude.{ℕ, ◌+◌, ◌-◌, max, get_or, List, [], ◌∷◌, Option, Some, None}
+use Rattle.std.specs.Prelude.{ℕ, ◌+◌, ◌-◌, max, get_or, List, [], ◌∷◌, Some, None}
 use Rattle.qw_module.specs.declared.instruction.Instr.{Instr}
 use Rattle.qw_module.specs.declared.instruction.Instr.TheVariants as i
 use Rattle.qw_module.specs.Execution.{arity_of}

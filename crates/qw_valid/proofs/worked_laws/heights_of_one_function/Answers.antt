@@ -1,4 +1,4 @@
-use Rattle.std.proofs.Common.{◌≡◌, ℕ, zero, suc, ◌≤◌, List, [], ◌∷◌, length, Option, Some, slice_get, refl, sym, ap, subst, ◌∙◌, arith}
+use Rattle.std.proofs.Common.{◌≡◌, ℕ, zero, suc, List, [], ◌∷◌, length, Some, slice_get, refl, sym, ap, subst, arith}
 use Rattle.std.proofs.lemmas.Option.{same_Some}
 use Rattle.qw_module.specs.declared.instruction.Op.TheVariants as o
 use Rattle.qw_module.specs.declared.instruction.Const.TheVariants as const
@@ -9,7 +9,6 @@ use Rattle.qw_module.specs.Typing.{Signature}
 use Rattle.qw_valid.specs.Heights.{StaysWithin, AreHeightsOf}
 use Rattle.qw_module.specs.Validity.{code_of_body, outside_of, signature_in}
 use Rattle.qw_valid.specs.declared.heights.Heights.{Heights}
-use Rattle.qw_valid.specs.ModuleHeights.{HaveHeights}
 use Rattle.qw_valid.proofs.worked_laws.heights_of_one_function.Goals as goal
 
 abbrev body : Code
