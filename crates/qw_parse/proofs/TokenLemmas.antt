@@ -65,11 +65,12 @@ pub one_none : (test : Lexeme → Bool) → one_at test [] ≡ None
 unfolding one_at
 one_none test = refl
 
-front_shorter : (test : Lexeme → Bool) (ts rest : List Lexeme) → Front test ts rest → length rest < length ts
-front_shorter test _ _ (front t rest h) = omega arith
-
-pub one_shorter : (test : Lexeme → Bool) (ts rest : List Lexeme) → one_at test ts ≡ Some rest → length rest < length ts
-one_shorter test ts rest e = front_shorter test ts rest (one_takes test ts rest e)
+-- what holds where the first token passes holds
+pub one_holds : (test : Lexeme → Bool) (Q : List Lexeme → Type 0) (ts rest : List Lexeme) → ((t : Lexeme) → IsTrue (test t) → Q (t ∷ rest)) → one_at test ts ≡ Some rest → Q ts
+one_holds test Q ts rest holds e = of_front ts rest holds (one_takes test ts rest e)
+  where
+    of_front : (us vs : List Lexeme) → ((t : Lexeme) → IsTrue (test t) → Q (t ∷ vs)) → Front test us vs → Q us
+    of_front _ _ holds' (front t vs h) = holds' t h
 
 -- the tokens begin with one in which this is found
 pub data Found {A : Type 0} (find : Lexeme → Option A) : A → List Lexeme → List Lexeme → Type 0 where
@@ -109,6 +110,13 @@ octets_found test t octets e =
 
 pub octets_are : (test : Lexeme → Bool) (t : Lexeme) → IsTrue (test t) → octets_if test t ≡ Some t.octets
 octets_are test t h = rw h refl
+
+-- what holds of the octets of a first token that passes holds of those that are found
+pub octets_hold : (test : Lexeme → Bool) (Q : List ℕ → List Lexeme → Type 0) (ts : List Lexeme) (x : List ℕ × List Lexeme) → ((t : Lexeme) → IsTrue (test t) → Q t.octets (t ∷ x.1)) → token_at (octets_if test) ts ≡ Some x → Q x.0 ts
+octets_hold test Q ts x holds e = of_found x.0 ts x.1 holds (token_takes (octets_if test) ts x e)
+  where
+    of_found : (n : List ℕ) (us vs : List Lexeme) → ((t : Lexeme) → IsTrue (test t) → Q t.octets (t ∷ vs)) → Found (octets_if test) n us vs → Q n us
+    of_found _ _ _ holds' (found n t vs h) = let o = octets_found test t n h in subst (λ octets. Q octets (t ∷ vs)) o.1 (holds' t o.0)
 
 pub choose : {A : Type 0} (b : Bool) (p q : Option A) (x : A) → cond b p q ≡ Some x → ((b ≡ true) × (p ≡ Some x)) ⊎ ((b ≡ false) × (q ≡ Some x))
 choose true p q x e = inl (refl, e)
