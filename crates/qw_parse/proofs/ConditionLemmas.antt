@@ -13,7 +13,7 @@ use Rattle.qw_ast.specs.Syntax.{Expression, text, Condition, comparison, between
 use Rattle.qw_ast.specs.ScriptGrammar.{is_word, is_symbol, is_string, comparison_of, predicate_of, truth_of, likeness, Series, first, IsOperator, operator, AreFurther, IsExpressionOf, arguments, IsOptionalNot, not_absent, not_there, IsValueExpression, IsPredicate, a_comparison, a_between, an_in, a_like, a_value_test, IsBooleanPrimary, a_predicate, condition_brackets, IsBooleanTest, no_test, a_test, IsBooleanFactor, no_negation, a_negation, is_and, is_or, IsBooleanTerm, IsClause, IsNested}
 use Rattle.qw_parse.specs.Inner.Readers.{token_at, word_at, octets_if, not_at, expression_at, listing_at, condition_at, the_expression, the_condition, sum_at, between_at, in_at, like_at, compare_at, value_test_at, condition_clause, ranged_at, tail_at, predicate_at, truth_test_at, test_at, boolean_factor_at, join_and, join_or, boolean_term_at, clause_at, nested_at}
 use Rattle.qw_parse.proofs.LoopLemmas.{bind_some, none_not_some, some_same, cases_option}
-use Rattle.qw_parse.proofs.TokenLemmas.{word_is, Front, front, one_takes, one_is, one_not, Found, found, token_takes, token_is, octets_found, octets_are, strength, Stops, stops_at, stops_weaker, stops_one, stops_token, strong_symbol, strong_word}
+use Rattle.qw_parse.proofs.TokenLemmas.{word_is, Front, front, one_takes, one_is, one_not, Found, found, token_takes, token_is, octets_found, octets_are, told_or, strength, Stops, stops_at, stops_weaker, stops_one, stops_token, strong_symbol, strong_word}
 use Rattle.qw_parse.proofs.ExactLemmas.{Starts, starts_at, Exact, other_word, not_takes, not_is, not_shorter}
 use Rattle.qw_parse.proofs.PrimaryLemmas.{the_expression_is, Of, IsBracketed, between_brackets, listing_takes, listing_is, further_down}
 use Rattle.qw_parse.proofs.SumLemmas.{Begins, sum_exact, expression_begins, bracketed_begins}
@@ -23,25 +23,13 @@ use Rattle.qw_parse.proofs.RankLemmas.{rank_exact}
 
 comparison_strong : (t : Lexeme) (op : Comparison) → comparison_of t ≡ Some op → strength t ≡ 4
 comparison_strong t op e =
-    elim (cases_Bool (is_symbol (codes "=") t)) [
-      | inl h ↦ strong_symbol (codes "=") 4 t refl h
-      | inr a ↦ elim (cases_Bool (is_symbol (codes "<>") t)) [
-        | inl h ↦ strong_symbol (codes "<>") 4 t refl h
-        | inr b ↦ elim (cases_Bool (is_symbol (codes "<") t)) [
-          | inl h ↦ strong_symbol (codes "<") 4 t refl h
-          | inr c ↦ elim (cases_Bool (is_symbol (codes "<=") t)) [
-            | inl h ↦ strong_symbol (codes "<=") 4 t refl h
-            | inr d ↦ elim (cases_Bool (is_symbol (codes ">") t)) [
-              | inl h ↦ strong_symbol (codes ">") 4 t refl h
-              | inr f ↦ elim (cases_Bool (is_symbol (codes ">=") t)) [
-                | inl h ↦ strong_symbol (codes ">=") 4 t refl h
-                | inr g ↦ absurd (let none : None ≡ Some op = rw (a, b, c, d, f, g) at e in cc)
-              ]
-            ]
-          ]
-        ]
-      ]
-    ]
+    let R = λ (o : Comparison). strength t ≡ 4 in
+    told_or R _ _ op _ e (strong_symbol (codes "=") 4 t refl) (λ a.
+    told_or R _ _ op _ a (strong_symbol (codes "<>") 4 t refl) (λ b.
+    told_or R _ _ op _ b (strong_symbol (codes "<") 4 t refl) (λ c.
+    told_or R _ _ op _ c (strong_symbol (codes "<=") 4 t refl) (λ d.
+    told_or R _ _ op _ d (strong_symbol (codes ">") 4 t refl) (λ f.
+    told_or R _ _ op None f (strong_symbol (codes ">=") 4 t refl) (λ g. absurd cc))))))
 
 no_comparison : (ts : List Lexeme) → Stops 4 ts → token_at comparison_of ts ≡ None
 no_comparison ts h = stops_token 4 comparison_of (λ t op e. let s = comparison_strong t op e in omega (arith, s)) ts h

@@ -111,6 +111,10 @@ series_front Q q _ _ _ (more xs o x ts us vs rest h between item) =
 abbrev Behind : {O A : Type 0} → (Lexeme → Option O) → (A → List Lexeme → List Lexeme → Type 0) → List A → List Lexeme → List Lexeme → Type 0
 Behind meaning Item xs ts rest = Series IsNothing (IsOperator meaning) Item appended xs ts rest
 
+-- nothing is given for no token
+pub given_is : {A : Type 0} (ys : List A) (us vs : List Lexeme) → IsNothing ys us vs → given [] us ≡ Some (ys, vs)
+given_is _ _ _ (nothing rest) = refl
+
 module _ {O A : Type 0} (meaning : Lexeme → Option O) (Ends : List Lexeme → Type 0) {Item : A → List Lexeme → List Lexeme → Type 0} {read : List Lexeme → Option (A × List Lexeme)} (reads : Exact Item Ends read) where
   pub list_takes : (ts : List Lexeme) (x : List A × List Lexeme) → series_at (given []) (token_at meaning) read append ts ≡ Some x → Behind meaning Item x.0 ts x.1
   list_takes =
@@ -132,9 +136,6 @@ module _ {O A : Type 0} (meaning : Lexeme → Option O) (Ends : List Lexeme → 
       (given [])
       (λ ys us vs nothing_is ends. given_is ys us vs nothing_is)
       xs ts rest h ends none
-    where
-      given_is : {A : Type 0} (ys : List A) (us vs : List Lexeme) → IsNothing ys us vs → given [] us ≡ Some (ys, vs)
-      given_is _ _ _ (nothing rest) = refl
 
   pub list_shorter : (xs : List A) (ts rest : List Lexeme) → Behind meaning Item xs ts rest → length rest ≤ length ts
   list_shorter xs ts rest h =

@@ -12,7 +12,7 @@ use Rattle.qw_ast.specs.Syntax.{Expression, null, extract, searched_case, simple
 use Rattle.qw_ast.specs.ScriptGrammar.{is_string_kind, is_number_kind, is_symbol_kind, is_word, is_symbol, is_number, is_string, is_name, field_of, function_of, takes, is_when, is_condition, IsOperator, operator, AreFurther, IsResult, null_result, result, Branch, IsBranch, branch, AreBranches, IsElse, no_else, else_result, IsExpressionOf, arguments, branching, IsPrimary, a_searched_case, a_simple_case, a_call, an_extract}
 use Rattle.qw_parse.specs.Inner.Readers.{token_at, one_at, word_at, symbol_at, further_at, expression_at, before_at, listing_at, the_expression, result_at, same, branch_at, branches_at, else_at, case_operand_at, is_absent, case_of, chain_of, chain_at, case_at, call_of, call_at, extract_at, as_clause}
 use Rattle.qw_parse.proofs.LoopLemmas.{bind_some, some_same, cases_option}
-use Rattle.qw_parse.proofs.TokenLemmas.{word_is, Front, front, one_takes, one_is, Found, found, token_takes, token_is, choose, strength, Stops, strong_word}
+use Rattle.qw_parse.proofs.TokenLemmas.{number_kind, string_kind, word_is, Front, front, one_takes, one_is, Found, found, token_takes, token_is, choose, strength, Stops, strong_word}
 use Rattle.qw_parse.proofs.ExactLemmas.{Starts, starts_not, Exact, operator_stops, series_front, list_takes, list_is, list_shorter, comma_stops, no_comma, further_takes, further_is, further_shorter, further_ends, other_word, word_stops, symbol_stops, EndsDate}
 
 pub the_expression_is : (c : Clause) (e : Expression) → the_expression c ≡ Some e → c ≡ expression e
@@ -40,26 +40,6 @@ unfolding token_at
 when_not w t rest f e h = let is = word_is w t h in rw (is.0, is.1) (rw (rw f at e) refl)
 
 -- ---- kinds of tokens
-
-number_kind : (t : Lexeme) → is_number t ≡ true → t.kind ≡ Number
-number_kind t e = of_kind t.kind e
-  where
-    of_kind : (k : Kind) → is_number_kind k ≡ true → k ≡ Number
-    of_kind Word e = absurd cc
-    of_kind DelimitedIdentifier e = absurd cc
-    of_kind CharacterString e = absurd cc
-    of_kind Number e = refl
-    of_kind Symbol e = absurd cc
-
-string_kind : (t : Lexeme) → is_string t ≡ true → t.kind ≡ CharacterString
-string_kind t e = of_kind t.kind e
-  where
-    of_kind : (k : Kind) → is_string_kind k ≡ true → k ≡ CharacterString
-    of_kind Word e = absurd cc
-    of_kind DelimitedIdentifier e = absurd cc
-    of_kind CharacterString e = refl
-    of_kind Number e = absurd cc
-    of_kind Symbol e = absurd cc
 
 pub string_no_number : (t : Lexeme) → is_string t ≡ true → is_number t ≡ false
 string_no_number t h = rw (string_kind t h) refl

@@ -8,7 +8,7 @@ use Rattle.qw_ast.specs.ScriptGrammar.{is_word, is_symbol, is_comma, first, more
 use Rattle.qw_parse.specs.Inner.Readers.{◌>>=◌, token_at, word_at, symbol_at, given, further_at, expression_at, condition_at, the_condition, nested_at, naming_at, item_at, select_list_at, quantifier_at, filter_at, entry_at, join_at, joined_at, join_on, joins_at, source_at, sources_at, grouping_at, having_at, order_at, select_at, whole, select_of}
 use Rattle.qw_parse.proofs.LoopLemmas.{Shortens, bind_some, cases_option, series_holds, series_is, some_same}
 use Rattle.qw_parse.proofs.TokenLemmas.{word_is, Front, front, one_takes, one_is, one_holds, token_not, Stops}
-use Rattle.qw_parse.proofs.ExactLemmas.{Starts, starts_not, starts_no_asterisk, Exact, series_front, further_takes, further_is, further_ends, words_take, no_word, other_word, word_stops}
+use Rattle.qw_parse.proofs.ExactLemmas.{Starts, starts_not, starts_no_asterisk, Exact, given_is, series_front, further_takes, further_is, further_ends, words_take, no_word, other_word, word_stops}
 use Rattle.qw_parse.proofs.PrimaryLemmas.{expression_takes, expression_is}
 use Rattle.qw_parse.proofs.ConditionLemmas.{nested_exact, the_condition_is}
 use Rattle.qw_parse.proofs.NameLemmas.{EndsName, EndsItem, EndsSource, EndsFilter, comma_ends, from_ends, word_ends, naming_takes, naming_is, naming_shorter, naming_stops, entry_takes, entry_is, entry_shorter, entry_begins, join_takes, join_is, join_shorter, join_shortens, join_ends, no_join_word, comma_source, word_filter}
@@ -184,9 +184,6 @@ module _ (Inner : Clause → List Lexeme → List Lexeme → Type 0) (inner : Li
       (given [])
       (λ ys us vs nothing_is ends. given_is ys us vs nothing_is)
       js ts rest h ends none
-    where
-      given_is : {A : Type 0} (ys : List A) (us vs : List Lexeme) → IsNothing ys us vs → given [] us ≡ Some (ys, vs)
-      given_is _ _ _ (nothing rest) = refl
 
   joins_end : (js : List Joined) (ts rest : List Lexeme) → AreJoins Inner js ts rest → EndsName rest → EndsName ts
   joins_end js ts rest h ends =

@@ -14,7 +14,7 @@ use Rattle.qw_ast.specs.Syntax.{Expression, number, text, date, column, signed, 
 use Rattle.qw_ast.specs.ScriptGrammar.{is_word, is_symbol, is_number, is_string, is_name, sign_of, addition_of, multiplication_of, function_of, set_function_of, Series, first, IsOperator, operator, Dated, IsPrimary, a_number, a_string, a_date, a_column, a_qualified_column, brackets, a_searched_case, a_simple_case, a_call, an_extract, a_row_count, a_set_function, IsFactor, unsigned_factor, signed_factor, IsTerm, IsValueExpression}
 use Rattle.qw_parse.specs.Inner.Readers.{◌>>=◌, token_at, word_at, symbol_at, the_expression, case_at, call_at, extract_at, set_function_at, brackets_at, column_at, date_at, as_clause, in_brackets, primary_at, interval_sign_at, factor_at, join_arithmetic, term_at, sum_at}
 use Rattle.qw_parse.proofs.LoopLemmas.{bind_some, some_same, cases_option, series_begins}
-use Rattle.qw_parse.proofs.TokenLemmas.{word_is, symbol_is, Front, front, one_takes, one_is, one_not, Found, found, token_takes, token_is, token_not, choose, strength, Stops, stops_at, stops_weaker, stops_one, stops_token, strong_symbol}
+use Rattle.qw_parse.proofs.TokenLemmas.{word_is, symbol_is, Front, front, one_takes, one_is, one_not, Found, found, token_takes, token_is, token_not, told_or, choose, strength, Stops, stops_at, stops_weaker, stops_one, stops_token, strong_symbol}
 use Rattle.qw_parse.proofs.RankLemmas.{rank_exact}
 use Rattle.qw_parse.proofs.ExactLemmas.{starts, Starts, starts_at, starts_not, Exact, all_shorter, names_take, one_name, two_names, date_takes, date_is, date_shorter, date_begins}
 use Rattle.qw_parse.proofs.PrimaryLemmas.{the_expression_is, string_no_number, name_kind, name_no_symbol, name_no_word, number_no_symbol, string_no_symbol, number_no_word, string_no_word, Of, IsBracketed, between_brackets, EndsPrimary, as_clause_some, as_clause_is, case_takes, searched_is, simple_is, call_takes, call_is, extract_takes, extract_is, closing_ends, branches_shorter, else_shorter, further_down}
@@ -24,14 +24,9 @@ use Rattle.qw_parse.proofs.FunctionLemmas.{word_of, function_word, folded_word, 
 -- ---- what the operators are
 
 two_symbols : {A : Type 0} (a b : List ℕ) (x y : A) (t : Lexeme) (o : A) → cond (is_symbol a t) (Some x) (cond (is_symbol b t) (Some y) None) ≡ Some o → IsTrue (is_symbol a t) ⊎ IsTrue (is_symbol b t)
-two_symbols a b x y t o e =
-    elim (choose (is_symbol a t) _ _ o e) [
-      | inl h ↦ inl h.0
-      | inr e1 ↦ elim (choose (is_symbol b t) _ _ o e1.1) [
-        | inl h ↦ inr h.0
-        | inr e2 ↦ absurd (let none : None ≡ Some o = e2.1 in cc)
-      ]
-    ]
+two_symbols {A = A} a b x y t o e =
+    let R = λ (z : A). IsTrue (is_symbol a t) ⊎ IsTrue (is_symbol b t) in
+    told_or R _ x o _ e (λ h. inl h) (λ e1. told_or R _ y o None e1 (λ h. inr h) (λ e2. absurd cc))
 
 sign_symbol : (t : Lexeme) (s : Sign) → sign_of t ≡ Some s → IsTrue (is_symbol (codes "+") t) ⊎ IsTrue (is_symbol (codes "-") t)
 sign_symbol t s e = two_symbols (codes "+") (codes "-") _ _ t s e
