@@ -10,11 +10,11 @@ use Rattle.qw_scalar.specs.declared.comparison.Comparison.{Comparison}
 use Rattle.qw_scalar.specs.declared.expression.Predicate.{Predicate}
 use Rattle.qw_ast.specs.Grammar.{folded}
 use Rattle.qw_ast.specs.Syntax.{Expression, text, Condition, comparison, between, among, predicate, both, either, negation_of, is, bracketed, Clause, condition, expression}
-use Rattle.qw_ast.specs.ScriptGrammar.{is_word, is_symbol, is_string, comparison_of, predicate_of, truth_of, likeness, Series, first, IsOperator, operator, AreFurther, IsExpressionOf, arguments, IsOptionalNot, not_absent, not_there, IsValueExpression, IsPredicate, a_comparison, a_between, an_in, a_like, a_value_test, IsBooleanPrimary, a_predicate, condition_brackets, IsBooleanTest, no_test, a_test, IsBooleanFactor, no_negation, a_negation, is_and, is_or, IsBooleanTerm, IsClause, IsNested}
-use Rattle.qw_parse.specs.Inner.Readers.{token_at, word_at, octets_if, not_at, expression_at, listing_at, condition_at, the_expression, the_condition, sum_at, between_at, in_at, like_at, compare_at, value_test_at, condition_clause, ranged_at, tail_at, predicate_at, truth_test_at, test_at, boolean_factor_at, join_and, join_or, boolean_term_at, clause_at, nested_at}
+use Rattle.qw_ast.specs.ScriptGrammar.{is_word, is_symbol, is_string, comparison_of, predicate_of, truth_of, likeness, Series, first, IsOperator, AreFurther, IsExpressionOf, arguments, IsOptionalNot, not_absent, not_there, IsValueExpression, IsPredicate, a_comparison, a_between, an_in, a_like, a_value_test, IsBooleanPrimary, a_predicate, condition_brackets, IsBooleanTest, no_test, a_test, IsBooleanFactor, no_negation, a_negation, is_and, is_or, IsBooleanTerm, IsClause, IsNested}
+use Rattle.qw_parse.specs.Inner.Readers.{token_at, word_at, octets_if, not_at, expression_at, listing_at, condition_at, the_expression, the_condition, sum_at, between_at, in_at, like_at, compare_at, value_test_at, condition_clause, ranged_at, tail_at, predicate_at, truth_test_at, test_at, boolean_factor_at, join_and, join_or, boolean_term_at, clause_at, nested_at, series_at}
 use Rattle.qw_parse.proofs.LoopLemmas.{bind_some, none_not_some, some_same, cases_option}
 use Rattle.qw_parse.proofs.TokenLemmas.{word_is, Front, front, one_takes, one_is, one_not, Found, found, token_takes, token_is, octets_found, octets_are, told_or, strength, Stops, stops_at, stops_weaker, stops_one, stops_token, strong_symbol, strong_word}
-use Rattle.qw_parse.proofs.ExactLemmas.{Starts, starts_at, Exact, other_word, not_takes, not_is, not_shorter}
+use Rattle.qw_parse.proofs.ExactLemmas.{Starts, starts_at, Exact, operator_stops, other_word, not_takes, not_is, not_shorter}
 use Rattle.qw_parse.proofs.PrimaryLemmas.{the_expression_is, Of, IsBracketed, between_brackets, listing_takes, listing_is, further_down}
 use Rattle.qw_parse.proofs.SumLemmas.{Begins, sum_exact, expression_begins, bracketed_begins}
 use Rattle.qw_parse.proofs.RankLemmas.{rank_exact}
@@ -90,12 +90,6 @@ or_strong t o e =
       | inl h ↦ strong_word (codes "OR") 1 t refl refl h
       | inr h ↦ absurd (let none : None ≡ Some o = rw h at e in cc)
     ]
-
-and_ends : (o : Unit {0}) (ts rest : List Lexeme) → IsOperator is_and o ts rest → Stops 3 ts
-and_ends _ _ _ (operator o t rest h) = let s = and_strong t o h in stops_at 3 t rest (omega (arith, s))
-
-or_ends : (o : Unit {0}) (ts rest : List Lexeme) → IsOperator is_or o ts rest → Stops 2 ts
-or_ends _ _ _ (operator o t rest h) = let s = or_strong t o h in stops_at 2 t rest (omega (arith, s))
 
 and_parts : (o : Unit {0}) (p q r : Clause) → join_and o p q ≡ Some r → (a : Condition) × (b : Condition) × (p ≡ condition a) × (q ≡ condition b) × (r ≡ condition (both a b))
 and_parts o (condition a) (condition b) r e = (a, b, refl, refl, sym (some_same (condition (both a b)) r e))
@@ -507,43 +501,37 @@ module _ (Inner : Clause → List Lexeme → List Lexeme → Type 0) (inner : Li
   sorts_in F meaning joined (expression e) ts rest h = inr h
   sorts_in F meaning joined (condition c) ts rest h = inl (c, refl, h)
 
-  pub boolean_term_exact : Exact (Of (IsValueExpression Inner) (IsBooleanTerm Inner)) (Stops 2) (boolean_term_at inner)
-  unfolding boolean_term_at
-  boolean_term_exact =
-      rank_exact condition is_and (IsBooleanFactor Inner) (λ _ a b. both a b) join_and (Of (IsValueExpression Inner) (IsBooleanFactor Inner)) (Of (IsValueExpression Inner) (IsBooleanTerm Inner)) (Stops 3) (Stops 2) (boolean_factor_at inner)
+  -- operators of one rank between conditions
+  conditions_exact : {O : Type 0} (F : Condition → List Lexeme → List Lexeme → Type 0) (meaning : Lexeme → Option O) (joined : O → Condition → Condition → Condition) (join : O → Clause → Clause → Option Clause) (n m : ℕ) (read : List Lexeme → Option (Clause × List Lexeme))
+      → ((o : O) (a b : Condition) → join o (condition a) (condition b) ≡ Some (condition (joined o a b)))
+      → ((o : O) (p q r : Clause) → join o p q ≡ Some r → (a : Condition) × (b : Condition) × (p ≡ condition a) × (q ≡ condition b) × (r ≡ condition (joined o a b)))
+      → m < n → ((t : Lexeme) (o : O) → meaning t ≡ Some o → strength t ≡ m) → Exact (Of (IsValueExpression Inner) F) (Stops n) read
+      → Exact (Of (IsValueExpression Inner) (λ c us vs. Series F (IsOperator meaning) F joined c us vs)) (Stops m) (series_at read (token_at meaning) read join)
+  conditions_exact F meaning joined join n m read joins parts weaker strong =
+      rank_exact condition meaning F joined join (Of (IsValueExpression Inner) F) (Of (IsValueExpression Inner) (λ c us vs. Series F (IsOperator meaning) F joined c us vs)) (Stops n) (Stops m) read
       record {
         operand = λ a ts rest h. h;
         clause = λ a ts rest h. h;
-        alone = alone_in (IsBooleanFactor Inner) is_and (λ _ a b. both a b);
+        alone = alone_in F meaning joined;
         whole = λ a ts rest h. h;
         series = λ a ts rest h. h;
-        sorts = sorts_in (IsBooleanFactor Inner) is_and (λ _ a b. both a b);
-        joins = λ o a b. refl;
-        parts = and_parts;
-        ends = λ rest e. stops_weaker 2 3 rest (omega arith) e;
-        none = λ rest e. stops_token 2 is_and (λ t o h. let s = and_strong t o h in omega (arith, s)) rest e;
-        between = λ o a us vs rest h f. and_ends o us vs h;
+        sorts = sorts_in F meaning joined;
+        joins = joins;
+        parts = parts;
+        ends = λ rest e. stops_weaker m n rest (omega arith) e;
+        none = λ rest e. stops_token m meaning (λ t o h. let s = strong t o h in omega (arith, s)) rest e;
+        between = λ o a us vs rest h f. operator_stops meaning n (λ t o h. let s = strong t o h in omega (arith, s)) o us vs h;
       }
-      factor_exact
+
+  pub boolean_term_exact : Exact (Of (IsValueExpression Inner) (IsBooleanTerm Inner)) (Stops 2) (boolean_term_at inner)
+  unfolding boolean_term_at
+  boolean_term_exact =
+      conditions_exact (IsBooleanFactor Inner) is_and (λ _ a b. both a b) join_and 3 2 (boolean_factor_at inner) (λ o a b. refl) and_parts (omega arith) and_strong factor_exact
 
   pub clause_exact : Exact (IsClause Inner) (Stops 1) (clause_at inner)
   unfolding clause_at
   clause_exact =
-      rank_exact condition is_or (IsBooleanTerm Inner) (λ _ a b. either a b) join_or (Of (IsValueExpression Inner) (IsBooleanTerm Inner)) (IsClause Inner) (Stops 2) (Stops 1) (boolean_term_at inner)
-      record {
-        operand = λ a ts rest h. h;
-        clause = λ a ts rest h. h;
-        alone = alone_in (IsBooleanTerm Inner) is_or (λ _ a b. either a b);
-        whole = λ a ts rest h. h;
-        series = λ a ts rest h. h;
-        sorts = sorts_in (IsBooleanTerm Inner) is_or (λ _ a b. either a b);
-        joins = λ o a b. refl;
-        parts = or_parts;
-        ends = λ rest e. stops_weaker 1 2 rest (omega arith) e;
-        none = λ rest e. stops_token 1 is_or (λ t o h. let s = or_strong t o h in omega (arith, s)) rest e;
-        between = λ o a us vs rest h f. or_ends o us vs h;
-      }
-      boolean_term_exact
+      conditions_exact (IsBooleanTerm Inner) is_or (λ _ a b. either a b) join_or 2 1 (boolean_term_at inner) (λ o a b. refl) or_parts (omega arith) or_strong boolean_term_exact
 
 -- ---- what is nested
 

@@ -12,7 +12,7 @@ use Rattle.qw_ast.specs.declared.script.SetFunction.TheVariants.{Count, Sum, Avg
 use Rattle.qw_ast.specs.Grammar.{folded}
 use Rattle.qw_ast.specs.Syntax.{Expression, number, text, date, column, signed, arithmetic, Condition, Clause, condition, expression}
 use Rattle.qw_ast.specs.ScriptGrammar.{is_word, is_symbol, is_number, is_string, is_name, sign_of, addition_of, multiplication_of, function_of, set_function_of, Series, first, IsOperator, operator, Dated, IsPrimary, a_number, a_string, a_date, a_column, a_qualified_column, brackets, a_searched_case, a_simple_case, a_call, an_extract, a_row_count, a_set_function, IsFactor, unsigned_factor, signed_factor, IsTerm, IsValueExpression}
-use Rattle.qw_parse.specs.Inner.Readers.{◌>>=◌, token_at, word_at, symbol_at, the_expression, case_at, call_at, extract_at, set_function_at, brackets_at, column_at, date_at, as_clause, in_brackets, primary_at, interval_sign_at, factor_at, join_arithmetic, term_at, sum_at}
+use Rattle.qw_parse.specs.Inner.Readers.{◌>>=◌, token_at, word_at, symbol_at, the_expression, case_at, call_at, extract_at, set_function_at, brackets_at, column_at, date_at, as_clause, in_brackets, primary_at, interval_sign_at, factor_at, join_arithmetic, term_at, sum_at, series_at}
 use Rattle.qw_parse.proofs.LoopLemmas.{bind_some, some_same, cases_option, series_begins}
 use Rattle.qw_parse.proofs.TokenLemmas.{word_is, symbol_is, Front, front, one_takes, one_is, one_not, Found, found, token_takes, token_is, token_not, told_or, choose, strength, Stops, stops_at, stops_weaker, stops_one, stops_token, strong_symbol}
 use Rattle.qw_parse.proofs.RankLemmas.{rank_exact}
@@ -382,6 +382,26 @@ arithmetic_parts o (expression a) (condition d) r e = absurd cc
 arithmetic_parts o (condition c) (expression b) r e = absurd cc
 arithmetic_parts o (condition c) (condition d) r e = absurd cc
 
+-- operators of one rank between expressions
+arithmetic_exact : (F : Expression → List Lexeme → List Lexeme → Type 0) (B : Condition → List Lexeme → List Lexeme → Type 0) (meaning : Lexeme → Option Operator) (EndsR EndsS : List Lexeme → Type 0) (read : List Lexeme → Option (Clause × List Lexeme))
+    → ((rest : List Lexeme) → EndsS rest → EndsR rest) → ((rest : List Lexeme) → EndsS rest → token_at meaning rest ≡ None) → ((o : Operator) (a : Expression) (us vs rest : List Lexeme) → IsOperator meaning o us vs → F a vs rest → EndsR us)
+    → Exact (Of F B) EndsR read → Exact (Of (λ e us vs. Series F (IsOperator meaning) F arithmetic e us vs) B) EndsS (series_at read (token_at meaning) read join_arithmetic)
+arithmetic_exact F B meaning EndsR EndsS read ends none between =
+    rank_exact expression meaning F arithmetic join_arithmetic (Of F B) (Of (λ e us vs. Series F (IsOperator meaning) F arithmetic e us vs) B) EndsR EndsS read
+    record {
+      operand = λ a ts rest h. h;
+      clause = λ a ts rest h. h;
+      alone = alone_in F B meaning;
+      whole = λ a ts rest h. h;
+      series = λ a ts rest h. h;
+      sorts = sorts_in F B meaning;
+      joins = λ o a b. refl;
+      parts = arithmetic_parts;
+      ends = ends;
+      none = none;
+      between = between;
+    }
+
 interval_none : (t : Lexeme) (ts : List Lexeme) → word_at (codes "INTERVAL") ts ≡ None → interval_sign_at (t ∷ ts) ≡ None
 unfolding interval_sign_at
 interval_none t ts e =
@@ -406,20 +426,10 @@ module _ (Inner : Clause → List Lexeme → List Lexeme → Type 0) (inner : Li
   pub term_exact : Exact (Of (IsTerm Inner) (IsBracketed Inner)) (EndsFactor 6) (term_at inner)
   unfolding term_at
   term_exact =
-      rank_exact expression multiplication_of (IsFactor Inner) arithmetic join_arithmetic (Of (IsFactor Inner) (IsBracketed Inner)) (Of (IsTerm Inner) (IsBracketed Inner)) (EndsFactor 7) (EndsFactor 6) (factor_at inner)
-      record {
-        operand = λ a ts rest h. h;
-        clause = λ a ts rest h. h;
-        alone = alone_in (IsFactor Inner) (IsBracketed Inner) multiplication_of;
-        whole = λ a ts rest h. h;
-        series = λ a ts rest h. h;
-        sorts = sorts_in (IsFactor Inner) (IsBracketed Inner) multiplication_of;
-        joins = λ o a b. refl;
-        parts = arithmetic_parts;
-        ends = λ rest e. record { stops = stops_weaker 6 7 rest (omega arith) e.stops; no_interval = e.no_interval };
-        none = λ rest e. stops_token 6 multiplication_of (λ t o h. let s = multiplication_strong t o h in omega (arith, s)) rest e.stops;
-        between = λ o a us vs rest h f. multiplication_ends o us vs h;
-      }
+      arithmetic_exact (IsFactor Inner) (IsBracketed Inner) multiplication_of (EndsFactor 7) (EndsFactor 6) (factor_at inner)
+      (λ rest e. record { stops = stops_weaker 6 7 rest (omega arith) e.stops; no_interval = e.no_interval })
+      (λ rest e. stops_token 6 multiplication_of (λ t o h. let s = multiplication_strong t o h in omega (arith, s)) rest e.stops)
+      (λ o a us vs rest h f. multiplication_ends o us vs h)
       (factor_exact Inner inner reads)
 
   addition_ends : (o : Operator) (ts rest : List Lexeme) → IsOperator addition_of o ts rest → Starts rest → EndsFactor 6 ts
@@ -430,18 +440,8 @@ module _ (Inner : Clause → List Lexeme → List Lexeme → Type 0) (inner : Li
   pub sum_exact : Exact (Of (IsValueExpression Inner) (IsBracketed Inner)) (Stops 5) (sum_at inner)
   unfolding sum_at
   sum_exact =
-      rank_exact expression addition_of (IsTerm Inner) arithmetic join_arithmetic (Of (IsTerm Inner) (IsBracketed Inner)) (Of (IsValueExpression Inner) (IsBracketed Inner)) (EndsFactor 6) (Stops 5) (term_at inner)
-      record {
-        operand = λ a ts rest h. h;
-        clause = λ a ts rest h. h;
-        alone = alone_in (IsTerm Inner) (IsBracketed Inner) addition_of;
-        whole = λ a ts rest h. h;
-        series = λ a ts rest h. h;
-        sorts = sorts_in (IsTerm Inner) (IsBracketed Inner) addition_of;
-        joins = λ o a b. refl;
-        parts = arithmetic_parts;
-        ends = λ rest e. let f = stops_factor 5 rest (omega arith) e in record { stops = stops_weaker 5 6 rest (omega arith) e; no_interval = f.no_interval };
-        none = λ rest e. stops_token 5 addition_of (λ t o h. let s = addition_strong t o h in omega (arith, s)) rest e;
-        between = λ o a us vs rest h f. addition_ends o us vs h (term_exact.begins (expression a) vs rest f);
-      }
+      arithmetic_exact (IsTerm Inner) (IsBracketed Inner) addition_of (EndsFactor 6) (Stops 5) (term_at inner)
+      (λ rest e. let f = stops_factor 5 rest (omega arith) e in record { stops = stops_weaker 5 6 rest (omega arith) e; no_interval = f.no_interval })
+      (λ rest e. stops_token 5 addition_of (λ t o h. let s = addition_strong t o h in omega (arith, s)) rest e)
+      (λ o a us vs rest h f. addition_ends o us vs h (term_exact.begins (expression a) vs rest f))
       term_exact
