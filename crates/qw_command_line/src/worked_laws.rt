@@ -1,4 +1,5 @@
 //! Words by their reading, worked out. No function here computes anything.
+#![tactic(auto, unfolding(crate::specs::Words::reading, clap::proofs::OnLiterals::clap_on_literals))]
 
 ghost use Rattle.std.specs.Prelude.{◌≡◌, ◌-◌, ◌^◌, [], ◌∷◌, codes, true, false};
 ghost use Rattle.qw_command_line.specs.Words as spec;
@@ -63,7 +64,6 @@ pub fn worked_ranges()
 /// Options of `run` stand anywhere behind the command, with or without `=`. A value that isn't digits is out of range, and of several
 /// numbers the first of quantum, pages and steps is told. An option without its value, one with a value that has none, one that is given
 /// twice, one before the command, and one of another command are refused.
-#[tactic(auto, unfolding(crate::specs::Words::reading, clap::proofs::OnLiterals::clap_on_literals))]
 pub fn worked_options()
     ensures counts { run_with (codes "--stats" ∷ []) ≡ runs (record spec.default_options { counts = true }) }
     ensures anywhere { spec.reading (codes "run" ∷ codes "--pages=5" ∷ codes "s" ∷ codes "--stats" ∷ codes "d" ∷ codes "--steps" ∷ codes "7" ∷ codes "q" ∷ codes "--quantum=009" ∷ [])

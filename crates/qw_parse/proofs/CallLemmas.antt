@@ -1,5 +1,5 @@
 -- The words of functions: each is in upper case, is neither NOT nor CASE, and begins an expression.
-use Rattle.std.proofs.Common.{◌≡◌, ℕ, true, false, List, Some, None, refl, subst, inl, inr}
+use Rattle.std.proofs.Common.{◌≡◌, ℕ, true, false, List, Some, None, refl}
 use Rattle.std.specs.Prelude.{codes, IsTrue}
 use Rattle.qw_token.specs.Token.{Lexeme}
 use Rattle.qw_token.specs.declared.token.Kind.TheVariants.{Word}
@@ -7,8 +7,7 @@ use Rattle.qw_scalar.specs.declared.expression.Function.{Function}
 use Rattle.qw_scalar.specs.declared.expression.Function.TheVariants.{Coalesce, NullIf}
 use Rattle.qw_ast.specs.Grammar.{folded}
 use Rattle.qw_ast.specs.ScriptGrammar.{function_of, is_name, is_word}
-use Rattle.qw_parse.proofs.LoopLemmas.{some_same}
-use Rattle.qw_parse.proofs.TokenLemmas.{choose, word_is}
+use Rattle.qw_parse.proofs.TokenLemmas.{told_or, word_is}
 use Rattle.qw_parse.proofs.ExactLemmas.{starts}
 use Rattle.qw_parse.proofs.PrimaryLemmas.{name_no_word}
 
@@ -19,13 +18,8 @@ call_word_of NullIf = codes "NULLIF"
 pub call_word : (t : Lexeme) (f : Function) → function_of t ≡ Some f → IsTrue (is_word (call_word_of f) t)
 call_word t f e =
     let R = λ (g : Function). IsTrue (is_word (call_word_of g) t) in
-    elim (choose (is_word (codes "COALESCE") t) _ _ f e) [
-      | inl h ↦ subst R (some_same Coalesce f h.1) h.0
-      | inr e1 ↦ elim (choose (is_word (codes "NULLIF") t) _ _ f e1.1) [
-        | inl h ↦ subst R (some_same NullIf f h.1) h.0
-        | inr e2 ↦ absurd (let none : None ≡ Some f = e2.1 in cc)
-      ]
-    ]
+    told_or R _ Coalesce f _ e (λ h. h) (λ e1.
+    told_or R _ NullIf f None e1 (λ h. h) (λ e2. absurd cc))
 
 pub folded_call : (f : Function) → folded (call_word_of f) ≡ call_word_of f
 folded_call Coalesce = refl

@@ -10,38 +10,26 @@ use Rattle.qw_scalar.specs.declared.comparison.Comparison.{Comparison}
 use Rattle.qw_scalar.specs.declared.expression.Predicate.{Predicate}
 use Rattle.qw_ast.specs.Grammar.{folded}
 use Rattle.qw_ast.specs.Syntax.{Expression, text, Condition, comparison, between, among, predicate, both, either, negation_of, is, bracketed, Clause, condition, expression}
-use Rattle.qw_ast.specs.ScriptGrammar.{is_word, is_symbol, is_string, comparison_of, predicate_of, truth_of, likeness, first, IsOperator, operator, AreFurther, IsExpressionOf, arguments, IsOptionalNot, not_absent, not_there, IsValueExpression, IsPredicate, a_comparison, a_between, an_in, a_like, a_value_test, IsBooleanPrimary, a_predicate, condition_brackets, IsBooleanTest, no_test, a_test, IsBooleanFactor, no_negation, a_negation, is_and, is_or, IsBooleanTerm, IsSearchCondition, IsClause, IsNested}
-use Rattle.qw_parse.specs.Inner.Readers.{token_at, word_at, octets_if, not_at, expression_at, listing_at, condition_at, the_expression, the_condition, sum_at, between_at, in_at, like_at, compare_at, value_test_at, condition_clause, ranged_at, tail_at, predicate_at, truth_test_at, test_at, boolean_factor_at, join_and, join_or, boolean_term_at, clause_at, nested_at}
-use Rattle.qw_parse.proofs.LoopLemmas.{bind_some, some_same, cases_option}
-use Rattle.qw_parse.proofs.TokenLemmas.{word_is, Front, front, one_takes, one_is, one_not, Found, found, token_takes, token_is, octets_found, octets_are, strength, Stops, stops_at, stops_weaker, stops_one, stops_token, strong_symbol, strong_word}
-use Rattle.qw_parse.proofs.ExactLemmas.{Starts, starts_at, Exact, other_word, not_takes, not_is, not_shorter}
+use Rattle.qw_ast.specs.ScriptGrammar.{is_word, is_symbol, is_string, comparison_of, predicate_of, truth_of, likeness, Series, first, IsOperator, AreFurther, IsExpressionOf, arguments, IsOptionalNot, not_absent, not_there, IsValueExpression, IsPredicate, a_comparison, a_between, an_in, a_like, a_value_test, IsBooleanPrimary, a_predicate, condition_brackets, IsBooleanTest, no_test, a_test, IsBooleanFactor, no_negation, a_negation, is_and, is_or, IsBooleanTerm, IsClause, IsNested}
+use Rattle.qw_parse.specs.Inner.Readers.{token_at, word_at, octets_if, not_at, expression_at, listing_at, condition_at, the_expression, the_condition, sum_at, between_at, in_at, like_at, compare_at, value_test_at, condition_clause, ranged_at, tail_at, predicate_at, truth_test_at, test_at, boolean_factor_at, join_and, join_or, boolean_term_at, clause_at, nested_at, series_at}
+use Rattle.qw_parse.proofs.LoopLemmas.{bind_some, none_not_some, some_same, cases_option}
+use Rattle.qw_parse.proofs.TokenLemmas.{word_is, Front, front, one_takes, one_is, one_not, Found, found, token_takes, token_is, octets_found, octets_are, told_or, strength, Stops, stops_at, stops_weaker, stops_one, stops_token, strong_symbol, strong_word}
+use Rattle.qw_parse.proofs.ExactLemmas.{Starts, starts_at, Exact, operator_stops, other_word, not_takes, not_is, not_shorter}
 use Rattle.qw_parse.proofs.PrimaryLemmas.{the_expression_is, Of, IsBracketed, between_brackets, listing_takes, listing_is, further_down}
-use Rattle.qw_parse.proofs.SumLemmas.{sum_exact, expression_no_not, bracketed_no_not}
+use Rattle.qw_parse.proofs.SumLemmas.{Begins, sum_exact, expression_begins, bracketed_begins}
 use Rattle.qw_parse.proofs.RankLemmas.{rank_exact}
 
 -- ---- tokens
 
 comparison_strong : (t : Lexeme) (op : Comparison) → comparison_of t ≡ Some op → strength t ≡ 4
 comparison_strong t op e =
-    elim (cases_Bool (is_symbol (codes "=") t)) [
-      | inl h ↦ strong_symbol (codes "=") 4 t refl h
-      | inr a ↦ elim (cases_Bool (is_symbol (codes "<>") t)) [
-        | inl h ↦ strong_symbol (codes "<>") 4 t refl h
-        | inr b ↦ elim (cases_Bool (is_symbol (codes "<") t)) [
-          | inl h ↦ strong_symbol (codes "<") 4 t refl h
-          | inr c ↦ elim (cases_Bool (is_symbol (codes "<=") t)) [
-            | inl h ↦ strong_symbol (codes "<=") 4 t refl h
-            | inr d ↦ elim (cases_Bool (is_symbol (codes ">") t)) [
-              | inl h ↦ strong_symbol (codes ">") 4 t refl h
-              | inr f ↦ elim (cases_Bool (is_symbol (codes ">=") t)) [
-                | inl h ↦ strong_symbol (codes ">=") 4 t refl h
-                | inr g ↦ absurd (let none : None ≡ Some op = rw (a, b, c, d, f, g) at e in cc)
-              ]
-            ]
-          ]
-        ]
-      ]
-    ]
+    let R = λ (o : Comparison). strength t ≡ 4 in
+    told_or R _ _ op _ e (strong_symbol (codes "=") 4 t refl) (λ a.
+    told_or R _ _ op _ a (strong_symbol (codes "<>") 4 t refl) (λ b.
+    told_or R _ _ op _ b (strong_symbol (codes "<") 4 t refl) (λ c.
+    told_or R _ _ op _ c (strong_symbol (codes "<=") 4 t refl) (λ d.
+    told_or R _ _ op _ d (strong_symbol (codes ">") 4 t refl) (λ f.
+    told_or R _ _ op None f (strong_symbol (codes ">=") 4 t refl) (λ g. absurd cc))))))
 
 no_comparison : (ts : List Lexeme) → Stops 4 ts → token_at comparison_of ts ≡ None
 no_comparison ts h = stops_token 4 comparison_of (λ t op e. let s = comparison_strong t op e in omega (arith, s)) ts h
@@ -53,19 +41,19 @@ no_strong_word w n e f ts h = stops_one n (is_word w) (λ t i. let s = strong_wo
 word_weak : (w : List ℕ) (n m : ℕ) (t : Lexeme) (rest : List Lexeme) → strength (record { kind = Word; octets = w }) ≡ n → folded w ≡ w → n < m → IsTrue (is_word w t) → Stops m (t ∷ rest)
 word_weak w n m t rest e f le h = let s = strong_word w n t e f h in stops_at m t rest (omega (arith, s, le))
 
-predicate_no_not : (t : Lexeme) (p : Predicate) (rest : List Lexeme) → predicate_of t ≡ Some p → word_at (codes "NOT") (t ∷ rest) ≡ None
-predicate_no_not t p rest e =
+-- what no NOT says is said by none
+meant_no_not : {A : Type 0} (meaning : Lexeme → Option A) (t : Lexeme) (a : A) (rest : List Lexeme) → (IsTrue (is_word (codes "NOT") t) → meaning t ≡ None) → meaning t ≡ Some a → word_at (codes "NOT") (t ∷ rest) ≡ None
+meant_no_not meaning t a rest never e =
     elim (cases_Bool (is_word (codes "NOT") t)) [
-      | inl h ↦ absurd (let i = word_is (codes "NOT") t h in let none : None ≡ Some p = rw (i.0, i.1) at e in cc)
+      | inl h ↦ absurd (none_not_some (meaning t) a (never h) e)
       | inr h ↦ one_not (is_word (codes "NOT")) t rest h
     ]
 
+predicate_no_not : (t : Lexeme) (p : Predicate) (rest : List Lexeme) → predicate_of t ≡ Some p → word_at (codes "NOT") (t ∷ rest) ≡ None
+predicate_no_not t p rest e = meant_no_not predicate_of t p rest (λ h. let i = word_is (codes "NOT") t h in rw (i.0, i.1) refl) e
+
 truth_no_not : (t : Lexeme) (v : Truth) (rest : List Lexeme) → truth_of t ≡ Some v → word_at (codes "NOT") (t ∷ rest) ≡ None
-truth_no_not t v rest e =
-    elim (cases_Bool (is_word (codes "NOT") t)) [
-      | inl h ↦ absurd (let i = word_is (codes "NOT") t h in let none : None ≡ Some v = rw (i.0, i.1) at e in cc)
-      | inr h ↦ one_not (is_word (codes "NOT")) t rest h
-    ]
+truth_no_not t v rest e = meant_no_not truth_of t v rest (λ h. let i = word_is (codes "NOT") t h in rw (i.0, i.1) refl) e
 
 -- what stands in front of BETWEEN, IN and LIKE
 ranged_front : (w : List ℕ) → strength (record { kind = Word; octets = w }) ≡ 3 → folded w ≡ w → is_word (codes "IS") (record { kind = Word; octets = w }) ≡ false
@@ -103,12 +91,6 @@ or_strong t o e =
       | inr h ↦ absurd (let none : None ≡ Some o = rw h at e in cc)
     ]
 
-and_ends : (o : Unit {0}) (ts rest : List Lexeme) → IsOperator is_and o ts rest → Stops 3 ts
-and_ends _ _ _ (operator o t rest h) = let s = and_strong t o h in stops_at 3 t rest (omega (arith, s))
-
-or_ends : (o : Unit {0}) (ts rest : List Lexeme) → IsOperator is_or o ts rest → Stops 2 ts
-or_ends _ _ _ (operator o t rest h) = let s = or_strong t o h in stops_at 2 t rest (omega (arith, s))
-
 and_parts : (o : Unit {0}) (p q r : Clause) → join_and o p q ≡ Some r → (a : Condition) × (b : Condition) × (p ≡ condition a) × (q ≡ condition b) × (r ≡ condition (both a b))
 and_parts o (condition a) (condition b) r e = (a, b, refl, refl, sym (some_same (condition (both a b)) r e))
 and_parts o (condition a) (expression d) r e = absurd cc
@@ -141,9 +123,6 @@ module _ (Inner : Clause → List Lexeme → List Lexeme → Type 0) (inner : Li
 
   sum_shorter : (e : Expression) (ts rest : List Lexeme) → IsValueExpression Inner e ts rest → length rest < length ts
   sum_shorter e ts rest h = (sum_exact Inner inner reads).shorter (expression e) ts rest h
-
-  sum_begins : (e : Expression) (ts rest : List Lexeme) → IsValueExpression Inner e ts rest → Starts ts
-  sum_begins e ts rest h = (sum_exact Inner inner reads).begins (expression e) ts rest h
 
   -- ---- behind the first expression
 
@@ -378,21 +357,13 @@ module _ (Inner : Clause → List Lexeme → List Lexeme → Type 0) (inner : Li
       omega (arith, s, m)
   primary_shorter _ _ _ (condition_brackets c o k ts rest f h g) = let p = reads.shorter (condition c) ts (k ∷ rest) h in omega (arith, p)
 
-  primary_begins : (c : Condition) (ts rest : List Lexeme) → IsBooleanPrimary Inner c ts rest → Starts ts
-  primary_begins _ _ _ (a_predicate _ _ _ (a_comparison a b op t ts us rest h f i)) = sum_begins a ts (t ∷ us) h
-  primary_begins _ _ _ (a_predicate _ _ _ (a_between x a b negated word t ts us vs ws rest h n f i g j)) = sum_begins x ts us h
-  primary_begins _ _ _ (a_predicate _ _ _ (an_in x e es negated word o c ts us vs ws rest h n f g i j k)) = sum_begins x ts us h
-  primary_begins _ _ _ (a_predicate _ _ _ (a_like x negated word t ts us rest h n f g)) = sum_begins x ts us h
-  primary_begins _ _ _ (a_predicate _ _ _ (a_value_test x p negated w t ts us rest h f n g)) = sum_begins x ts (w ∷ us) h
-  primary_begins _ _ _ (condition_brackets c o k ts rest f h g) = (sum_exact Inner inner reads).begins (condition (bracketed c)) (o ∷ ts) rest (between_brackets c o k ts rest f h g)
-
-  primary_no_not : (c : Condition) (ts rest : List Lexeme) → IsBooleanPrimary Inner c ts rest → word_at (codes "NOT") ts ≡ None
-  primary_no_not _ _ _ (a_predicate _ _ _ (a_comparison a b op t ts us rest h f i)) = expression_no_not Inner inner reads a ts (t ∷ us) h
-  primary_no_not _ _ _ (a_predicate _ _ _ (a_between x a b negated word t ts us vs ws rest h n f i g j)) = expression_no_not Inner inner reads x ts us h
-  primary_no_not _ _ _ (a_predicate _ _ _ (an_in x e es negated word o c ts us vs ws rest h n f g i j k)) = expression_no_not Inner inner reads x ts us h
-  primary_no_not _ _ _ (a_predicate _ _ _ (a_like x negated word t ts us rest h n f g)) = expression_no_not Inner inner reads x ts us h
-  primary_no_not _ _ _ (a_predicate _ _ _ (a_value_test x p negated w t ts us rest h f n g)) = expression_no_not Inner inner reads x ts (w ∷ us) h
-  primary_no_not _ _ _ (condition_brackets c o k ts rest f h g) = bracketed_no_not Inner inner reads (bracketed c) (o ∷ ts) rest (between_brackets c o k ts rest f h g)
+  primary_begins : (c : Condition) (ts rest : List Lexeme) → IsBooleanPrimary Inner c ts rest → Begins ts
+  primary_begins _ _ _ (a_predicate _ _ _ (a_comparison a b op t ts us rest h f i)) = expression_begins Inner inner reads a ts (t ∷ us) h
+  primary_begins _ _ _ (a_predicate _ _ _ (a_between x a b negated word t ts us vs ws rest h n f i g j)) = expression_begins Inner inner reads x ts us h
+  primary_begins _ _ _ (a_predicate _ _ _ (an_in x e es negated word o c ts us vs ws rest h n f g i j k)) = expression_begins Inner inner reads x ts us h
+  primary_begins _ _ _ (a_predicate _ _ _ (a_like x negated word t ts us rest h n f g)) = expression_begins Inner inner reads x ts us h
+  primary_begins _ _ _ (a_predicate _ _ _ (a_value_test x p negated w t ts us rest h f n g)) = expression_begins Inner inner reads x ts (w ∷ us) h
+  primary_begins _ _ _ (condition_brackets c o k ts rest f h g) = bracketed_begins Inner inner reads (bracketed c) (o ∷ ts) rest (between_brackets c o k ts rest f h g)
 
   -- ---- a test
 
@@ -450,13 +421,9 @@ module _ (Inner : Clause → List Lexeme → List Lexeme → Type 0) (inner : Li
       let m = not_shorter negated us (t ∷ rest) n in
       omega (arith, p, m)
 
-  test_begins : (c : Condition) (ts rest : List Lexeme) → IsBooleanTest Inner c ts rest → Starts ts
+  test_begins : (c : Condition) (ts rest : List Lexeme) → IsBooleanTest Inner c ts rest → Begins ts
   test_begins _ _ _ (no_test c ts rest h) = primary_begins c ts rest h
   test_begins _ _ _ (a_test c negated v w t ts us rest h f n g) = primary_begins c ts (w ∷ us) h
-
-  test_no_not : (c : Condition) (ts rest : List Lexeme) → IsBooleanTest Inner c ts rest → word_at (codes "NOT") ts ≡ None
-  test_no_not _ _ _ (no_test c ts rest h) = primary_no_not c ts rest h
-  test_no_not _ _ _ (a_test c negated v w t ts us rest h f n g) = primary_no_not c ts (w ∷ us) h
 
   -- ---- a factor
 
@@ -492,13 +459,13 @@ module _ (Inner : Clause → List Lexeme → List Lexeme → Type 0) (inner : Li
 
   factor_of : (c : Condition) (ts rest : List Lexeme) → IsBooleanFactor Inner c ts rest → Stops 3 rest → boolean_factor_at inner ts ≡ Some (condition c, rest)
   unfolding boolean_factor_at
-  factor_of _ _ _ (no_negation c ts rest h) ends = rw (test_no_not c ts rest h) (test_is c ts rest h ends)
+  factor_of _ _ _ (no_negation c ts rest h) ends = rw ((test_begins c ts rest h).no_not) (test_is c ts rest h ends)
   factor_of _ _ _ (a_negation c w ts rest f h) ends = rw (one_is (is_word (codes "NOT")) w ts f, condition_is c ts rest h ends) refl
 
   factor_is : (c : Clause) (ts rest : List Lexeme) → Of (IsValueExpression Inner) (IsBooleanFactor Inner) c ts rest → Stops 3 rest → boolean_factor_at inner ts ≡ Some (c, rest)
   unfolding boolean_factor_at
   factor_is (condition c) ts rest h ends = factor_of c ts rest h ends
-  factor_is (expression e) ts rest h ends = rw (expression_no_not Inner inner reads e ts rest h) (untested e ts rest h ends)
+  factor_is (expression e) ts rest h ends = rw ((expression_begins Inner inner reads e ts rest h).no_not) (untested e ts rest h ends)
 
   factor_down : (c : Condition) (ts rest : List Lexeme) → IsBooleanFactor Inner c ts rest → length rest < length ts
   factor_down _ _ _ (no_negation c ts rest h) = test_shorter c ts rest h
@@ -512,71 +479,59 @@ module _ (Inner : Clause → List Lexeme → List Lexeme → Type 0) (inner : Li
   not_starts t ts h = let i = word_is (codes "NOT") t h in starts_at t ts (rw (i.0, i.1) refl)
 
   factor_front : (c : Condition) (ts rest : List Lexeme) → IsBooleanFactor Inner c ts rest → Starts ts
-  factor_front _ _ _ (no_negation c ts rest h) = test_begins c ts rest h
+  factor_front _ _ _ (no_negation c ts rest h) = (test_begins c ts rest h).starts
   factor_front _ _ _ (a_negation c w ts rest f h) = not_starts w ts f
 
   factor_begins : (c : Clause) (ts rest : List Lexeme) → Of (IsValueExpression Inner) (IsBooleanFactor Inner) c ts rest → Starts ts
   factor_begins (condition c) ts rest h = factor_front c ts rest h
-  factor_begins (expression e) ts rest h = sum_begins e ts rest h
+  factor_begins (expression e) ts rest h = (expression_begins Inner inner reads e ts rest h).starts
 
   pub factor_exact : Exact (Of (IsValueExpression Inner) (IsBooleanFactor Inner)) (Stops 3) (boolean_factor_at inner)
   factor_exact = record { takes = factor_takes; is = factor_is; shorter = factor_shorter; begins = factor_begins }
 
   -- ---- AND and OR
 
-  and_alone : (p : Clause) (ts rest : List Lexeme) → Of (IsValueExpression Inner) (IsBooleanFactor Inner) p ts rest → Of (IsValueExpression Inner) (IsBooleanTerm Inner) p ts rest
-  and_alone (expression e) ts rest h = h
-  and_alone (condition c) ts rest h = first c ts rest h
+  alone_in : {O : Type 0} (F : Condition → List Lexeme → List Lexeme → Type 0) (meaning : Lexeme → Option O) (joined : O → Condition → Condition → Condition) (p : Clause) (ts rest : List Lexeme)
+      → Of (IsValueExpression Inner) F p ts rest → Of (IsValueExpression Inner) (λ c us vs. Series F (IsOperator meaning) F joined c us vs) p ts rest
+  alone_in F meaning joined (expression e) ts rest h = h
+  alone_in F meaning joined (condition c) ts rest h = first c ts rest h
 
-  and_sorts : (p : Clause) (ts rest : List Lexeme) → Of (IsValueExpression Inner) (IsBooleanTerm Inner) p ts rest → ((a : Condition) × (p ≡ condition a) × IsBooleanTerm Inner a ts rest) ⊎ Of (IsValueExpression Inner) (IsBooleanFactor Inner) p ts rest
-  and_sorts (expression e) ts rest h = inr h
-  and_sorts (condition c) ts rest h = inl (c, refl, h)
+  sorts_in : {O : Type 0} (F : Condition → List Lexeme → List Lexeme → Type 0) (meaning : Lexeme → Option O) (joined : O → Condition → Condition → Condition) (p : Clause) (ts rest : List Lexeme)
+      → Of (IsValueExpression Inner) (λ c us vs. Series F (IsOperator meaning) F joined c us vs) p ts rest → ((a : Condition) × (p ≡ condition a) × Series F (IsOperator meaning) F joined a ts rest) ⊎ Of (IsValueExpression Inner) F p ts rest
+  sorts_in F meaning joined (expression e) ts rest h = inr h
+  sorts_in F meaning joined (condition c) ts rest h = inl (c, refl, h)
 
-  or_alone : (p : Clause) (ts rest : List Lexeme) → Of (IsValueExpression Inner) (IsBooleanTerm Inner) p ts rest → IsClause Inner p ts rest
-  or_alone (expression e) ts rest h = h
-  or_alone (condition c) ts rest h = first c ts rest h
-
-  or_sorts : (p : Clause) (ts rest : List Lexeme) → IsClause Inner p ts rest → ((a : Condition) × (p ≡ condition a) × IsSearchCondition Inner a ts rest) ⊎ Of (IsValueExpression Inner) (IsBooleanTerm Inner) p ts rest
-  or_sorts (expression e) ts rest h = inr h
-  or_sorts (condition c) ts rest h = inl (c, refl, h)
+  -- operators of one rank between conditions
+  conditions_exact : {O : Type 0} (F : Condition → List Lexeme → List Lexeme → Type 0) (meaning : Lexeme → Option O) (joined : O → Condition → Condition → Condition) (join : O → Clause → Clause → Option Clause) (n m : ℕ) (read : List Lexeme → Option (Clause × List Lexeme))
+      → ((o : O) (a b : Condition) → join o (condition a) (condition b) ≡ Some (condition (joined o a b)))
+      → ((o : O) (p q r : Clause) → join o p q ≡ Some r → (a : Condition) × (b : Condition) × (p ≡ condition a) × (q ≡ condition b) × (r ≡ condition (joined o a b)))
+      → m < n → ((t : Lexeme) (o : O) → meaning t ≡ Some o → strength t ≡ m) → Exact (Of (IsValueExpression Inner) F) (Stops n) read
+      → Exact (Of (IsValueExpression Inner) (λ c us vs. Series F (IsOperator meaning) F joined c us vs)) (Stops m) (series_at read (token_at meaning) read join)
+  conditions_exact F meaning joined join n m read joins parts weaker strong =
+      rank_exact condition meaning F joined join (Of (IsValueExpression Inner) F) (Of (IsValueExpression Inner) (λ c us vs. Series F (IsOperator meaning) F joined c us vs)) (Stops n) (Stops m) read
+      record {
+        operand = λ a ts rest h. h;
+        clause = λ a ts rest h. h;
+        alone = alone_in F meaning joined;
+        whole = λ a ts rest h. h;
+        series = λ a ts rest h. h;
+        sorts = sorts_in F meaning joined;
+        joins = joins;
+        parts = parts;
+        ends = λ rest e. stops_weaker m n rest (omega arith) e;
+        none = λ rest e. stops_token m meaning (λ t o h. let s = strong t o h in omega (arith, s)) rest e;
+        between = λ o a us vs rest h f. operator_stops meaning n (λ t o h. let s = strong t o h in omega (arith, s)) o us vs h;
+      }
 
   pub boolean_term_exact : Exact (Of (IsValueExpression Inner) (IsBooleanTerm Inner)) (Stops 2) (boolean_term_at inner)
   unfolding boolean_term_at
   boolean_term_exact =
-      rank_exact condition is_and (IsBooleanFactor Inner) (λ _ a b. both a b) join_and (Of (IsValueExpression Inner) (IsBooleanFactor Inner)) (Of (IsValueExpression Inner) (IsBooleanTerm Inner)) (Stops 3) (Stops 2) (boolean_factor_at inner)
-      record {
-        operand = λ a ts rest h. h;
-        clause = λ a ts rest h. h;
-        alone = and_alone;
-        whole = λ a ts rest h. h;
-        series = λ a ts rest h. h;
-        sorts = and_sorts;
-        joins = λ o a b. refl;
-        parts = and_parts;
-        ends = λ rest e. stops_weaker 2 3 rest (omega arith) e;
-        none = λ rest e. stops_token 2 is_and (λ t o h. let s = and_strong t o h in omega (arith, s)) rest e;
-        between = λ o a us vs rest h f. and_ends o us vs h;
-      }
-      factor_exact
+      conditions_exact (IsBooleanFactor Inner) is_and (λ _ a b. both a b) join_and 3 2 (boolean_factor_at inner) (λ o a b. refl) and_parts (omega arith) and_strong factor_exact
 
   pub clause_exact : Exact (IsClause Inner) (Stops 1) (clause_at inner)
   unfolding clause_at
   clause_exact =
-      rank_exact condition is_or (IsBooleanTerm Inner) (λ _ a b. either a b) join_or (Of (IsValueExpression Inner) (IsBooleanTerm Inner)) (IsClause Inner) (Stops 2) (Stops 1) (boolean_term_at inner)
-      record {
-        operand = λ a ts rest h. h;
-        clause = λ a ts rest h. h;
-        alone = or_alone;
-        whole = λ a ts rest h. h;
-        series = λ a ts rest h. h;
-        sorts = or_sorts;
-        joins = λ o a b. refl;
-        parts = or_parts;
-        ends = λ rest e. stops_weaker 1 2 rest (omega arith) e;
-        none = λ rest e. stops_token 1 is_or (λ t o h. let s = or_strong t o h in omega (arith, s)) rest e;
-        between = λ o a us vs rest h f. or_ends o us vs h;
-      }
-      boolean_term_exact
+      conditions_exact (IsBooleanTerm Inner) is_or (λ _ a b. either a b) join_or 2 1 (boolean_term_at inner) (λ o a b. refl) or_parts (omega arith) or_strong boolean_term_exact
 
 -- ---- what is nested
 

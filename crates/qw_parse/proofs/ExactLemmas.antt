@@ -1,6 +1,7 @@
 -- A reader reads a rule exactly; and so it does for lists, results, dates and CASE, where it does for what stands inside.
 use Rattle.std.proofs.Common.{◌≡◌, ℕ, ◌+◌, ◌<◌, ◌≤◌, Bool, true, false, ◌||◌, List, [], ◌∷◌, length, Option, Some, None, refl, sym, subst, ◌∙◌, arith, inl, inr}
 use Rattle.std.specs.Prelude.{◌⊎◌, codes, IsTrue}
+use Rattle.std.specs.Option.{option_map_or}
 use Rattle.std.proofs.lemmas.Bool.{cases_Bool, false≢true}
 use Rattle.qw_token.specs.Token.{Lexeme}
 use Rattle.qw_token.specs.declared.token.Kind.TheVariants.{Word, Symbol}
@@ -8,9 +9,9 @@ use Rattle.qw_ast.specs.Grammar.{folded}
 use Rattle.qw_ast.specs.declared.script.Sign.{Sign}
 use Rattle.qw_ast.specs.ScriptGrammar.{is_word, is_symbol, is_number, is_string, is_integer, is_name, sign_of, function_of, set_function_of, appended, is_comma, Series, first, more, IsOperator, operator, IsNothing, nothing, AreFurther, IsOptionalAll, all_absent, all_there, IsOptionalNot, not_absent, not_there, IsPrecision, no_precision, precision, IsIntervalSign, interval_sign, IsDays, days, Dated, moved, IsDateString, date_string, IsDate}
 use Rattle.qw_parse.specs.Inner.Parser.{is_there}
-use Rattle.qw_parse.specs.Inner.Readers.{token_at, given, one_at, word_at, symbol_at, octets_if, series_at, append, further_at, behind_all, not_at, precision_at, interval_sign_at, days_at, date_string_at, move, date_at}
+use Rattle.qw_parse.specs.Inner.Readers.{◌>>=◌, token_at, given, one_at, word_at, symbol_at, octets_if, series_at, append, further_at, behind_all, not_at, precision_at, interval_sign_at, days_at, date_string_at, move, date_at}
 use Rattle.qw_parse.proofs.LoopLemmas.{bind_some, some_same, cases_option, Shortens, series_holds, series_is, series_shorter, series_begins}
-use Rattle.qw_parse.proofs.TokenLemmas.{word_is, symbol_is, Front, front, one_takes, one_is, one_not, Found, found, token_takes, token_is, token_shortens, octets_found, octets_are, strength, Stops, stops_at, strong_symbol, strong_word}
+use Rattle.qw_parse.proofs.TokenLemmas.{word_is, symbol_is, Front, front, one_takes, one_is, one_not, Found, found, token_takes, token_is, token_shortens, one_holds, octets_found, octets_are, octets_hold, strength, Stops, stops_at, strong_symbol, strong_word}
 
 -- ---- how an expression or a condition begins
 
@@ -62,6 +63,22 @@ pub record Exact {P : Type 0} (R : P → List Lexeme → List Lexeme → Type 0)
 pub exact_shortens : {P : Type 0} {R : P → List Lexeme → List Lexeme → Type 0} {Ends : List Lexeme → Type 0} {read : List Lexeme → Option (P × List Lexeme)} → Exact R Ends read → Shortens read
 exact_shortens reads ts x e = reads.shorter x.0 ts x.1 (reads.takes ts x e)
 
+-- ---- words
+
+-- another word than one that stands there
+pub other_word : (v w : List ℕ) (t : Lexeme) (rest : List Lexeme) → folded v ≡ v → is_word w (record { kind = Word; octets = v }) ≡ false → IsTrue (is_word v t) → word_at w (t ∷ rest) ≡ None
+other_word v w t rest f e h = let is = word_is v t h in one_not (is_word w) t rest (rw (is.0, is.1) (rw f at e))
+
+-- a word where a symbol stands
+pub no_word : (s w : List ℕ) (t : Lexeme) (rest : List Lexeme) → IsTrue (is_symbol s t) → word_at w (t ∷ rest) ≡ None
+no_word s w t rest h = let is = symbol_is s t h in one_not (is_word w) t rest (rw is.0 refl)
+
+pub word_stops : (w : List ℕ) (n : ℕ) (t : Lexeme) (rest : List Lexeme) → strength (record { kind = Word; octets = w }) ≡ 0 → folded w ≡ w → 0 < n → IsTrue (is_word w t) → Stops n (t ∷ rest)
+word_stops w n t rest e f some h = let s = strong_word w 0 t e f h in stops_at n t rest (omega (arith, s, some))
+
+pub symbol_stops : (s : List ℕ) (n : ℕ) (t : Lexeme) (rest : List Lexeme) → strength (record { kind = Symbol; octets = s }) ≡ 0 → 0 < n → IsTrue (is_symbol s t) → Stops n (t ∷ rest)
+symbol_stops s n t rest e some h = let z = strong_symbol s 0 t e h in stops_at n t rest (omega (arith, z, some))
+
 -- ---- operators of one token
 
 pub operator_takes : {O : Type 0} (meaning : Lexeme → Option O) (ts : List Lexeme) (x : O × List Lexeme) → token_at meaning ts ≡ Some x → IsOperator meaning x.0 ts x.1
@@ -94,6 +111,10 @@ series_front Q q _ _ _ (more xs o x ts us vs rest h between item) =
 abbrev Behind : {O A : Type 0} → (Lexeme → Option O) → (A → List Lexeme → List Lexeme → Type 0) → List A → List Lexeme → List Lexeme → Type 0
 Behind meaning Item xs ts rest = Series IsNothing (IsOperator meaning) Item appended xs ts rest
 
+-- nothing is given for no token
+pub given_is : {A : Type 0} (ys : List A) (us vs : List Lexeme) → IsNothing ys us vs → given [] us ≡ Some (ys, vs)
+given_is _ _ _ (nothing rest) = refl
+
 module _ {O A : Type 0} (meaning : Lexeme → Option O) (Ends : List Lexeme → Type 0) {Item : A → List Lexeme → List Lexeme → Type 0} {read : List Lexeme → Option (A × List Lexeme)} (reads : Exact Item Ends read) where
   pub list_takes : (ts : List Lexeme) (x : List A × List Lexeme) → series_at (given []) (token_at meaning) read append ts ≡ Some x → Behind meaning Item x.0 ts x.1
   list_takes =
@@ -115,9 +136,6 @@ module _ {O A : Type 0} (meaning : Lexeme → Option O) (Ends : List Lexeme → 
       (given [])
       (λ ys us vs nothing_is ends. given_is ys us vs nothing_is)
       xs ts rest h ends none
-    where
-      given_is : {A : Type 0} (ys : List A) (us vs : List Lexeme) → IsNothing ys us vs → given [] us ≡ Some (ys, vs)
-      given_is _ _ _ (nothing rest) = refl
 
   pub list_shorter : (xs : List A) (ts rest : List Lexeme) → Behind meaning Item xs ts rest → length rest ≤ length ts
   list_shorter xs ts rest h =
@@ -129,36 +147,103 @@ module _ {O A : Type 0} (meaning : Lexeme → Option O) (Ends : List Lexeme → 
 
 -- ---- commas
 
-pub comma_weak : (t : Lexeme) (o : Unit {0}) → is_comma t ≡ Some o → strength t < 1
-comma_weak t o e =
+-- what holds where a comma stands
+pub comma_is : (Q : List Lexeme → Type 0) → ((t : Lexeme) (rest : List Lexeme) → IsTrue (is_symbol (codes ",") t) → Q (t ∷ rest)) → (o : Unit {0}) (ts rest : List Lexeme) → IsOperator is_comma o ts rest → Q ts
+comma_is Q holds _ _ _ (operator o t rest h) =
     elim (cases_Bool (is_symbol (codes ",") t)) [
-      | inl h ↦ (let s = strong_symbol (codes ",") 0 t refl h in omega (arith, s))
-      | inr h ↦ absurd (let none : None ≡ Some o = rw h at e in cc)
+      | inl e ↦ holds t rest e
+      | inr e ↦ absurd (let none : None ≡ Some o = rw e at h in cc)
     ]
+
+pub comma_stops : (o : Unit {0}) (ts rest : List Lexeme) → IsOperator is_comma o ts rest → Stops 1 ts
+comma_stops = comma_is (Stops 1) (λ t rest h. symbol_stops (codes ",") 1 t rest refl (omega arith) h)
 
 -- what a symbol isn't
 pub no_comma : (s : List ℕ) (t : Lexeme) (rest : List Lexeme) → IsTrue (is_symbol s t) → is_comma (record { kind = Symbol; octets = s }) ≡ None → token_at is_comma (t ∷ rest) ≡ None
 unfolding token_at
 no_comma s t rest h e = let is = symbol_is s t h in rw (is.0, is.1) (rw e refl)
 
-module _ {A : Type 0} {Item : A → List Lexeme → List Lexeme → Type 0} {read : List Lexeme → Option (A × List Lexeme)} (reads : Exact Item (Stops 1) read) where
+module _ {A : Type 0} {Item : A → List Lexeme → List Lexeme → Type 0} {read : List Lexeme → Option (A × List Lexeme)} (Ends : List Lexeme → Type 0) (reads : Exact Item Ends read) (comma : (o : Unit {0}) (ts rest : List Lexeme) → IsOperator is_comma o ts rest → Ends ts) where
   pub further_takes : (ts : List Lexeme) (x : List A × List Lexeme) → further_at read ts ≡ Some x → AreFurther Item x.0 ts x.1
   unfolding further_at
-  further_takes ts x e = list_takes is_comma (Stops 1) reads ts x e
+  further_takes ts x e = list_takes is_comma Ends reads ts x e
 
-  pub further_is : (xs : List A) (ts rest : List Lexeme) → AreFurther Item xs ts rest → Stops 1 rest → token_at is_comma rest ≡ None → further_at read ts ≡ Some (xs, rest)
+  pub further_is : (xs : List A) (ts rest : List Lexeme) → AreFurther Item xs ts rest → Ends rest → token_at is_comma rest ≡ None → further_at read ts ≡ Some (xs, rest)
   unfolding further_at
-  further_is xs ts rest h ends none = list_is is_comma (Stops 1) reads (λ o us vs between. operator_stops is_comma 1 comma_weak o us vs between) xs ts rest h ends none
+  further_is xs ts rest h ends none = list_is is_comma Ends reads comma xs ts rest h ends none
 
   pub further_shorter : (xs : List A) (ts rest : List Lexeme) → AreFurther Item xs ts rest → length rest ≤ length ts
-  further_shorter xs ts rest h = list_shorter is_comma (Stops 1) reads xs ts rest h
+  further_shorter xs ts rest h = list_shorter is_comma Ends reads xs ts rest h
 
--- what stops an item follows the first of a list
-pub further_stops : {A : Type 0} (Item : A → List Lexeme → List Lexeme → Type 0) (xs : List A) (ts rest : List Lexeme) → AreFurther Item xs ts rest → Stops 1 rest → Stops 1 ts
-further_stops Item xs ts rest h ends =
-    elim (series_front (Stops 1) (λ o us vs between. operator_stops is_comma 1 comma_weak o us vs between) xs ts rest h) [
-      | inl none ↦ subst (Stops 1) (sym none.1) ends
-      | inr hit ↦ hit
+  -- what ends an item follows the first of a list
+  pub further_ends : (xs : List A) (ts rest : List Lexeme) → AreFurther Item xs ts rest → Ends rest → Ends ts
+  further_ends xs ts rest h ends =
+      elim (series_front Ends comma xs ts rest h) [
+        | inl none ↦ subst Ends (sym none.1) ends
+        | inr hit ↦ hit
+      ]
+
+  -- the items behind two words, or none
+  pub clause_takes : (v w : List ℕ) (Is : List A → List Lexeme → List Lexeme → Type 0) → ((ts : List Lexeme) → Is [] ts ts)
+      → ((x : A) (others : List A) (t u : Lexeme) (ts us rest : List Lexeme) → IsTrue (is_word v t) → IsTrue (is_word w u) → Item x ts us → AreFurther Item others us rest → Is (x ∷ others) (t ∷ u ∷ ts) rest)
+      → (ts : List Lexeme) (x : List A × List Lexeme) → option_map_or (λ us. word_at w us >>= (λ vs. read vs >>= (λ y. further_at read y.1 >>= (λ others. Some (y.0 ∷ others.0, others.1))))) (word_at v ts) (Some ([], ts)) ≡ Some x → Is x.0 ts x.1
+  clause_takes v w Is none some ts x e =
+      let R = λ (y : List A × List Lexeme). Is y.0 ts y.1 in
+      elim (cases_option (word_at v ts)) [
+        | inl no_word ↦ subst R (some_same ([], ts) x (rw no_word at e)) (none ts)
+        | inr us ↦ (
+            let vs = bind_some (word_at w us.0) _ x (rw us.1 at e) in
+            let y = bind_some (read vs.0) _ x vs.2 in
+            let others = bind_some (further_at read y.0.1) _ x y.2 in
+            subst R (some_same (y.0.0 ∷ others.0.0, others.0.1) x others.2)
+            (one_holds (is_word v) (λ ws. Is (y.0.0 ∷ others.0.0) ws others.0.1) ts us.0
+            (λ t f. one_holds (is_word w) (λ ws. Is (y.0.0 ∷ others.0.0) (t ∷ ws) others.0.1) us.0 vs.0
+            (λ u g. some y.0.0 others.0.0 t u vs.0 y.0.1 others.0.1 f g (reads.takes vs.0 y.0 y.1) (further_takes y.0.1 others.0 others.1)) vs.1) us.1))
+      ]
+
+-- ---- names
+
+-- a name, or two with a point between them
+module _ {A : Type 0} (make : Option (List ℕ) → List ℕ → A) where
+  abbrev names_at : List Lexeme → Option (A × List Lexeme)
+  names_at ts =
+      token_at (octets_if is_name) ts >>= (λ q. option_map_or (λ us. token_at (octets_if is_name) us >>= (λ t. Some (make (Some q.0) t.0, t.1))) (symbol_at (codes ".") q.1) (Some (make None q.0, q.1)))
+
+  pub names_take : (Is : A → List Lexeme → List Lexeme → Type 0) → ((t : Lexeme) (rest : List Lexeme) → IsTrue (is_name t) → Is (make None t.octets) (t ∷ rest) rest)
+      → ((q p t : Lexeme) (rest : List Lexeme) → IsTrue (is_name q) → IsTrue (is_symbol (codes ".") p) → IsTrue (is_name t) → Is (make (Some q.octets) t.octets) (q ∷ p ∷ t ∷ rest) rest)
+      → (ts : List Lexeme) (x : A × List Lexeme) → names_at ts ≡ Some x → Is x.0 ts x.1
+  names_take Is one two ts x e =
+      let R = λ (y : A × List Lexeme). Is y.0 ts y.1 in
+      let q = bind_some (token_at (octets_if is_name) ts) _ x e in
+      elim (cases_option (symbol_at (codes ".") q.0.1)) [
+        | inl none ↦ subst R (some_same (make None q.0.0, q.0.1) x (rw none at q.2)) (octets_hold is_name (λ octets us. Is (make None octets) us q.0.1) ts q.0 (λ t h. one t q.0.1 h) q.1)
+        | inr us ↦ (
+            let t = bind_some (token_at (octets_if is_name) us.0) _ x (rw us.1 at q.2) in
+            subst R (some_same (make (Some q.0.0) t.0.0, t.0.1) x t.2)
+            (octets_hold is_name (λ octets vs. Is (make (Some octets) t.0.0) vs t.0.1) ts q.0
+            (λ u h. one_holds (is_symbol (codes ".")) (λ vs. Is (make (Some u.octets) t.0.0) (u ∷ vs) t.0.1) q.0.1 us.0
+            (λ p f. octets_hold is_name (λ octets vs. Is (make (Some u.octets) octets) (u ∷ p ∷ vs) t.0.1) us.0 t.0 (λ v i. two u p v t.0.1 h f i) t.1) us.1) q.1))
+      ]
+
+  pub one_name : (t : Lexeme) (rest : List Lexeme) → IsTrue (is_name t) → symbol_at (codes ".") rest ≡ None → names_at (t ∷ rest) ≡ Some (make None t.octets, rest)
+  one_name t rest h none = rw (token_is (octets_if is_name) t rest t.octets (octets_are is_name t h), none) refl
+
+  pub two_names : (q p t : Lexeme) (rest : List Lexeme) → IsTrue (is_name q) → IsTrue (is_symbol (codes ".") p) → IsTrue (is_name t) → names_at (q ∷ p ∷ t ∷ rest) ≡ Some (make (Some q.octets) t.octets, rest)
+  two_names q p t rest h f i =
+      rw (token_is (octets_if is_name) q (p ∷ t ∷ rest) q.octets (octets_are is_name q h), one_is (is_symbol (codes ".")) p (t ∷ rest) f, token_is (octets_if is_name) t rest t.octets (octets_are is_name t i)) refl
+
+-- ---- one of two words, or neither
+
+pub words_take : (v w : List ℕ) (Is : Bool → List Lexeme → List Lexeme → Type 0) → ((ts : List Lexeme) → Is false ts ts) → ((t : Lexeme) (rest : List Lexeme) → IsTrue (is_word v t) → Is true (t ∷ rest) rest) → ((t : Lexeme) (rest : List Lexeme) → IsTrue (is_word w t) → Is false (t ∷ rest) rest)
+    → (ts : List Lexeme) (x : Bool × List Lexeme) → option_map_or (λ rest. (true, rest)) (word_at v ts) (option_map_or (λ rest. (false, rest)) (word_at w ts) (false, ts)) ≡ x → Is x.0 ts x.1
+words_take v w Is none first' second ts x e =
+    let R = λ (y : Bool × List Lexeme). Is y.0 ts y.1 in
+    elim (cases_option (word_at v ts)) [
+      | inr us ↦ subst R (rw us.1 at e) (one_holds (is_word v) (λ vs. Is true vs us.0) ts us.0 (λ t h. first' t us.0 h) us.1)
+      | inl no_first ↦ elim (cases_option (word_at w ts)) [
+        | inr us ↦ subst R (rw (no_first, us.1) at e) (one_holds (is_word w) (λ vs. Is false vs us.0) ts us.0 (λ t h. second t us.0 h) us.1)
+        | inl no_second ↦ subst R (rw (no_first, no_second) at e) (none ts)
+      ]
     ]
 
 -- ---- NOT
@@ -168,11 +253,8 @@ unfolding not_at
 not_takes ts =
     elim (cases_option (word_at (codes "NOT") ts)) [
       | inl e ↦ rw e (not_absent ts)
-      | inr e ↦ rw e.1 (made ts e.0 (one_takes (is_word (codes "NOT")) ts e.0 e.1))
+      | inr us ↦ rw us.1 (one_holds (is_word (codes "NOT")) (λ vs. IsOptionalNot true vs us.0) ts us.0 (λ t h. not_there t us.0 h) us.1)
     ]
-  where
-    made : (ts rest : List Lexeme) → Front (is_word (codes "NOT")) ts rest → IsOptionalNot true ts rest
-    made _ _ (front t rest h) = not_there t rest h
 
 pub not_is : (negated : Bool) (ts rest : List Lexeme) → IsOptionalNot negated ts rest → word_at (codes "NOT") rest ≡ None → not_at ts ≡ (negated, rest)
 unfolding not_at
@@ -185,15 +267,12 @@ not_shorter _ _ _ (not_there t rest h) = omega arith
 
 -- ---- ALL
 
-all_made : (ts us : List Lexeme) → Front (is_word (codes "ALL")) ts us → IsOptionalAll ts us
-all_made _ _ (front t rest h) = all_there t rest h
-
 pub all_takes : (ts : List Lexeme) → IsOptionalAll ts (behind_all ts)
 unfolding behind_all
 all_takes ts =
     elim (cases_option (word_at (codes "ALL") ts)) [
       | inl none ↦ rw none (all_absent ts)
-      | inr us ↦ rw us.1 (all_made ts us.0 (one_takes (is_word (codes "ALL")) ts us.0 us.1))
+      | inr us ↦ rw us.1 (one_holds (is_word (codes "ALL")) (λ vs. IsOptionalAll vs us.0) ts us.0 (λ t h. all_there t us.0 h) us.1)
     ]
 
 pub all_is : (ts rest : List Lexeme) → IsOptionalAll ts rest → word_at (codes "ALL") rest ≡ None → behind_all ts ≡ rest
@@ -209,22 +288,6 @@ all_shorter _ _ (all_there t rest h) = omega arith
 pub all_no_asterisk : (ts rest : List Lexeme) → IsOptionalAll ts rest → Starts rest → symbol_at (codes "*") ts ≡ None
 all_no_asterisk _ _ (all_absent rest) begins = starts_no_asterisk rest begins
 all_no_asterisk _ _ (all_there t rest h) begins = let i = word_is (codes "ALL") t h in one_not (is_symbol (codes "*")) t rest (rw i.0 refl)
-
--- ---- words
-
--- another word than one that stands there
-pub other_word : (v w : List ℕ) (t : Lexeme) (rest : List Lexeme) → folded v ≡ v → is_word w (record { kind = Word; octets = v }) ≡ false → IsTrue (is_word v t) → word_at w (t ∷ rest) ≡ None
-other_word v w t rest f e h = let is = word_is v t h in one_not (is_word w) t rest (rw (is.0, is.1) (rw f at e))
-
--- a word where a symbol stands
-pub no_word : (s w : List ℕ) (t : Lexeme) (rest : List Lexeme) → IsTrue (is_symbol s t) → word_at w (t ∷ rest) ≡ None
-no_word s w t rest h = let is = symbol_is s t h in one_not (is_word w) t rest (rw is.0 refl)
-
-pub word_stops : (w : List ℕ) (n : ℕ) (t : Lexeme) (rest : List Lexeme) → strength (record { kind = Word; octets = w }) ≡ 0 → folded w ≡ w → 0 < n → IsTrue (is_word w t) → Stops n (t ∷ rest)
-word_stops w n t rest e f some h = let s = strong_word w 0 t e f h in stops_at n t rest (omega (arith, s, some))
-
-pub symbol_stops : (s : List ℕ) (n : ℕ) (t : Lexeme) (rest : List Lexeme) → strength (record { kind = Symbol; octets = s }) ≡ 0 → 0 < n → IsTrue (is_symbol s t) → Stops n (t ∷ rest)
-symbol_stops s n t rest e some h = let z = strong_symbol s 0 t e h in stops_at n t rest (omega (arith, z, some))
 
 -- ---- dates
 

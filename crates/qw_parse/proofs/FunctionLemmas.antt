@@ -10,7 +10,7 @@ use Rattle.qw_ast.specs.Syntax.{Expression, count_rows, set_function, Clause, ex
 use Rattle.qw_ast.specs.ScriptGrammar.{is_word, is_symbol, is_name, set_function_of, IsOptionalAll, IsPrimary, a_row_count, a_set_function}
 use Rattle.qw_parse.specs.Inner.Readers.{symbol_at, before_at, behind_all, argument_at, rows_at, set_function_at}
 use Rattle.qw_parse.proofs.LoopLemmas.{bind_some, some_same, cases_option}
-use Rattle.qw_parse.proofs.TokenLemmas.{Front, front, one_takes, one_is, choose, Stops}
+use Rattle.qw_parse.proofs.TokenLemmas.{Front, front, one_takes, one_is, told_or, Stops}
 use Rattle.qw_parse.proofs.ExactLemmas.{starts, starts_not, Exact, all_takes, all_is, all_no_asterisk}
 use Rattle.qw_parse.proofs.PrimaryLemmas.{name_no_word, before_some, expression_takes, expression_is, closing_ends}
 
@@ -26,22 +26,11 @@ word_of Max = codes "MAX"
 pub function_word : (t : Lexeme) (f : SetFunction) → set_function_of t ≡ Some f → IsTrue (is_word (word_of f) t)
 function_word t f e =
     let R = λ (g : SetFunction). IsTrue (is_word (word_of g) t) in
-    elim (choose (is_word (codes "COUNT") t) _ _ f e) [
-      | inl h ↦ subst R (some_same Count f h.1) h.0
-      | inr e1 ↦ elim (choose (is_word (codes "SUM") t) _ _ f e1.1) [
-        | inl h ↦ subst R (some_same Sum f h.1) h.0
-        | inr e2 ↦ elim (choose (is_word (codes "AVG") t) _ _ f e2.1) [
-          | inl h ↦ subst R (some_same Avg f h.1) h.0
-          | inr e3 ↦ elim (choose (is_word (codes "MIN") t) _ _ f e3.1) [
-            | inl h ↦ subst R (some_same Min f h.1) h.0
-            | inr e4 ↦ elim (choose (is_word (codes "MAX") t) _ _ f e4.1) [
-              | inl h ↦ subst R (some_same Max f h.1) h.0
-              | inr e5 ↦ absurd (let none : None ≡ Some f = e5.1 in cc)
-            ]
-          ]
-        ]
-      ]
-    ]
+    told_or R _ Count f _ e (λ h. h) (λ e1.
+    told_or R _ Sum f _ e1 (λ h. h) (λ e2.
+    told_or R _ Avg f _ e2 (λ h. h) (λ e3.
+    told_or R _ Min f _ e3 (λ h. h) (λ e4.
+    told_or R _ Max f None e4 (λ h. h) (λ e5. absurd cc)))))
 
 -- they are in upper case, no NOT, and begin an expression
 pub folded_word : (f : SetFunction) → folded (word_of f) ≡ word_of f

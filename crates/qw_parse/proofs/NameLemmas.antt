@@ -1,16 +1,16 @@
 -- Names, entries of FROM and JOIN are read exactly, and what ends them, a source and a where clause.
-use Rattle.std.proofs.Common.{◌≡◌, ℕ, ◌<◌, ◌≤◌, Bool, ◌||◌, true, false, List, [], ◌∷◌, length, Option, Some, None, refl, subst, arith, inl, inr}
+use Rattle.std.proofs.Common.{◌∙◌, ◌≡◌, ℕ, ◌<◌, ◌≤◌, Bool, ◌||◌, true, false, List, [], ◌∷◌, length, Option, Some, None, refl, subst, arith, inl, inr}
 use Rattle.std.specs.Prelude.{codes, IsTrue}
-use Rattle.std.proofs.lemmas.Bool.{cases_Bool, or_left, or_right}
+use Rattle.std.proofs.lemmas.Bool.{or_left, or_right}
 use Rattle.qw_token.specs.Token.{Lexeme}
 use Rattle.qw_token.specs.declared.token.Kind.TheVariants.{Word}
 use Rattle.qw_ast.specs.Grammar.{folded}
 use Rattle.qw_ast.specs.Syntax.{Entry}
-use Rattle.qw_ast.specs.ScriptGrammar.{is_word, is_symbol, is_name, is_regular, is_comma, is_delimited_kind, is_number, is_string, IsOperator, operator, IsNaming, unnamed, named, named_as, IsEntry, an_entry, IsJoin, a_join, an_inner_join, a_left_join, a_left_outer_join}
+use Rattle.qw_ast.specs.ScriptGrammar.{is_word, is_symbol, is_name, is_regular, is_comma, is_delimited_kind, is_number, is_string, IsOperator, IsNaming, unnamed, named, named_as, IsEntry, an_entry, IsJoin, a_join, an_inner_join, a_left_join, a_left_outer_join}
 use Rattle.qw_parse.specs.Inner.Readers.{token_at, word_at, octets_if, naming_at, entry_at, inner_join_at, left_join_at, join_at}
 use Rattle.qw_parse.proofs.LoopLemmas.{Shortens, bind_some, cases_option, some_same}
-use Rattle.qw_parse.proofs.TokenLemmas.{word_is, symbol_is, Front, front, one_takes, one_is, one_not, one_none, Found, found, token_takes, token_is, token_not, token_none, octets_found, octets_are, strength, Stops, stops_at, stops_none}
-use Rattle.qw_parse.proofs.ExactLemmas.{starts_at, Starts, other_word, no_word, word_stops, symbol_stops}
+use Rattle.qw_parse.proofs.TokenLemmas.{word_is, symbol_is, one_is, one_not, one_none, one_holds, token_is, token_not, token_none, octets_are, octets_hold, strength, Stops, stops_at, stops_none}
+use Rattle.qw_parse.proofs.ExactLemmas.{starts_at, Starts, comma_is, other_word, no_word, word_stops, symbol_stops}
 use Rattle.qw_parse.proofs.PrimaryLemmas.{name_no_word}
 
 -- ---- what ends a name
@@ -34,16 +34,13 @@ word_ends w t rest f no_name no_as h =
     record { no_as = other_word w (codes "AS") t rest f no_as h; no_name = not_name t rest (rw (i.0, i.1) (rw f at no_name)) }
 
 pub comma_ends : (o : Unit {0}) (ts rest : List Lexeme) → IsOperator is_comma o ts rest → EndsItem ts
-comma_ends _ _ _ (operator o t rest h) =
-    elim (cases_Bool (is_symbol (codes ",") t)) [
-      | inr e ↦ absurd (let none : None ≡ Some o = rw e at h in cc)
-      | inl e ↦ (
-          let i = symbol_is (codes ",") t e in
-          record {
-            stops = symbol_stops (codes ",") 1 t rest refl (omega arith) e;
-            name = record { no_as = no_word (codes ",") (codes "AS") t rest e; no_name = not_name t rest (rw i.0 refl) };
-          })
-    ]
+comma_ends =
+    comma_is EndsItem (λ t rest h.
+    let i = symbol_is (codes ",") t h in
+    record {
+      stops = symbol_stops (codes ",") 1 t rest refl (omega arith) h;
+      name = record { no_as = no_word (codes ",") (codes "AS") t rest h; no_name = not_name t rest (rw i.0 refl) };
+    })
 
 pub from_ends : (t : Lexeme) (rest : List Lexeme) → IsTrue (is_word (codes "FROM") t) → EndsItem (t ∷ rest)
 from_ends t rest h = record { stops = word_stops (codes "FROM") 1 t rest refl refl (omega arith) h; name = word_ends (codes "FROM") t rest refl refl refl h }
@@ -53,21 +50,17 @@ none_ends = record { no_as = one_none (is_word (codes "AS")); no_name = token_no
 
 -- ---- a name
 
-named_made : (n : List ℕ) (ts rest : List Lexeme) → Found (octets_if is_name) n ts rest → IsNaming (Some n) ts rest
-named_made _ _ _ (found n t rest h) = let o = octets_found is_name t n h in subst (λ x. IsNaming (Some x) (t ∷ rest) rest) o.1 (named t rest o.0)
-
-named_as_made : (n : List ℕ) (ts us rest : List Lexeme) → Front (is_word (codes "AS")) ts us → Found (octets_if is_name) n us rest → IsNaming (Some n) ts rest
-named_as_made _ _ _ _ (front w _ f) (found n t rest h) = let o = octets_found is_name t n h in subst (λ x. IsNaming (Some x) (w ∷ t ∷ rest) rest) o.1 (named_as w t rest f o.0)
-
 pub naming_takes : (ts : List Lexeme) (x : Option (List ℕ) × List Lexeme) → naming_at ts ≡ Some x → IsNaming x.0 ts x.1
 unfolding naming_at
 naming_takes ts x e =
     elim (cases_option (word_at (codes "AS") ts)) [
       | inr us ↦ (
           let t = bind_some (token_at (octets_if is_name) us.0) _ x (rw us.1 at e) in
-          subst (λ (y : Option (List ℕ) × List Lexeme). IsNaming y.0 ts y.1) (some_same (Some t.0.0, t.0.1) x t.2) (named_as_made t.0.0 ts us.0 t.0.1 (one_takes (is_word (codes "AS")) ts us.0 us.1) (token_takes (octets_if is_name) us.0 t.0 t.1)))
+          subst (λ (y : Option (List ℕ) × List Lexeme). IsNaming y.0 ts y.1) (some_same (Some t.0.0, t.0.1) x t.2)
+          (one_holds (is_word (codes "AS")) (λ vs. IsNaming (Some t.0.0) vs t.0.1) ts us.0
+          (λ w f. octets_hold is_name (λ octets vs. IsNaming (Some octets) (w ∷ vs) t.0.1) us.0 t.0 (λ u h. named_as w u t.0.1 f h) t.1) us.1))
       | inl no_as ↦ elim (cases_option (token_at (octets_if is_name) ts)) [
-        | inr t ↦ subst (λ (y : Option (List ℕ) × List Lexeme). IsNaming y.0 ts y.1) (some_same (Some t.0.0, t.0.1) x (rw (no_as, t.1) at e)) (named_made t.0.0 ts t.0.1 (token_takes (octets_if is_name) ts t.0 t.1))
+        | inr t ↦ subst (λ (y : Option (List ℕ) × List Lexeme). IsNaming y.0 ts y.1) (some_same (Some t.0.0, t.0.1) x (rw (no_as, t.1) at e)) (octets_hold is_name (λ octets us. IsNaming (Some octets) us t.0.1) ts t.0 (λ u h. named u t.0.1 h) t.1)
         | inl no_name ↦ subst (λ (y : Option (List ℕ) × List Lexeme). IsNaming y.0 ts y.1) (some_same (None, ts) x (rw (no_as, no_name) at e)) (unnamed ts)
       ]
     ]
@@ -91,18 +84,13 @@ naming_stops _ _ _ (named_as w t rest f h) ends = word_stops (codes "AS") 1 w (t
 
 -- ---- an entry of FROM, and JOIN
 
-entry_made : (n : List ℕ) (alias : Option (List ℕ)) (ts us rest : List Lexeme) → Found (octets_if is_regular) n ts us → IsNaming alias us rest → IsEntry (record { table = n; alias = alias }) ts rest
-entry_made _ alias _ us rest (found n t _ c) i =
-    let o = octets_found is_regular t n c in
-    subst (λ x. IsEntry (record { table = x; alias = alias }) (t ∷ us) rest) o.1 (an_entry t alias us rest o.0 i)
-
 pub entry_takes : (ts : List Lexeme) (x : Entry × List Lexeme) → entry_at ts ≡ Some x → IsEntry x.0 ts x.1
 unfolding entry_at
 entry_takes ts x e =
     let t = bind_some (token_at (octets_if is_regular) ts) _ x e in
     let n = bind_some (naming_at t.0.1) _ x t.2 in
     subst (λ (y : Entry × List Lexeme). IsEntry y.0 ts y.1) (some_same (record { table = t.0.0; alias = n.0.0 }, n.0.1) x n.2)
-    (entry_made t.0.0 n.0.0 ts t.0.1 n.0.1 (token_takes (octets_if is_regular) ts t.0 t.1) (naming_takes t.0.1 n.0 n.1))
+    (octets_hold is_regular (λ octets us. IsEntry (record { table = octets; alias = n.0.0 }) us n.0.1) ts t.0 (λ u h. an_entry u n.0.0 t.0.1 n.0.1 h (naming_takes t.0.1 n.0 n.1)) t.1)
 
 pub entry_is : (e : Entry) (ts rest : List Lexeme) → IsEntry e ts rest → EndsName rest → entry_at ts ≡ Some (e, rest)
 unfolding entry_at
@@ -115,39 +103,30 @@ pub entry_begins : (e : Entry) (ts rest : List Lexeme) → IsEntry e ts rest →
 entry_begins _ _ _ (an_entry t alias us rest h i) =
     starts_at t us (or_right (is_number t || is_string t) _ (or_left (is_name t) _ (or_left (is_regular t) (is_delimited_kind t.kind) h)))
 
-join_made : (ts rest : List Lexeme) → Front (is_word (codes "JOIN")) ts rest → IsJoin false ts rest
-join_made _ _ (front t rest h) = a_join t rest h
-
-inner_join_made : (ts us rest : List Lexeme) → Front (is_word (codes "INNER")) ts us → Front (is_word (codes "JOIN")) us rest → IsJoin false ts rest
-inner_join_made _ _ _ (front w _ h) (front t rest i) = an_inner_join w t rest h i
-
-left_join_made : (ts us rest : List Lexeme) → Front (is_word (codes "LEFT")) ts us → Front (is_word (codes "JOIN")) us rest → IsJoin true ts rest
-left_join_made _ _ _ (front w _ h) (front t rest i) = a_left_join w t rest h i
-
-left_outer_join_made : (ts us vs rest : List Lexeme) → Front (is_word (codes "LEFT")) ts us → Front (is_word (codes "OUTER")) us vs → Front (is_word (codes "JOIN")) vs rest → IsJoin true ts rest
-left_outer_join_made _ _ _ _ (front w _ h) (front o _ g) (front t rest i) = a_left_outer_join w o t rest h g i
-
 inner_join_takes : (ts rest : List Lexeme) → inner_join_at ts ≡ Some rest → IsJoin false ts rest
 unfolding inner_join_at
 inner_join_takes ts rest e =
     elim (cases_option (word_at (codes "JOIN") ts)) [
-      | inr us ↦ subst (IsJoin false ts) (some_same us.0 rest (rw us.1 at e)) (join_made ts us.0 (one_takes (is_word (codes "JOIN")) ts us.0 us.1))
+      | inr us ↦ subst (IsJoin false ts) (some_same us.0 rest (rw us.1 at e)) (one_holds (is_word (codes "JOIN")) (λ vs. IsJoin false vs us.0) ts us.0 (λ t h. a_join t us.0 h) us.1)
       | inl none ↦ (
           let us = bind_some (word_at (codes "INNER") ts) _ rest (rw none at e) in
-          inner_join_made ts us.0 rest (one_takes (is_word (codes "INNER")) ts us.0 us.1) (one_takes (is_word (codes "JOIN")) us.0 rest us.2))
+          one_holds (is_word (codes "INNER")) (λ vs. IsJoin false vs rest) ts us.0
+          (λ w h. one_holds (is_word (codes "JOIN")) (λ vs. IsJoin false (w ∷ vs) rest) us.0 rest (λ t i. an_inner_join w t rest h i) us.2) us.1)
     ]
 
 left_join_takes : (ts rest : List Lexeme) → left_join_at ts ≡ Some rest → IsJoin true ts rest
 unfolding left_join_at
 left_join_takes ts rest e =
     let us = bind_some (word_at (codes "LEFT") ts) _ rest e in
-    let left = one_takes (is_word (codes "LEFT")) ts us.0 us.1 in
+    one_holds (is_word (codes "LEFT")) (λ vs. IsJoin true vs rest) ts us.0
+    (λ w h.
     elim (cases_option (word_at (codes "JOIN") us.0)) [
-      | inr vs ↦ subst (IsJoin true ts) (some_same vs.0 rest (rw vs.1 at us.2)) (left_join_made ts us.0 vs.0 left (one_takes (is_word (codes "JOIN")) us.0 vs.0 vs.1))
+      | inr vs ↦ one_holds (is_word (codes "JOIN")) (λ xs. IsJoin true (w ∷ xs) rest) us.0 rest (λ t i. a_left_join w t rest h i) (vs.1 ∙ (rw vs.1 at us.2))
       | inl none ↦ (
           let vs = bind_some (word_at (codes "OUTER") us.0) _ rest (rw none at us.2) in
-          left_outer_join_made ts us.0 vs.0 rest left (one_takes (is_word (codes "OUTER")) us.0 vs.0 vs.1) (one_takes (is_word (codes "JOIN")) vs.0 rest vs.2))
-    ]
+          one_holds (is_word (codes "OUTER")) (λ xs. IsJoin true (w ∷ xs) rest) us.0 vs.0
+          (λ o g. one_holds (is_word (codes "JOIN")) (λ xs. IsJoin true (w ∷ o ∷ xs) rest) vs.0 rest (λ t i. a_left_outer_join w o t rest h g i) vs.2) vs.1)
+    ]) us.1
 
 pub join_takes : (ts : List Lexeme) (x : Bool × List Lexeme) → join_at ts ≡ Some x → IsJoin x.0 ts x.1
 unfolding join_at
@@ -208,14 +187,7 @@ unfolding join_at inner_join_at left_join_at
 no_join_symbol s t rest h = rw (no_word s (codes "JOIN") t rest h, no_word s (codes "INNER") t rest h, no_word s (codes "LEFT") t rest h) refl
 
 pub comma_source : (o : Unit {0}) (ts rest : List Lexeme) → IsOperator is_comma o ts rest → EndsSource ts
-comma_source o ts rest h = record { item = comma_ends o ts rest h; no_join = by_comma o ts rest h }
-  where
-    by_comma : (o : Unit {0}) (ts rest : List Lexeme) → IsOperator is_comma o ts rest → join_at ts ≡ None
-    by_comma _ _ _ (operator o t rest h) =
-        elim (cases_Bool (is_symbol (codes ",") t)) [
-          | inr e ↦ absurd (let none : None ≡ Some o = rw e at h in cc)
-          | inl e ↦ no_join_symbol (codes ",") t rest e
-        ]
+comma_source o ts rest h = record { item = comma_ends o ts rest h; no_join = comma_is (λ us. join_at us ≡ None) (no_join_symbol (codes ",")) o ts rest h }
 
 -- what ends a where clause: nothing that goes on with a source, and no WHERE
 pub record EndsFilter (ts : List Lexeme) : Type 0 where

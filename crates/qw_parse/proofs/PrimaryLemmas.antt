@@ -9,11 +9,11 @@ use Rattle.qw_scalar.specs.declared.expression.Field.{Field}
 use Rattle.qw_scalar.specs.declared.expression.Function.{Function}
 use Rattle.qw_ast.specs.Grammar.{folded}
 use Rattle.qw_ast.specs.Syntax.{Expression, null, extract, searched_case, simple_case, call, Condition, bracketed, Clause, condition, expression, Branching}
-use Rattle.qw_ast.specs.ScriptGrammar.{is_word_kind, is_string_kind, is_number_kind, is_symbol_kind, is_word, is_symbol, is_number, is_string, is_name, field_of, function_of, takes, is_when, is_condition, IsOperator, operator, AreFurther, IsResult, null_result, result, Branch, IsBranch, branch, AreBranches, IsElse, no_else, else_result, IsExpressionOf, arguments, branching, IsPrimary, a_searched_case, a_simple_case, a_call, an_extract}
+use Rattle.qw_ast.specs.ScriptGrammar.{is_string_kind, is_number_kind, is_symbol_kind, is_word, is_symbol, is_number, is_string, is_name, field_of, function_of, takes, is_when, is_condition, IsOperator, operator, AreFurther, IsResult, null_result, result, Branch, IsBranch, branch, AreBranches, IsElse, no_else, else_result, IsExpressionOf, arguments, branching, IsPrimary, a_searched_case, a_simple_case, a_call, an_extract}
 use Rattle.qw_parse.specs.Inner.Readers.{token_at, one_at, word_at, symbol_at, further_at, expression_at, before_at, listing_at, the_expression, result_at, same, branch_at, branches_at, else_at, case_operand_at, is_absent, case_of, chain_of, chain_at, case_at, call_of, call_at, extract_at, as_clause}
 use Rattle.qw_parse.proofs.LoopLemmas.{bind_some, some_same, cases_option}
-use Rattle.qw_parse.proofs.TokenLemmas.{word_is, Front, front, one_takes, one_is, Found, found, token_takes, token_is, choose, strength, Stops, strong_word}
-use Rattle.qw_parse.proofs.ExactLemmas.{Starts, starts_not, Exact, operator_stops, series_front, list_takes, list_is, list_shorter, no_comma, further_takes, further_is, further_shorter, further_stops, other_word, word_stops, symbol_stops, EndsDate}
+use Rattle.qw_parse.proofs.TokenLemmas.{number_kind, string_kind, word_is, Front, front, one_takes, one_is, Found, found, token_takes, token_is, choose, strength, Stops, strong_word}
+use Rattle.qw_parse.proofs.ExactLemmas.{Starts, starts_not, Exact, operator_stops, series_front, list_takes, list_is, list_shorter, comma_stops, no_comma, further_takes, further_is, further_shorter, further_ends, other_word, word_stops, symbol_stops, EndsDate}
 
 pub the_expression_is : (c : Clause) (e : Expression) → the_expression c ≡ Some e → c ≡ expression e
 the_expression_is (condition c) e h = absurd cc
@@ -42,14 +42,7 @@ when_not w t rest f e h = let is = word_is w t h in rw (is.0, is.1) (rw (rw f at
 -- ---- kinds of tokens
 
 pub string_no_number : (t : Lexeme) → is_string t ≡ true → is_number t ≡ false
-string_no_number t e = of_kind t.kind e
-  where
-    of_kind : (k : Kind) → is_string_kind k ≡ true → is_number_kind k ≡ false
-    of_kind Word e = refl
-    of_kind DelimitedIdentifier e = refl
-    of_kind CharacterString e = refl
-    of_kind Number e = absurd cc
-    of_kind Symbol e = refl
+string_no_number t h = rw (string_kind t h) refl
 
 -- a name is of no other kind
 pub name_kind : (t : Lexeme) (k : Kind) → t.kind ≡ k → is_name t ≡ true → (is_number_kind k ≡ false) × (is_string_kind k ≡ false) × (is_symbol_kind k ≡ false)
@@ -63,44 +56,16 @@ pub name_no_symbol : (s : List ℕ) (t : Lexeme) → is_name t ≡ true → is_s
 name_no_symbol s t h = let k = name_kind t t.kind refl h in rw k.2 refl
 
 pub number_no_symbol : (s : List ℕ) (t : Lexeme) → is_number t ≡ true → is_symbol s t ≡ false
-number_no_symbol s t h = let k = of_kind t.kind h in rw k refl
-  where
-    of_kind : (k : Kind) → is_number_kind k ≡ true → is_symbol_kind k ≡ false
-    of_kind Word e = refl
-    of_kind DelimitedIdentifier e = refl
-    of_kind CharacterString e = refl
-    of_kind Number e = refl
-    of_kind Symbol e = absurd cc
+number_no_symbol s t h = rw (number_kind t h) refl
 
 pub string_no_symbol : (s : List ℕ) (t : Lexeme) → is_string t ≡ true → is_symbol s t ≡ false
-string_no_symbol s t h = let k = of_kind t.kind h in rw k refl
-  where
-    of_kind : (k : Kind) → is_string_kind k ≡ true → is_symbol_kind k ≡ false
-    of_kind Word e = refl
-    of_kind DelimitedIdentifier e = refl
-    of_kind CharacterString e = refl
-    of_kind Number e = refl
-    of_kind Symbol e = absurd cc
+string_no_symbol s t h = rw (string_kind t h) refl
 
 pub number_no_word : (w : List ℕ) (t : Lexeme) → is_number t ≡ true → is_word w t ≡ false
-number_no_word w t h = let k = of_kind t.kind h in rw k refl
-  where
-    of_kind : (k : Kind) → is_number_kind k ≡ true → is_word_kind k ≡ false
-    of_kind Word e = absurd cc
-    of_kind DelimitedIdentifier e = refl
-    of_kind CharacterString e = refl
-    of_kind Number e = refl
-    of_kind Symbol e = refl
+number_no_word w t h = rw (number_kind t h) refl
 
 pub string_no_word : (w : List ℕ) (t : Lexeme) → is_string t ≡ true → is_word w t ≡ false
-string_no_word w t h = let k = of_kind t.kind h in rw k refl
-  where
-    of_kind : (k : Kind) → is_string_kind k ≡ true → is_word_kind k ≡ false
-    of_kind Word e = absurd cc
-    of_kind DelimitedIdentifier e = refl
-    of_kind CharacterString e = refl
-    of_kind Number e = refl
-    of_kind Symbol e = refl
+string_no_word w t h = rw (string_kind t h) refl
 
 pub name_no_word : (w : List ℕ) (t : Lexeme) → folded w ≡ w → is_name (record { kind = Word; octets = w }) ≡ false → is_name t ≡ true → is_word w t ≡ false
 name_no_word w t f e h =
@@ -378,7 +343,7 @@ module _ (Inner : Clause → List Lexeme → List Lexeme → Type 0) (inner : Li
       subst
       (λ (z : (Expression × List Expression) × List Lexeme). (us : List Lexeme) × (vs : List Lexeme) × (ws : List Lexeme) × Front (is_symbol (codes "(")) ts us × Inner (expression z.0.0) us vs × AreFurther (IsExpressionOf Inner) z.0.1 vs ws × Front (is_symbol (codes ")")) ws z.1)
       (some_same ((e.0.0, es.0.0), rest.0) y rest.2)
-      (us.0, e.0.1, es.0.1, one_takes (is_symbol (codes "(")) ts us.0 us.1, expression_takes us.0 e.0 e.1, further_takes expression_exact e.0.1 es.0 es.1, one_takes (is_symbol (codes ")")) es.0.1 rest.0 rest.1)
+      (us.0, e.0.1, es.0.1, one_takes (is_symbol (codes "(")) ts us.0 us.1, expression_takes us.0 e.0 e.1, further_takes (Stops 1) expression_exact comma_stops e.0.1 es.0 es.1, one_takes (is_symbol (codes ")")) es.0.1 rest.0 rest.1)
 
   pub call_takes : (f : Function) (word : Lexeme) → function_of word ≡ Some f → (ts : List Lexeme) (x : Expression × List Lexeme) → call_at inner f ts ≡ Some x → IsPrimary Inner x.0 (word ∷ ts) x.1
   unfolding call_at
@@ -398,8 +363,8 @@ module _ (Inner : Clause → List Lexeme → List Lexeme → Type 0) (inner : Li
       let ends = closing_ends c rest g in
       rw (
         one_is (is_symbol (codes "(")) o ts f,
-        expression_is e ts us i (further_stops (IsExpressionOf Inner) es us (c ∷ rest) h ends),
-        further_is expression_exact es us (c ∷ rest) h ends (no_comma (codes ")") c rest g refl),
+        expression_is e ts us i (further_ends (Stops 1) expression_exact comma_stops es us (c ∷ rest) h ends),
+        further_is (Stops 1) expression_exact comma_stops es us (c ∷ rest) h ends (no_comma (codes ")") c rest g refl),
         one_is (is_symbol (codes ")")) c rest g,
       ) refl
 
@@ -429,4 +394,4 @@ module _ (Inner : Clause → List Lexeme → List Lexeme → Type 0) (inner : Li
       rw (one_is (is_symbol (codes "(")) o (n ∷ m ∷ ts) f, token_is field_of n (m ∷ ts) field g, one_is (is_word (codes "FROM")) m ts h, expression_is e ts (c ∷ rest) i (closing_ends c rest k), one_is (is_symbol (codes ")")) c rest k) refl
 
   pub further_down : (es : List Expression) (ts rest : List Lexeme) → AreFurther (IsExpressionOf Inner) es ts rest → length rest ≤ length ts
-  further_down es ts rest h = further_shorter expression_exact es ts rest h
+  further_down es ts rest h = further_shorter (Stops 1) expression_exact comma_stops es ts rest h

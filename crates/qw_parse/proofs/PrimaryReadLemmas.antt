@@ -32,21 +32,19 @@ octets_or test f t ts d = by_test (test t) f t.octets ts d
     by_test true f octets ts d = refl
     by_test false f octets ts d = refl
 
-function_or : {A : Type 0} (f : SetFunction × List Lexeme → A) (t : Lexeme) (ts : List Lexeme) (d : A) → option_map_or f (token_at set_function_of (t ∷ ts)) d ≡ option_map_or (λ x. f (x, ts)) (set_function_of t) d
+found_or : {A B : Type 0} (find : Lexeme → Option B) (f : B × List Lexeme → A) (t : Lexeme) (ts : List Lexeme) (d : A) → option_map_or f (token_at find (t ∷ ts)) d ≡ option_map_or (λ x. f (x, ts)) (find t) d
 unfolding token_at
-function_or f t ts d = by_found (set_function_of t) f ts d
+found_or {B = B} find f t ts d = by_found (find t)
   where
-    by_found : {A : Type 0} (o : Option SetFunction) (f : SetFunction × List Lexeme → A) (ts : List Lexeme) (d : A) → option_map_or f (o >>= (λ x. Some (x, ts))) d ≡ option_map_or (λ x. f (x, ts)) o d
-    by_found None f ts d = refl
-    by_found (Some x) f ts d = refl
+    by_found : (o : Option B) → option_map_or f (o >>= (λ x. Some (x, ts))) d ≡ option_map_or (λ x. f (x, ts)) o d
+    by_found None = refl
+    by_found (Some x) = refl
+
+function_or : {A : Type 0} (f : SetFunction × List Lexeme → A) (t : Lexeme) (ts : List Lexeme) (d : A) → option_map_or f (token_at set_function_of (t ∷ ts)) d ≡ option_map_or (λ x. f (x, ts)) (set_function_of t) d
+function_or f t ts d = found_or set_function_of f t ts d
 
 call_or : {A : Type 0} (f : Function × List Lexeme → A) (t : Lexeme) (ts : List Lexeme) (d : A) → option_map_or f (token_at function_of (t ∷ ts)) d ≡ option_map_or (λ x. f (x, ts)) (function_of t) d
-unfolding token_at
-call_or f t ts d = by_found (function_of t) f ts d
-  where
-    by_found : {A : Type 0} (o : Option Function) (f : Function × List Lexeme → A) (ts : List Lexeme) (d : A) → option_map_or f (o >>= (λ x. Some (x, ts))) d ≡ option_map_or (λ x. f (x, ts)) o d
-    by_found None f ts d = refl
-    by_found (Some x) f ts d = refl
+call_or f t ts d = found_or function_of f t ts d
 
 nothing_same : (inner : List Lexeme → Option (Clause × List Lexeme)) → primary_at inner [] ≡ primary_by inner []
 unfolding primary_at primary_by keyed_at other_at token_at one_at column_at as_clause

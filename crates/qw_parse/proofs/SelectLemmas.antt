@@ -1,13 +1,14 @@
 -- Queries are read exactly, where expressions and conditions are; so tokens are one query at most.
-use Rattle.std.proofs.Common.{◌≡◌, ◌<◌, ◌≤◌, Bool, true, false, List, [], ◌∷◌, length, Option, Some, None, refl, sym, ap, subst, ◌∙◌, arith, inl, inr}
+use Rattle.std.proofs.Common.{ℕ, ◌≡◌, ◌<◌, ◌≤◌, Bool, List, [], ◌∷◌, length, Option, Some, None, refl, sym, ap, subst, ◌∙◌, arith, inl, inr}
 use Rattle.std.specs.Prelude.{codes, IsTrue}
+use Rattle.std.specs.Option.{option_map_or}
 use Rattle.qw_token.specs.Token.{Lexeme}
 use Rattle.qw_ast.specs.Syntax.{Condition, Clause, condition, expression, SelectItem, Selected, all_columns, items, Entry, Joined, Source, Reference, SortSpecification, Select}
-use Rattle.qw_ast.specs.ScriptGrammar.{is_word, is_symbol, is_comma, first, more, IsNothing, nothing, AreFurther, IsNested, IsItem, item, IsSelectList, asterisk, some_items, IsQuantifier, no_quantifier, all_rows, distinct_rows, IsFilter, unfiltered, filtered, IsEntry, IsJoin, IsJoined, a_joined, with_join, AreJoins, IsSource, a_source, AreSources, some_sources, IsGrouping, IsHaving, no_having, a_having, IsOrder, IsSelect, a_select, IsSelectOf}
-use Rattle.qw_parse.specs.Inner.Readers.{token_at, word_at, symbol_at, given, further_at, expression_at, condition_at, the_condition, nested_at, naming_at, item_at, select_list_at, quantifier_at, filter_at, entry_at, join_at, joined_at, join_on, joins_at, source_at, sources_at, grouping_at, having_at, order_at, select_at, whole, select_of}
+use Rattle.qw_ast.specs.ScriptGrammar.{is_word, is_symbol, is_comma, first, more, IsNothing, nothing, IsNested, IsItem, item, IsSelectList, asterisk, some_items, IsQuantifier, no_quantifier, all_rows, distinct_rows, IsFilter, unfiltered, filtered, IsEntry, IsJoin, IsJoined, a_joined, with_join, AreJoins, IsSource, a_source, AreSources, some_sources, IsGrouping, IsHaving, no_having, a_having, IsOrder, IsSelect, a_select, IsSelectOf}
+use Rattle.qw_parse.specs.Inner.Readers.{◌>>=◌, token_at, word_at, symbol_at, given, further_at, expression_at, condition_at, the_condition, nested_at, naming_at, item_at, select_list_at, quantifier_at, filter_at, entry_at, join_at, joined_at, join_on, joins_at, source_at, sources_at, grouping_at, having_at, order_at, select_at, whole, select_of}
 use Rattle.qw_parse.proofs.LoopLemmas.{Shortens, bind_some, cases_option, series_holds, series_is, some_same}
-use Rattle.qw_parse.proofs.TokenLemmas.{word_is, Front, front, one_takes, one_is, token_not, Stops}
-use Rattle.qw_parse.proofs.ExactLemmas.{Starts, starts_not, starts_no_asterisk, Exact, series_front, list_takes, list_is, no_word, other_word, word_stops}
+use Rattle.qw_parse.proofs.TokenLemmas.{word_is, Front, front, one_takes, one_is, one_holds, token_not, Stops}
+use Rattle.qw_parse.proofs.ExactLemmas.{Starts, starts_not, starts_no_asterisk, Exact, given_is, series_front, further_takes, further_is, further_ends, words_take, no_word, other_word, word_stops}
 use Rattle.qw_parse.proofs.PrimaryLemmas.{expression_takes, expression_is}
 use Rattle.qw_parse.proofs.ConditionLemmas.{nested_exact, the_condition_is}
 use Rattle.qw_parse.proofs.NameLemmas.{EndsName, EndsItem, EndsSource, EndsFilter, comma_ends, from_ends, word_ends, naming_takes, naming_is, naming_shorter, naming_stops, entry_takes, entry_is, entry_shorter, entry_begins, join_takes, join_is, join_shorter, join_shortens, join_ends, no_join_word, comma_source, word_filter}
@@ -16,22 +17,9 @@ use Rattle.qw_parse.proofs.GroupLemmas.{EndsGrouping, EndsHaving, grouping_takes
 
 -- ---- ALL and DISTINCT
 
-all_rows_made : (ts rest : List Lexeme) → Front (is_word (codes "ALL")) ts rest → IsQuantifier false ts rest
-all_rows_made _ _ (front t rest h) = all_rows t rest h
-
-distinct_rows_made : (ts rest : List Lexeme) → Front (is_word (codes "DISTINCT")) ts rest → IsQuantifier true ts rest
-distinct_rows_made _ _ (front t rest h) = distinct_rows t rest h
-
 quantifier_takes : (ts : List Lexeme) → IsQuantifier (quantifier_at ts).0 ts (quantifier_at ts).1
 unfolding quantifier_at
-quantifier_takes ts =
-    elim (cases_option (word_at (codes "DISTINCT") ts)) [
-      | inr us ↦ rw us.1 (distinct_rows_made ts us.0 (one_takes (is_word (codes "DISTINCT")) ts us.0 us.1))
-      | inl no_distinct ↦ elim (cases_option (word_at (codes "ALL") ts)) [
-        | inr us ↦ rw (no_distinct, us.1) (all_rows_made ts us.0 (one_takes (is_word (codes "ALL")) ts us.0 us.1))
-        | inl no_all ↦ rw (no_distinct, no_all) (no_quantifier ts)
-      ]
-    ]
+quantifier_takes ts = words_take (codes "DISTINCT") (codes "ALL") IsQuantifier no_quantifier distinct_rows all_rows ts (quantifier_at ts) refl
 
 quantifier_is : (distinct : Bool) (ts rest : List Lexeme) → IsQuantifier distinct ts rest → word_at (codes "DISTINCT") rest ≡ None → word_at (codes "ALL") rest ≡ None → quantifier_at ts ≡ (distinct, rest)
 unfolding quantifier_at
@@ -66,41 +54,23 @@ module _ (Inner : Clause → List Lexeme → List Lexeme → Type 0) (inner : Li
   pub item_exact : Exact (IsItem Inner) EndsItem (item_at inner)
   item_exact = record { takes = item_takes; is = item_is; shorter = item_shorter; begins = item_begins }
 
-  items_take : (ts : List Lexeme) (x : List SelectItem × List Lexeme) → further_at (item_at inner) ts ≡ Some x → AreFurther (IsItem Inner) x.0 ts x.1
-  unfolding further_at
-  items_take ts x e = list_takes is_comma EndsItem item_exact ts x e
-
-  items_are : (xs : List SelectItem) (ts rest : List Lexeme) → AreFurther (IsItem Inner) xs ts rest → EndsItem rest → token_at is_comma rest ≡ None → further_at (item_at inner) ts ≡ Some (xs, rest)
-  unfolding further_at
-  items_are xs ts rest h ends none = list_is is_comma EndsItem item_exact comma_ends xs ts rest h ends none
-
-  items_end : (xs : List SelectItem) (ts rest : List Lexeme) → AreFurther (IsItem Inner) xs ts rest → EndsItem rest → EndsItem ts
-  items_end xs ts rest h ends =
-      elim (series_front EndsItem comma_ends xs ts rest h) [
-        | inl none ↦ subst EndsItem (sym none.1) ends
-        | inr hit ↦ hit
-      ]
-
-  asterisk_made : (ts rest : List Lexeme) → Front (is_symbol (codes "*")) ts rest → IsSelectList Inner all_columns ts rest
-  asterisk_made _ _ (front t rest h) = asterisk t rest h
-
   select_list_takes : (ts : List Lexeme) (x : Selected × List Lexeme) → select_list_at inner ts ≡ Some x → IsSelectList Inner x.0 ts x.1
   unfolding select_list_at
   select_list_takes ts x e =
       elim (cases_option (symbol_at (codes "*") ts)) [
-        | inr rest ↦ subst (λ (y : Selected × List Lexeme). IsSelectList Inner y.0 ts y.1) (some_same (all_columns, rest.0) x (rw rest.1 at e)) (asterisk_made ts rest.0 (one_takes (is_symbol (codes "*")) ts rest.0 rest.1))
+        | inr rest ↦ subst (λ (y : Selected × List Lexeme). IsSelectList Inner y.0 ts y.1) (some_same (all_columns, rest.0) x (rw rest.1 at e)) (one_holds (is_symbol (codes "*")) (λ us. IsSelectList Inner all_columns us rest.0) ts rest.0 (λ t h. asterisk t rest.0 h) rest.1)
         | inl none ↦ (
             let i = bind_some (item_at inner ts) _ x (rw none at e) in
             let rest' = bind_some (further_at (item_at inner) i.0.1) _ x i.2 in
             subst (λ (y : Selected × List Lexeme). IsSelectList Inner y.0 ts y.1) (some_same (items (i.0.0 ∷ rest'.0.0), rest'.0.1) x rest'.2)
-            (some_items i.0.0 rest'.0.0 ts i.0.1 rest'.0.1 (item_takes ts i.0 i.1) (items_take i.0.1 rest'.0 rest'.1)))
+            (some_items i.0.0 rest'.0.0 ts i.0.1 rest'.0.1 (item_takes ts i.0 i.1) (further_takes EndsItem item_exact comma_ends i.0.1 rest'.0 rest'.1)))
       ]
 
   select_list_is : (l : Selected) (ts rest : List Lexeme) → IsSelectList Inner l ts rest → EndsItem rest → token_at is_comma rest ≡ None → select_list_at inner ts ≡ Some (l, rest)
   unfolding select_list_at
   select_list_is _ _ _ (asterisk t rest h) ends none = rw (one_is (is_symbol (codes "*")) t rest h) refl
   select_list_is _ _ _ (some_items i xs ts us rest h are) ends none =
-      rw (starts_no_asterisk ts (item_begins i ts us h), item_is i ts us h (items_end xs us rest are ends), items_are xs us rest are ends none) refl
+      rw (starts_no_asterisk ts (item_begins i ts us h), item_is i ts us h (further_ends EndsItem item_exact comma_ends xs us rest are ends), further_is EndsItem item_exact comma_ends xs us rest are ends none) refl
 
   select_list_no_all : (l : Selected) (ts rest : List Lexeme) → IsSelectList Inner l ts rest → word_at (codes "ALL") ts ≡ None
   select_list_no_all _ _ _ (asterisk t rest h) = no_word (codes "*") (codes "ALL") t rest h
@@ -119,18 +89,20 @@ module _ (Inner : Clause → List Lexeme → List Lexeme → Type 0) (inner : Li
       let d = bind_some (the_condition c.0.0) _ x c.2 in
       subst (λ (y : Condition × List Lexeme). Inner (condition y.0) ts y.1) (some_same (d.0, c.0.1) x d.2) (subst (λ y. Inner y ts c.0.1) (the_condition_is c.0.0 d.0 d.1) (reads.takes ts c.0 c.1))
 
-  filter_made : (c : Condition) (ts us rest : List Lexeme) → Front (is_word (codes "WHERE")) ts us → Inner (condition c) us rest → IsFilter Inner (Some c) ts rest
-  filter_made c _ us rest (front w _ f) h = filtered c w us rest f h
+  tested_takes : (w : List ℕ) (Is : Option Condition → List Lexeme → List Lexeme → Type 0) → ((ts : List Lexeme) → Is None ts ts) → ((c : Condition) (t : Lexeme) (ts rest : List Lexeme) → IsTrue (is_word w t) → Inner (condition c) ts rest → Is (Some c) (t ∷ ts) rest)
+      → (ts : List Lexeme) (x : Option Condition × List Lexeme) → option_map_or (λ us. condition_at inner us >>= (λ c. Some (Some c.0, c.1))) (word_at w ts) (Some (None, ts)) ≡ Some x → Is x.0 ts x.1
+  tested_takes w Is none some ts x e =
+      let R = λ (y : Option Condition × List Lexeme). Is y.0 ts y.1 in
+      elim (cases_option (word_at w ts)) [
+        | inl no_word ↦ subst R (some_same (None, ts) x (rw no_word at e)) (none ts)
+        | inr us ↦ (
+            let c = bind_some (condition_at inner us.0) _ x (rw us.1 at e) in
+            subst R (some_same (Some c.0.0, c.0.1) x c.2) (one_holds (is_word w) (λ vs. Is (Some c.0.0) vs c.0.1) ts us.0 (λ t f. some c.0.0 t us.0 c.0.1 f (inner_condition_takes us.0 c.0 c.1)) us.1))
+      ]
 
   filter_takes : (ts : List Lexeme) (x : Option Condition × List Lexeme) → filter_at inner ts ≡ Some x → IsFilter Inner x.0 ts x.1
   unfolding filter_at
-  filter_takes ts x e =
-      elim (cases_option (word_at (codes "WHERE") ts)) [
-        | inl none ↦ subst (λ (y : Option Condition × List Lexeme). IsFilter Inner y.0 ts y.1) (some_same (None, ts) x (rw none at e)) (unfiltered ts)
-        | inr us ↦ (
-            let c = bind_some (condition_at inner us.0) _ x (rw us.1 at e) in
-            subst (λ (y : Option Condition × List Lexeme). IsFilter Inner y.0 ts y.1) (some_same (Some c.0.0, c.0.1) x c.2) (filter_made c.0.0 ts us.0 c.0.1 (one_takes (is_word (codes "WHERE")) ts us.0 us.1) (inner_condition_takes us.0 c.0 c.1)))
-      ]
+  filter_takes = tested_takes (codes "WHERE") (IsFilter Inner) unfiltered filtered
 
   filter_is : (f : Option Condition) (ts rest : List Lexeme) → IsFilter Inner f ts rest → EndsFilter rest → filter_at inner ts ≡ Some (f, rest)
   unfolding filter_at condition_at
@@ -148,18 +120,9 @@ module _ (Inner : Clause → List Lexeme → List Lexeme → Type 0) (inner : Li
         token_not is_comma w ts (rw i.0 refl),
       )
 
-  having_made : (c : Condition) (ts us rest : List Lexeme) → Front (is_word (codes "HAVING")) ts us → Inner (condition c) us rest → IsHaving Inner (Some c) ts rest
-  having_made c _ us rest (front w _ f) h = a_having c w us rest f h
-
   having_takes : (ts : List Lexeme) (x : Option Condition × List Lexeme) → having_at inner ts ≡ Some x → IsHaving Inner x.0 ts x.1
   unfolding having_at
-  having_takes ts x e =
-      elim (cases_option (word_at (codes "HAVING") ts)) [
-        | inl none ↦ subst (λ (y : Option Condition × List Lexeme). IsHaving Inner y.0 ts y.1) (some_same (None, ts) x (rw none at e)) (no_having ts)
-        | inr us ↦ (
-            let c = bind_some (condition_at inner us.0) _ x (rw us.1 at e) in
-            subst (λ (y : Option Condition × List Lexeme). IsHaving Inner y.0 ts y.1) (some_same (Some c.0.0, c.0.1) x c.2) (having_made c.0.0 ts us.0 c.0.1 (one_takes (is_word (codes "HAVING")) ts us.0 us.1) (inner_condition_takes us.0 c.0 c.1)))
-      ]
+  having_takes = tested_takes (codes "HAVING") (IsHaving Inner) no_having a_having
 
   having_is : (h : Option Condition) (ts rest : List Lexeme) → IsHaving Inner h ts rest → EndsHaving rest → having_at inner ts ≡ Some (h, rest)
   unfolding having_at condition_at
@@ -176,9 +139,6 @@ module _ (Inner : Clause → List Lexeme → List Lexeme → Type 0) (inner : Li
 
   -- ---- FROM
 
-  joined_made : (e : Entry) (c : Condition) (ts us vs rest : List Lexeme) → IsEntry e ts us → Front (is_word (codes "ON")) us vs → Inner (condition c) vs rest → IsJoined Inner (e, c) ts rest
-  joined_made e c ts _ vs rest h (front w _ f) i = a_joined e c w ts vs rest h f i
-
   joined_takes : (ts : List Lexeme) (x : (Entry × Condition) × List Lexeme) → joined_at inner ts ≡ Some x → IsJoined Inner x.0 ts x.1
   unfolding joined_at
   joined_takes ts x e =
@@ -186,7 +146,7 @@ module _ (Inner : Clause → List Lexeme → List Lexeme → Type 0) (inner : Li
       let us = bind_some (word_at (codes "ON") h.0.1) _ x h.2 in
       let c = bind_some (condition_at inner us.0) _ x us.2 in
       subst (λ (y : (Entry × Condition) × List Lexeme). IsJoined Inner y.0 ts y.1) (some_same ((h.0.0, c.0.0), c.0.1) x c.2)
-      (joined_made h.0.0 c.0.0 ts h.0.1 us.0 c.0.1 (entry_takes ts h.0 h.1) (one_takes (is_word (codes "ON")) h.0.1 us.0 us.1) (inner_condition_takes us.0 c.0 c.1))
+      (one_holds (is_word (codes "ON")) (λ vs. IsEntry h.0.0 ts vs → IsJoined Inner (h.0.0, c.0.0) ts c.0.1) h.0.1 us.0 (λ t f i. a_joined h.0.0 c.0.0 t ts us.0 c.0.1 i f (inner_condition_takes us.0 c.0 c.1)) us.1 (entry_takes ts h.0 h.1))
 
   joined_is : (j : Entry × Condition) (ts rest : List Lexeme) → IsJoined Inner j ts rest → Stops 1 rest → joined_at inner ts ≡ Some (j, rest)
   unfolding joined_at condition_at
@@ -224,9 +184,6 @@ module _ (Inner : Clause → List Lexeme → List Lexeme → Type 0) (inner : Li
       (given [])
       (λ ys us vs nothing_is ends. given_is ys us vs nothing_is)
       js ts rest h ends none
-    where
-      given_is : {A : Type 0} (ys : List A) (us vs : List Lexeme) → IsNothing ys us vs → given [] us ≡ Some (ys, vs)
-      given_is _ _ _ (nothing rest) = refl
 
   joins_end : (js : List Joined) (ts rest : List Lexeme) → AreJoins Inner js ts rest → EndsName rest → EndsName ts
   joins_end js ts rest h ends =
@@ -268,24 +225,17 @@ module _ (Inner : Clause → List Lexeme → List Lexeme → Type 0) (inner : Li
   source_exact = record { takes = source_takes; is = source_is; shorter = source_shorter; begins = source_begins }
 
   sources_take : (ts : List Lexeme) (x : List Source × List Lexeme) → sources_at inner ts ≡ Some x → AreSources Inner x.0 ts x.1
-  unfolding sources_at further_at
+  unfolding sources_at
   sources_take ts x e =
       let s = bind_some (source_at inner ts) _ x e in
       let others = bind_some (further_at (source_at inner) s.0.1) _ x s.2 in
       subst (λ (y : List Source × List Lexeme). AreSources Inner y.0 ts y.1) (some_same (s.0.0 ∷ others.0.0, others.0.1) x others.2)
-      (some_sources s.0.0 others.0.0 ts s.0.1 others.0.1 (source_takes ts s.0 s.1) (list_takes is_comma EndsSource source_exact s.0.1 others.0 others.1))
+      (some_sources s.0.0 others.0.0 ts s.0.1 others.0.1 (source_takes ts s.0 s.1) (further_takes EndsSource source_exact comma_source s.0.1 others.0 others.1))
 
   sources_are : (ss : List Source) (ts rest : List Lexeme) → AreSources Inner ss ts rest → EndsSource rest → token_at is_comma rest ≡ None → sources_at inner ts ≡ Some (ss, rest)
-  unfolding sources_at further_at
+  unfolding sources_at
   sources_are _ _ _ (some_sources s others ts us rest h are) ends none =
-      rw (source_is s ts us h (sources_end others us rest are ends), list_is is_comma EndsSource source_exact comma_source others us rest are ends none) refl
-    where
-      sources_end : (others : List Source) (us rest : List Lexeme) → AreFurther (IsSource Inner) others us rest → EndsSource rest → EndsSource us
-      sources_end others us rest h ends =
-          elim (series_front EndsSource comma_source others us rest h) [
-            | inl none ↦ subst EndsSource (sym none.1) ends
-            | inr hit ↦ hit
-          ]
+      rw (source_is s ts us h (further_ends EndsSource source_exact comma_source others us rest are ends), further_is EndsSource source_exact comma_source others us rest are ends none) refl
 
   -- ---- a query
 

@@ -1,7 +1,7 @@
 -- Primaries, factors, terms and sums are read exactly, where what stands in brackets and in CASE is.
-use Rattle.std.proofs.Common.{◌≡◌, ℕ, ◌<◌, ◌≤◌, true, false, ◌||◌, List, [], ◌∷◌, length, Option, Some, None, refl, sym, subst, ◌∙◌, arith, inl, inr}
+use Rattle.std.proofs.Common.{◌≡◌, ℕ, ◌<◌, ◌≤◌, true, false, cond, ◌||◌, List, [], ◌∷◌, length, Option, Some, None, refl, sym, subst, ◌∙◌, arith, inl, inr}
 use Rattle.std.specs.Prelude.{◌⊎◌, codes, IsTrue}
-use Rattle.std.proofs.lemmas.Bool.{cases_Bool, or_left, or_right}
+use Rattle.std.proofs.lemmas.Bool.{or_left, or_right}
 use Rattle.qw_token.specs.Token.{Lexeme}
 use Rattle.qw_token.specs.declared.token.Kind.TheVariants.{Word, Symbol}
 use Rattle.qw_scalar.specs.declared.expression.Operator.{Operator}
@@ -12,67 +12,43 @@ use Rattle.qw_ast.specs.declared.script.SetFunction.TheVariants.{Count, Sum, Avg
 use Rattle.qw_ast.specs.Grammar.{folded}
 use Rattle.qw_ast.specs.Syntax.{Expression, number, text, date, column, signed, arithmetic, Condition, Clause, condition, expression}
 use Rattle.qw_ast.specs.ScriptGrammar.{is_word, is_symbol, is_number, is_string, is_name, sign_of, addition_of, multiplication_of, function_of, set_function_of, Series, first, IsOperator, operator, Dated, IsPrimary, a_number, a_string, a_date, a_column, a_qualified_column, brackets, a_searched_case, a_simple_case, a_call, an_extract, a_row_count, a_set_function, IsFactor, unsigned_factor, signed_factor, IsTerm, IsValueExpression}
-use Rattle.qw_parse.specs.Inner.Readers.{◌>>=◌, token_at, word_at, symbol_at, octets_if, the_expression, case_at, call_at, extract_at, set_function_at, brackets_at, column_at, date_at, as_clause, in_brackets, primary_of, primary_at, interval_sign_at, factor_at, join_arithmetic, term_at, sum_at}
+use Rattle.qw_parse.specs.Inner.Readers.{◌>>=◌, token_at, word_at, symbol_at, the_expression, case_at, call_at, extract_at, set_function_at, brackets_at, column_at, date_at, as_clause, in_brackets, primary_at, interval_sign_at, factor_at, join_arithmetic, term_at, sum_at, series_at}
 use Rattle.qw_parse.proofs.LoopLemmas.{bind_some, some_same, cases_option, series_begins}
-use Rattle.qw_parse.proofs.TokenLemmas.{word_is, symbol_is, Front, front, one_takes, one_is, one_not, Found, found, token_takes, token_is, token_not, octets_found, octets_are, choose, strength, Stops, stops_at, stops_weaker, stops_one, stops_token, strong_symbol}
+use Rattle.qw_parse.proofs.TokenLemmas.{word_is, symbol_is, Front, front, one_takes, one_is, one_not, Found, found, token_takes, token_is, token_not, told_or, choose, strength, Stops, stops_at, stops_weaker, stops_one, stops_token, strong_symbol}
 use Rattle.qw_parse.proofs.RankLemmas.{rank_exact}
-use Rattle.qw_parse.proofs.ExactLemmas.{starts, Starts, starts_at, starts_not, Exact, all_shorter, other_word, date_takes, date_is, date_shorter, date_begins}
+use Rattle.qw_parse.proofs.ExactLemmas.{starts, Starts, starts_at, starts_not, Exact, all_shorter, names_take, one_name, two_names, date_takes, date_is, date_shorter, date_begins}
 use Rattle.qw_parse.proofs.PrimaryLemmas.{the_expression_is, string_no_number, name_kind, name_no_symbol, name_no_word, number_no_symbol, string_no_symbol, number_no_word, string_no_word, Of, IsBracketed, between_brackets, EndsPrimary, as_clause_some, as_clause_is, case_takes, searched_is, simple_is, call_takes, call_is, extract_takes, extract_is, closing_ends, branches_shorter, else_shorter, further_down}
 use Rattle.qw_parse.proofs.CallLemmas.{call_word_of, call_word, folded_call, call_no_case, call_no_not, call_begins, name_no_call}
 use Rattle.qw_parse.proofs.FunctionLemmas.{word_of, function_word, folded_word, word_no_not, word_begins, name_no_function, rows_are, set_function_takes, set_function_is}
 
 -- ---- what the operators are
 
-pub sign_symbol : (t : Lexeme) (s : Sign) → sign_of t ≡ Some s → IsTrue (is_symbol (codes "+") t) ⊎ IsTrue (is_symbol (codes "-") t)
-sign_symbol t s e =
-    elim (cases_Bool (is_symbol (codes "+") t)) [
-      | inl h ↦ inl h
-      | inr h ↦ elim (cases_Bool (is_symbol (codes "-") t)) [
-        | inl i ↦ inr i
-        | inr i ↦ absurd (let none : None ≡ Some s = rw (h, i) at e in cc)
-      ]
-    ]
+two_symbols : {A : Type 0} (a b : List ℕ) (x y : A) (t : Lexeme) (o : A) → cond (is_symbol a t) (Some x) (cond (is_symbol b t) (Some y) None) ≡ Some o → IsTrue (is_symbol a t) ⊎ IsTrue (is_symbol b t)
+two_symbols {A = A} a b x y t o e =
+    let R = λ (z : A). IsTrue (is_symbol a t) ⊎ IsTrue (is_symbol b t) in
+    told_or R _ x o _ e (λ h. inl h) (λ e1. told_or R _ y o None e1 (λ h. inr h) (λ e2. absurd cc))
 
-pub addition_symbol : (t : Lexeme) (o : Operator) → addition_of t ≡ Some o → IsTrue (is_symbol (codes "+") t) ⊎ IsTrue (is_symbol (codes "-") t)
-addition_symbol t o e =
-    elim (cases_Bool (is_symbol (codes "+") t)) [
-      | inl h ↦ inl h
-      | inr h ↦ elim (cases_Bool (is_symbol (codes "-") t)) [
-        | inl i ↦ inr i
-        | inr i ↦ absurd (let none : None ≡ Some o = rw (h, i) at e in cc)
-      ]
-    ]
+sign_symbol : (t : Lexeme) (s : Sign) → sign_of t ≡ Some s → IsTrue (is_symbol (codes "+") t) ⊎ IsTrue (is_symbol (codes "-") t)
+sign_symbol t s e = two_symbols (codes "+") (codes "-") _ _ t s e
 
 multiplication_symbol : (t : Lexeme) (o : Operator) → multiplication_of t ≡ Some o → IsTrue (is_symbol (codes "*") t) ⊎ IsTrue (is_symbol (codes "/") t)
-multiplication_symbol t o e =
-    elim (cases_Bool (is_symbol (codes "*") t)) [
-      | inl h ↦ inl h
-      | inr h ↦ elim (cases_Bool (is_symbol (codes "/") t)) [
-        | inl i ↦ inr i
-        | inr i ↦ absurd (let none : None ≡ Some o = rw (h, i) at e in cc)
-      ]
+multiplication_symbol t o e = two_symbols (codes "*") (codes "/") _ _ t o e
+
+two_strong : (a b : List ℕ) (n : ℕ) (t : Lexeme) → strength (record { kind = Symbol; octets = a }) ≡ n → strength (record { kind = Symbol; octets = b }) ≡ n → IsTrue (is_symbol a t) ⊎ IsTrue (is_symbol b t) → strength t ≡ n
+two_strong a b n t e f one =
+    elim one [
+      | inl h ↦ strong_symbol a n t e h
+      | inr h ↦ strong_symbol b n t f h
     ]
 
-pub addition_strong : (t : Lexeme) (o : Operator) → addition_of t ≡ Some o → strength t ≡ 5
-addition_strong t o e =
-    elim (addition_symbol t o e) [
-      | inl h ↦ strong_symbol (codes "+") 5 t refl h
-      | inr h ↦ strong_symbol (codes "-") 5 t refl h
-    ]
+addition_strong : (t : Lexeme) (o : Operator) → addition_of t ≡ Some o → strength t ≡ 5
+addition_strong t o e = two_strong (codes "+") (codes "-") 5 t refl refl (two_symbols (codes "+") (codes "-") _ _ t o e)
 
-pub multiplication_strong : (t : Lexeme) (o : Operator) → multiplication_of t ≡ Some o → strength t ≡ 6
-multiplication_strong t o e =
-    elim (multiplication_symbol t o e) [
-      | inl h ↦ strong_symbol (codes "*") 6 t refl h
-      | inr h ↦ strong_symbol (codes "/") 6 t refl h
-    ]
+multiplication_strong : (t : Lexeme) (o : Operator) → multiplication_of t ≡ Some o → strength t ≡ 6
+multiplication_strong t o e = two_strong (codes "*") (codes "/") 6 t refl refl (multiplication_symbol t o e)
 
-pub sign_strong : (t : Lexeme) (s : Sign) → sign_of t ≡ Some s → strength t ≡ 5
-sign_strong t s e =
-    elim (sign_symbol t s e) [
-      | inl h ↦ strong_symbol (codes "+") 5 t refl h
-      | inr h ↦ strong_symbol (codes "-") 5 t refl h
-    ]
+sign_strong : (t : Lexeme) (s : Sign) → sign_of t ≡ Some s → strength t ≡ 5
+sign_strong t s e = two_strong (codes "+") (codes "-") 5 t refl refl (sign_symbol t s e)
 
 symbol_strong : (s : List ℕ) (n m : ℕ) → strength (record { kind = Symbol; octets = s }) ≡ m → n ≤ m → (t : Lexeme) → IsTrue (is_symbol s t) → n ≤ strength t
 symbol_strong s n m e le t h = let z = strong_symbol s m t e h in omega (arith, z, le)
@@ -100,11 +76,54 @@ ends_primary n ts le ends =
       };
     }
 
-pub stops_factor : (n : ℕ) (ts : List Lexeme) → n ≤ 5 → Stops n ts → EndsFactor n ts
+stops_factor : (n : ℕ) (ts : List Lexeme) → n ≤ 5 → Stops n ts → EndsFactor n ts
 stops_factor n ts le h = record {
   stops = h;
   no_interval = no_interval ts (stops_token n sign_of (λ t s e. let z = sign_strong t s e in omega (arith, z, le)) ts h);
 }
+
+-- ---- what an expression begins with
+
+-- no NOT
+pub record Begins (ts : List Lexeme) : Type 0 where
+  pub starts : Starts ts
+  pub no_not : word_at (codes "NOT") ts ≡ None
+
+-- and of a primary no sign
+record BeginsPrimary (ts : List Lexeme) : Type 0 where
+  pub begins : Begins ts
+  pub no_sign : token_at sign_of ts ≡ None
+
+begins_with : (t : Lexeme) (ts : List Lexeme) → IsTrue (starts t) → is_word (codes "NOT") t ≡ false → is_symbol (codes "+") t ≡ false → is_symbol (codes "-") t ≡ false → BeginsPrimary (t ∷ ts)
+begins_with t ts h e a b = record { begins = record { starts = starts_at t ts h; no_not = one_not (is_word (codes "NOT")) t ts e }; no_sign = token_not sign_of t ts (rw (a, b) refl) }
+
+with_number : (t : Lexeme) (ts : List Lexeme) → IsTrue (is_number t) → BeginsPrimary (t ∷ ts)
+with_number t ts h = begins_with t ts (rw h refl) (number_no_word (codes "NOT") t h) (number_no_symbol (codes "+") t h) (number_no_symbol (codes "-") t h)
+
+with_string : (t : Lexeme) (ts : List Lexeme) → IsTrue (is_string t) → BeginsPrimary (t ∷ ts)
+with_string t ts h = begins_with t ts (rw (string_no_number t h, h) refl) (string_no_word (codes "NOT") t h) (string_no_symbol (codes "+") t h) (string_no_symbol (codes "-") t h)
+
+with_name : (t : Lexeme) (ts : List Lexeme) → IsTrue (is_name t) → BeginsPrimary (t ∷ ts)
+with_name t ts h = begins_with t ts (or_right (is_number t || is_string t) _ (or_left (is_name t) _ h)) (name_no_word (codes "NOT") t refl refl h) (name_no_symbol (codes "+") t h) (name_no_symbol (codes "-") t h)
+
+with_word : (w : List ℕ) (t : Lexeme) (ts : List Lexeme) → starts (record { kind = Word; octets = w }) ≡ true → is_word (codes "NOT") (record { kind = Word; octets = w }) ≡ false → folded w ≡ w → IsTrue (is_word w t) → BeginsPrimary (t ∷ ts)
+with_word w t ts e no_not f h = let is = word_is w t h in begins_with t ts (rw (is.0, is.1) (rw f at e)) (rw (is.0, is.1) (rw f at no_not)) (rw is.0 refl) (rw is.0 refl)
+
+with_date : (ts us : List Lexeme) → Front (is_word (codes "DATE")) ts us → BeginsPrimary ts
+with_date _ _ (front t rest h) = with_word (codes "DATE") t rest refl refl refl h
+
+with_bracket : (t : Lexeme) (ts : List Lexeme) → IsTrue (is_symbol (codes "(") t) → BeginsPrimary (t ∷ ts)
+with_bracket t ts h = let is = symbol_is (codes "(") t h in begins_with t ts (rw (is.0, is.1) refl) (rw is.0 refl) (rw (is.0, is.1) refl) (rw (is.0, is.1) refl)
+
+with_sign : (t : Lexeme) (ts : List Lexeme) (s : Sign) → sign_of t ≡ Some s → Begins (t ∷ ts)
+with_sign t ts s e =
+    elim (sign_symbol t s e) [
+      | inl h ↦ by_symbol (codes "+") refl h
+      | inr h ↦ by_symbol (codes "-") refl h
+    ]
+  where
+    by_symbol : (symbol : List ℕ) → starts (record { kind = Symbol; octets = symbol }) ≡ true → IsTrue (is_symbol symbol t) → Begins (t ∷ ts)
+    by_symbol symbol f h = let is = symbol_is symbol t h in record { starts = starts_at t ts (rw (is.0, is.1) f); no_not = one_not (is_word (codes "NOT")) t ts (rw is.0 refl) }
 
 module _ (Inner : Clause → List Lexeme → List Lexeme → Type 0) (inner : List Lexeme → Option (Clause × List Lexeme)) (reads : Exact Inner (Stops 1) inner) where
   -- ---- brackets and columns
@@ -125,37 +144,17 @@ module _ (Inner : Clause → List Lexeme → List Lexeme → Type 0) (inner : Li
   unfolding brackets_at
   brackets_are c closing ts rest h g = rw (reads.is c ts (closing ∷ rest) h (closing_ends Inner inner reads closing rest g), one_is (is_symbol (codes ")")) closing rest g) refl
 
-  column_made : (n : List ℕ) (ts rest : List Lexeme) → Found (octets_if is_name) n ts rest → IsPrimary Inner (column None n) ts rest
-  column_made _ _ _ (found n t rest h) = let o = octets_found is_name t n h in subst (λ x. IsPrimary Inner (column None x) (t ∷ rest) rest) o.1 (a_column t rest o.0)
-
-  qualified_made : (q n : List ℕ) (ts us vs rest : List Lexeme) → Found (octets_if is_name) q ts us → Front (is_symbol (codes ".")) us vs → Found (octets_if is_name) n vs rest → IsPrimary Inner (column (Some q) n) ts rest
-  qualified_made _ _ _ _ _ _ (found q t _ h) (front p _ f) (found n u rest i) =
-      let a = octets_found is_name t q h in
-      let b = octets_found is_name u n i in
-      subst (λ x. IsPrimary Inner (column (Some x) n) (t ∷ p ∷ u ∷ rest) rest) a.1
-      (subst (λ x. IsPrimary Inner (column (Some t.octets) x) (t ∷ p ∷ u ∷ rest) rest) b.1 (a_qualified_column t p u rest a.0 f b.0))
-
   column_takes : (ts : List Lexeme) (x : Expression × List Lexeme) → column_at ts ≡ Some x → IsPrimary Inner x.0 ts x.1
   unfolding column_at
-  column_takes ts x e =
-      let q = bind_some (token_at (octets_if is_name) ts) _ x e in
-      let is_q = token_takes (octets_if is_name) ts q.0 q.1 in
-      elim (cases_option (symbol_at (codes ".") q.0.1)) [
-        | inl none ↦ subst (λ (y : Expression × List Lexeme). IsPrimary Inner y.0 ts y.1) (some_same (column None q.0.0, q.0.1) x (rw none at q.2)) (column_made q.0.0 ts q.0.1 is_q)
-        | inr us ↦ (
-            let t = bind_some (token_at (octets_if is_name) us.0) _ x (rw us.1 at q.2) in
-            subst (λ (y : Expression × List Lexeme). IsPrimary Inner y.0 ts y.1) (some_same (column (Some q.0.0) t.0.0, t.0.1) x t.2)
-            (qualified_made q.0.0 t.0.0 ts q.0.1 us.0 t.0.1 is_q (one_takes (is_symbol (codes ".")) q.0.1 us.0 us.1) (token_takes (octets_if is_name) us.0 t.0 t.1)))
-      ]
+  column_takes = names_take column (IsPrimary Inner) a_column a_qualified_column
 
   column_is : (t : Lexeme) (rest : List Lexeme) → IsTrue (is_name t) → symbol_at (codes ".") rest ≡ None → column_at (t ∷ rest) ≡ Some (column None t.octets, rest)
   unfolding column_at
-  column_is t rest h none = rw (token_is (octets_if is_name) t rest t.octets (octets_are is_name t h), none) refl
+  column_is = one_name column
 
   qualified_is : (q p t : Lexeme) (rest : List Lexeme) → IsTrue (is_name q) → IsTrue (is_symbol (codes ".") p) → IsTrue (is_name t) → column_at (q ∷ p ∷ t ∷ rest) ≡ Some (column (Some q.octets) t.octets, rest)
   unfolding column_at
-  qualified_is q p t rest h f i =
-      rw (token_is (octets_if is_name) q (p ∷ t ∷ rest) q.octets (octets_are is_name q h), one_is (is_symbol (codes ".")) p (t ∷ rest) f, token_is (octets_if is_name) t rest t.octets (octets_are is_name t i)) refl
+  qualified_is = two_names column
 
   -- ---- a primary
 
@@ -201,11 +200,6 @@ module _ (Inner : Clause → List Lexeme → List Lexeme → Type 0) (inner : Li
       ]
 
   -- the first token tells which primary it is
-
-  by_word : (w : List ℕ) (t : Lexeme) (ts : List Lexeme) (o : Option (Clause × List Lexeme)) → IsTrue (is_word w t) → folded w ≡ w
-      → ((u : Lexeme) → u.kind ≡ Word → folded u.octets ≡ w → primary_of inner u ts ≡ o) → primary_at inner (t ∷ ts) ≡ o
-  unfolding primary_at
-  by_word w t ts o h f same = let is = word_is w t h in same t is.0 is.1
 
   name_primary : (t : Lexeme) (ts : List Lexeme) → IsTrue (is_name t) → primary_at inner (t ∷ ts) ≡ as_clause (column_at (t ∷ ts))
   unfolding primary_at
@@ -264,13 +258,9 @@ module _ (Inner : Clause → List Lexeme → List Lexeme → Type 0) (inner : Li
   primary_is _ _ _ (a_row_count t o s c rest w f g h) ends = let is = word_is (codes "COUNT") t w in rw (is.0, is.1) (as_clause_is (set_function_at inner Count (o ∷ s ∷ c ∷ rest)) _ rest (rows_are Inner inner reads o s c rest f g h))
   primary_is _ _ _ (a_set_function f e t o c ts us rest w g all h i) ends = function_primary t f (o ∷ ts) w ∙ as_clause_is (set_function_at inner f (o ∷ ts)) _ rest (set_function_is Inner inner reads f e o c ts us rest g all h i)
 
-  pub bracketed_is : (c : Condition) (ts rest : List Lexeme) → IsBracketed Inner c ts rest → primary_at inner ts ≡ Some (condition c, rest)
+  bracketed_is : (c : Condition) (ts rest : List Lexeme) → IsBracketed Inner c ts rest → primary_at inner ts ≡ Some (condition c, rest)
   unfolding primary_at
   bracketed_is _ _ _ (between_brackets c opening closing ts rest f h g) = let is = symbol_is (codes "(") opening f in rw (is.0, is.1) (brackets_are (condition c) closing ts rest h g)
-
-  clause_is : (c : Clause) (ts rest : List Lexeme) → Of (IsPrimary Inner) (IsBracketed Inner) c ts rest → EndsPrimary rest → primary_at inner ts ≡ Some (c, rest)
-  clause_is (expression e) ts rest h ends = primary_is e ts rest h ends
-  clause_is (condition c) ts rest h ends = bracketed_is c ts rest h
 
   primary_shorter : (e : Expression) (ts rest : List Lexeme) → IsPrimary Inner e ts rest → length rest < length ts
   primary_shorter _ _ _ (a_number t rest h) = omega arith
@@ -299,68 +289,30 @@ module _ (Inner : Clause → List Lexeme → List Lexeme → Type 0) (inner : Li
       let s = all_shorter ts us all in
       omega (arith, q, s)
 
-  word_starts : (w : List ℕ) (t : Lexeme) (ts : List Lexeme) → starts (record { kind = Word; octets = w }) ≡ true → folded w ≡ w → IsTrue (is_word w t) → Starts (t ∷ ts)
-  word_starts w t ts e f h = let is = word_is w t h in starts_at t ts (rw (is.0, is.1) (rw f at e))
-
-  symbol_starts : (s : List ℕ) (t : Lexeme) (ts : List Lexeme) → starts (record { kind = Symbol; octets = s }) ≡ true → IsTrue (is_symbol s t) → Starts (t ∷ ts)
-  symbol_starts s t ts e h = let is = symbol_is s t h in starts_at t ts (rw (is.0, is.1) e)
-
-  name_starts : (t : Lexeme) (ts : List Lexeme) → IsTrue (is_name t) → Starts (t ∷ ts)
-  name_starts t ts h = starts_at t ts (or_right (is_number t || is_string t) _ (or_left (is_name t) _ h))
-
-  front_starts : (ts us : List Lexeme) → Front (is_word (codes "DATE")) ts us → Starts ts
-  front_starts _ _ (front t rest h) = word_starts (codes "DATE") t rest refl refl h
-
-  primary_begins : (e : Expression) (ts rest : List Lexeme) → IsPrimary Inner e ts rest → Starts ts
-  primary_begins _ _ _ (a_number t rest h) = starts_at t rest (rw h refl)
-  primary_begins _ _ _ (a_string t rest h) = starts_at t rest (rw (string_no_number t h, h) refl)
-  primary_begins _ _ _ (a_date d ts rest h) = let b = date_begins d ts rest h in front_starts ts b.0 b.1
-  primary_begins _ _ _ (a_column t rest h) = name_starts t rest h
-  primary_begins _ _ _ (a_qualified_column q p t rest h f i) = name_starts q (p ∷ t ∷ rest) h
-  primary_begins _ _ _ (brackets e opening closing ts rest f h g) = symbol_starts (codes "(") opening ts refl f
-  primary_begins _ _ _ (a_searched_case b bs other t ts us rest w h end) = word_starts (codes "CASE") t ts refl refl w
-  primary_begins _ _ _ (a_simple_case x b bs other t ts us vs rest w i h end) = word_starts (codes "CASE") t ts refl refl w
-  primary_begins _ _ _ (a_call f e es t o c ts us rest w p i h g many) = word_starts (call_word_of f) t (o ∷ ts) (call_begins f) (folded_call f) (call_word t f w)
-  primary_begins _ _ _ (an_extract field e t o n m c ts rest w f g h i k) = word_starts (codes "EXTRACT") t (o ∷ n ∷ m ∷ ts) refl refl w
-  primary_begins _ _ _ (a_row_count t o s c rest w f g h) = word_starts (codes "COUNT") t (o ∷ s ∷ c ∷ rest) refl refl w
-  primary_begins _ _ _ (a_set_function f e t o c ts us rest w g all h i) = word_starts (word_of f) t (o ∷ ts) (word_begins f) (folded_word f) (function_word t f w)
+  primary_begins : (e : Expression) (ts rest : List Lexeme) → IsPrimary Inner e ts rest → BeginsPrimary ts
+  primary_begins _ _ _ (a_number t rest h) = with_number t rest h
+  primary_begins _ _ _ (a_string t rest h) = with_string t rest h
+  primary_begins _ _ _ (a_date d ts rest h) = let b = date_begins d ts rest h in with_date ts b.0 b.1
+  primary_begins _ _ _ (a_column t rest h) = with_name t rest h
+  primary_begins _ _ _ (a_qualified_column q p t rest h f i) = with_name q (p ∷ t ∷ rest) h
+  primary_begins _ _ _ (brackets e opening closing ts rest f h g) = with_bracket opening ts f
+  primary_begins _ _ _ (a_searched_case b bs other t ts us rest w h end) = with_word (codes "CASE") t ts refl refl refl w
+  primary_begins _ _ _ (a_simple_case x b bs other t ts us vs rest w i h end) = with_word (codes "CASE") t ts refl refl refl w
+  primary_begins _ _ _ (a_call f e es t o c ts us rest w p i h g many) = with_word (call_word_of f) t (o ∷ ts) (call_begins f) (call_no_not f) (folded_call f) (call_word t f w)
+  primary_begins _ _ _ (an_extract field e t o n m c ts rest w f g h i k) = with_word (codes "EXTRACT") t (o ∷ n ∷ m ∷ ts) refl refl refl w
+  primary_begins _ _ _ (a_row_count t o s c rest w f g h) = with_word (codes "COUNT") t (o ∷ s ∷ c ∷ rest) refl refl refl w
+  primary_begins _ _ _ (a_set_function f e t o c ts us rest w g all h i) = with_word (word_of f) t (o ∷ ts) (word_begins f) (word_no_not f) (folded_word f) (function_word t f w)
 
   bracketed_shorter : (c : Condition) (ts rest : List Lexeme) → IsBracketed Inner c ts rest → length rest < length ts
   bracketed_shorter _ _ _ (between_brackets c opening closing ts rest f h g) = let s = reads.shorter (condition c) ts (closing ∷ rest) h in omega (arith, s)
 
-  bracketed_begins : (c : Condition) (ts rest : List Lexeme) → IsBracketed Inner c ts rest → Starts ts
-  bracketed_begins _ _ _ (between_brackets c opening closing ts rest f h g) = symbol_starts (codes "(") opening ts refl f
+  bracketed_front : (c : Condition) (ts rest : List Lexeme) → IsBracketed Inner c ts rest → BeginsPrimary ts
+  bracketed_front _ _ _ (between_brackets c opening closing ts rest f h g) = with_bracket opening ts f
+
+  pub bracketed_begins : (c : Condition) (ts rest : List Lexeme) → IsBracketed Inner c ts rest → Begins ts
+  bracketed_begins c ts rest h = (bracketed_front c ts rest h).begins
 
   -- ---- a factor
-
-  no_sign_of : (t : Lexeme) (ts : List Lexeme) → is_symbol (codes "+") t ≡ false → is_symbol (codes "-") t ≡ false → token_at sign_of (t ∷ ts) ≡ None
-  no_sign_of t ts a b = token_not sign_of t ts (rw (a, b) refl)
-
-  no_sign_word : (w : List ℕ) (t : Lexeme) (ts : List Lexeme) → IsTrue (is_word w t) → token_at sign_of (t ∷ ts) ≡ None
-  no_sign_word w t ts h = let is = word_is w t h in no_sign_of t ts (rw is.0 refl) (rw is.0 refl)
-
-  no_sign_name : (t : Lexeme) (ts : List Lexeme) → IsTrue (is_name t) → token_at sign_of (t ∷ ts) ≡ None
-  no_sign_name t ts h = no_sign_of t ts (name_no_symbol (codes "+") t h) (name_no_symbol (codes "-") t h)
-
-  no_sign_front : (ts us : List Lexeme) → Front (is_word (codes "DATE")) ts us → token_at sign_of ts ≡ None
-  no_sign_front _ _ (front t rest h) = no_sign_word (codes "DATE") t rest h
-
-  primary_no_sign : (e : Expression) (ts rest : List Lexeme) → IsPrimary Inner e ts rest → token_at sign_of ts ≡ None
-  primary_no_sign _ _ _ (a_number t rest h) = no_sign_of t rest (number_no_symbol (codes "+") t h) (number_no_symbol (codes "-") t h)
-  primary_no_sign _ _ _ (a_string t rest h) = no_sign_of t rest (string_no_symbol (codes "+") t h) (string_no_symbol (codes "-") t h)
-  primary_no_sign _ _ _ (a_date d ts rest h) = let b = date_begins d ts rest h in no_sign_front ts b.0 b.1
-  primary_no_sign _ _ _ (a_column t rest h) = no_sign_name t rest h
-  primary_no_sign _ _ _ (a_qualified_column q p t rest h f i) = no_sign_name q (p ∷ t ∷ rest) h
-  primary_no_sign _ _ _ (brackets e opening closing ts rest f h g) = let is = symbol_is (codes "(") opening f in no_sign_of opening ts (rw (is.0, is.1) refl) (rw (is.0, is.1) refl)
-  primary_no_sign _ _ _ (a_searched_case b bs other t ts us rest w h end) = no_sign_word (codes "CASE") t ts w
-  primary_no_sign _ _ _ (a_simple_case x b bs other t ts us vs rest w i h end) = no_sign_word (codes "CASE") t ts w
-  primary_no_sign _ _ _ (a_call f e es t o c ts us rest w p i h g many) = no_sign_word (call_word_of f) t (o ∷ ts) (call_word t f w)
-  primary_no_sign _ _ _ (an_extract field e t o n m c ts rest w f g h i k) = no_sign_word (codes "EXTRACT") t (o ∷ n ∷ m ∷ ts) w
-  primary_no_sign _ _ _ (a_row_count t o s c rest w f g h) = no_sign_word (codes "COUNT") t (o ∷ s ∷ c ∷ rest) w
-  primary_no_sign _ _ _ (a_set_function f e t o c ts us rest w g all h i) = no_sign_word (word_of f) t (o ∷ ts) (function_word t f w)
-
-  bracketed_no_sign : (c : Condition) (ts rest : List Lexeme) → IsBracketed Inner c ts rest → token_at sign_of ts ≡ None
-  bracketed_no_sign _ _ _ (between_brackets c opening closing ts rest f h g) = let is = symbol_is (codes "(") opening f in no_sign_of opening ts (rw (is.0, is.1) refl) (rw (is.0, is.1) refl)
 
   signed_made : (s : Sign) (c : Clause) (e : Expression) (ts us rest : List Lexeme) → Found sign_of s ts us → Of (IsPrimary Inner) (IsBracketed Inner) c us rest → c ≡ expression e → IsFactor Inner (signed s e) ts rest
   signed_made _ c e _ us rest (found s t _ f) h same = signed_factor s e t us rest f (subst (λ y. Of (IsPrimary Inner) (IsBracketed Inner) y us rest) same h)
@@ -383,27 +335,23 @@ module _ (Inner : Clause → List Lexeme → List Lexeme → Type 0) (inner : Li
 
   factor_of : (e : Expression) (ts rest : List Lexeme) → IsFactor Inner e ts rest → EndsFactor 7 rest → factor_at inner ts ≡ Some (expression e, rest)
   unfolding factor_at
-  factor_of _ _ _ (unsigned_factor e ts rest h) ends = rw (primary_no_sign e ts rest h) (primary_is e ts rest h (ends_primary 7 rest (omega arith) ends))
+  factor_of _ _ _ (unsigned_factor e ts rest h) ends = rw ((primary_begins e ts rest h).no_sign) (primary_is e ts rest h (ends_primary 7 rest (omega arith) ends))
   factor_of _ _ _ (signed_factor s e t ts rest f h) ends = rw (token_is sign_of t ts s f, primary_is e ts rest h (ends_primary 7 rest (omega arith) ends)) refl
 
   factor_down : (e : Expression) (ts rest : List Lexeme) → IsFactor Inner e ts rest → length rest < length ts
   factor_down _ _ _ (unsigned_factor e ts rest h) = primary_shorter e ts rest h
   factor_down _ _ _ (signed_factor s e t ts rest f h) = let z = primary_shorter e ts rest h in omega (arith, z)
 
-  sign_starts : (t : Lexeme) (ts : List Lexeme) (s : Sign) → sign_of t ≡ Some s → Starts (t ∷ ts)
-  sign_starts t ts s e =
-      elim (sign_symbol t s e) [
-        | inl h ↦ symbol_starts (codes "+") t ts refl h
-        | inr h ↦ symbol_starts (codes "-") t ts refl h
-      ]
+  factor_front : (e : Expression) (ts rest : List Lexeme) → IsFactor Inner e ts rest → Begins ts
+  factor_front _ _ _ (unsigned_factor e ts rest h) = (primary_begins e ts rest h).begins
+  factor_front _ _ _ (signed_factor s e t ts rest f h) = with_sign t ts s f
 
-  factor_front : (e : Expression) (ts rest : List Lexeme) → IsFactor Inner e ts rest → Starts ts
-  factor_front _ _ _ (unsigned_factor e ts rest h) = primary_begins e ts rest h
-  factor_front _ _ _ (signed_factor s e t ts rest f h) = sign_starts t ts s f
+  pub expression_begins : (e : Expression) (ts rest : List Lexeme) → IsValueExpression Inner e ts rest → Begins ts
+  expression_begins e ts rest h = series_begins Begins (λ a us vs f. series_begins Begins factor_front a us vs f) e ts rest h
 
   factor_is : (c : Clause) (ts rest : List Lexeme) → Of (IsFactor Inner) (IsBracketed Inner) c ts rest → EndsFactor 7 rest → factor_at inner ts ≡ Some (c, rest)
   unfolding factor_at
-  factor_is (condition c) ts rest h ends = rw (bracketed_no_sign c ts rest h) (bracketed_is c ts rest h)
+  factor_is (condition c) ts rest h ends = rw ((bracketed_front c ts rest h).no_sign) (bracketed_is c ts rest h)
   factor_is (expression e) ts rest h ends = factor_of e ts rest h ends
 
   factor_shorter : (c : Clause) (ts rest : List Lexeme) → Of (IsFactor Inner) (IsBracketed Inner) c ts rest → length rest < length ts
@@ -411,54 +359,11 @@ module _ (Inner : Clause → List Lexeme → List Lexeme → Type 0) (inner : Li
   factor_shorter (expression e) ts rest h = factor_down e ts rest h
 
   factor_begins : (c : Clause) (ts rest : List Lexeme) → Of (IsFactor Inner) (IsBracketed Inner) c ts rest → Starts ts
-  factor_begins (condition c) ts rest h = bracketed_begins c ts rest h
-  factor_begins (expression e) ts rest h = factor_front e ts rest h
+  factor_begins (condition c) ts rest h = (bracketed_begins c ts rest h).starts
+  factor_begins (expression e) ts rest h = (factor_front e ts rest h).starts
 
   pub factor_exact : Exact (Of (IsFactor Inner) (IsBracketed Inner)) (EndsFactor 7) (factor_at inner)
   factor_exact = record { takes = factor_takes; is = factor_is; shorter = factor_shorter; begins = factor_begins }
-
-  -- ---- neither begins with NOT
-
-  no_not_of : (t : Lexeme) (ts : List Lexeme) → is_word (codes "NOT") t ≡ false → word_at (codes "NOT") (t ∷ ts) ≡ None
-  no_not_of t ts e = one_not (is_word (codes "NOT")) t ts e
-
-  no_not_symbol : (s : List ℕ) (t : Lexeme) → IsTrue (is_symbol s t) → is_word (codes "NOT") t ≡ false
-  no_not_symbol s t h = let is = symbol_is s t h in rw is.0 refl
-
-  no_not_front : (ts us : List Lexeme) → Front (is_word (codes "DATE")) ts us → word_at (codes "NOT") ts ≡ None
-  no_not_front _ _ (front t rest h) = other_word (codes "DATE") (codes "NOT") t rest refl refl h
-
-  primary_no_not : (e : Expression) (ts rest : List Lexeme) → IsPrimary Inner e ts rest → word_at (codes "NOT") ts ≡ None
-  primary_no_not _ _ _ (a_number t rest h) = no_not_of t rest (number_no_word (codes "NOT") t h)
-  primary_no_not _ _ _ (a_string t rest h) = no_not_of t rest (string_no_word (codes "NOT") t h)
-  primary_no_not _ _ _ (a_date d ts rest h) = let b = date_begins d ts rest h in no_not_front ts b.0 b.1
-  primary_no_not _ _ _ (a_column t rest h) = no_not_of t rest (name_no_word (codes "NOT") t refl refl h)
-  primary_no_not _ _ _ (a_qualified_column q p t rest h f i) = no_not_of q (p ∷ t ∷ rest) (name_no_word (codes "NOT") q refl refl h)
-  primary_no_not _ _ _ (brackets e opening closing ts rest f h g) = no_not_of opening ts (no_not_symbol (codes "(") opening f)
-  primary_no_not _ _ _ (a_searched_case b bs other t ts us rest w h end) = other_word (codes "CASE") (codes "NOT") t ts refl refl w
-  primary_no_not _ _ _ (a_simple_case x b bs other t ts us vs rest w i h end) = other_word (codes "CASE") (codes "NOT") t ts refl refl w
-  primary_no_not _ _ _ (a_call f e es t o c ts us rest w p i h g many) = other_word (call_word_of f) (codes "NOT") t (o ∷ ts) (folded_call f) (call_no_not f) (call_word t f w)
-  primary_no_not _ _ _ (an_extract field e t o n m c ts rest w f g h i k) = other_word (codes "EXTRACT") (codes "NOT") t (o ∷ n ∷ m ∷ ts) refl refl w
-  primary_no_not _ _ _ (a_row_count t o s c rest w f g h) = other_word (codes "COUNT") (codes "NOT") t (o ∷ s ∷ c ∷ rest) refl refl w
-  primary_no_not _ _ _ (a_set_function f e t o c ts us rest w g all h i) = other_word (word_of f) (codes "NOT") t (o ∷ ts) (folded_word f) (word_no_not f) (function_word t f w)
-
-  sign_no_not : (t : Lexeme) (ts : List Lexeme) (s : Sign) → sign_of t ≡ Some s → word_at (codes "NOT") (t ∷ ts) ≡ None
-  sign_no_not t ts s e =
-      elim (sign_symbol t s e) [
-        | inl h ↦ no_not_of t ts (no_not_symbol (codes "+") t h)
-        | inr h ↦ no_not_of t ts (no_not_symbol (codes "-") t h)
-      ]
-
-  factor_no_not : (e : Expression) (ts rest : List Lexeme) → IsFactor Inner e ts rest → word_at (codes "NOT") ts ≡ None
-  factor_no_not _ _ _ (unsigned_factor e ts rest h) = primary_no_not e ts rest h
-  factor_no_not _ _ _ (signed_factor s e t ts rest f h) = sign_no_not t ts s f
-
-  pub expression_no_not : (e : Expression) (ts rest : List Lexeme) → IsValueExpression Inner e ts rest → word_at (codes "NOT") ts ≡ None
-  expression_no_not e ts rest h =
-      series_begins (λ us. word_at (codes "NOT") us ≡ None) (λ a us vs f. series_begins (λ us. word_at (codes "NOT") us ≡ None) factor_no_not a us vs f) e ts rest h
-
-  pub bracketed_no_not : (c : Condition) (ts rest : List Lexeme) → IsBracketed Inner c ts rest → word_at (codes "NOT") ts ≡ None
-  bracketed_no_not _ _ _ (between_brackets c opening closing ts rest f h g) = no_not_of opening ts (no_not_symbol (codes "(") opening f)
 
 -- ---- terms and sums
 
@@ -476,6 +381,26 @@ arithmetic_parts o (expression a) (expression b) r e = (a, b, refl, refl, sym (s
 arithmetic_parts o (expression a) (condition d) r e = absurd cc
 arithmetic_parts o (condition c) (expression b) r e = absurd cc
 arithmetic_parts o (condition c) (condition d) r e = absurd cc
+
+-- operators of one rank between expressions
+arithmetic_exact : (F : Expression → List Lexeme → List Lexeme → Type 0) (B : Condition → List Lexeme → List Lexeme → Type 0) (meaning : Lexeme → Option Operator) (EndsR EndsS : List Lexeme → Type 0) (read : List Lexeme → Option (Clause × List Lexeme))
+    → ((rest : List Lexeme) → EndsS rest → EndsR rest) → ((rest : List Lexeme) → EndsS rest → token_at meaning rest ≡ None) → ((o : Operator) (a : Expression) (us vs rest : List Lexeme) → IsOperator meaning o us vs → F a vs rest → EndsR us)
+    → Exact (Of F B) EndsR read → Exact (Of (λ e us vs. Series F (IsOperator meaning) F arithmetic e us vs) B) EndsS (series_at read (token_at meaning) read join_arithmetic)
+arithmetic_exact F B meaning EndsR EndsS read ends none between =
+    rank_exact expression meaning F arithmetic join_arithmetic (Of F B) (Of (λ e us vs. Series F (IsOperator meaning) F arithmetic e us vs) B) EndsR EndsS read
+    record {
+      operand = λ a ts rest h. h;
+      clause = λ a ts rest h. h;
+      alone = alone_in F B meaning;
+      whole = λ a ts rest h. h;
+      series = λ a ts rest h. h;
+      sorts = sorts_in F B meaning;
+      joins = λ o a b. refl;
+      parts = arithmetic_parts;
+      ends = ends;
+      none = none;
+      between = between;
+    }
 
 interval_none : (t : Lexeme) (ts : List Lexeme) → word_at (codes "INTERVAL") ts ≡ None → interval_sign_at (t ∷ ts) ≡ None
 unfolding interval_sign_at
@@ -501,20 +426,10 @@ module _ (Inner : Clause → List Lexeme → List Lexeme → Type 0) (inner : Li
   pub term_exact : Exact (Of (IsTerm Inner) (IsBracketed Inner)) (EndsFactor 6) (term_at inner)
   unfolding term_at
   term_exact =
-      rank_exact expression multiplication_of (IsFactor Inner) arithmetic join_arithmetic (Of (IsFactor Inner) (IsBracketed Inner)) (Of (IsTerm Inner) (IsBracketed Inner)) (EndsFactor 7) (EndsFactor 6) (factor_at inner)
-      record {
-        operand = λ a ts rest h. h;
-        clause = λ a ts rest h. h;
-        alone = alone_in (IsFactor Inner) (IsBracketed Inner) multiplication_of;
-        whole = λ a ts rest h. h;
-        series = λ a ts rest h. h;
-        sorts = sorts_in (IsFactor Inner) (IsBracketed Inner) multiplication_of;
-        joins = λ o a b. refl;
-        parts = arithmetic_parts;
-        ends = λ rest e. record { stops = stops_weaker 6 7 rest (omega arith) e.stops; no_interval = e.no_interval };
-        none = λ rest e. stops_token 6 multiplication_of (λ t o h. let s = multiplication_strong t o h in omega (arith, s)) rest e.stops;
-        between = λ o a us vs rest h f. multiplication_ends o us vs h;
-      }
+      arithmetic_exact (IsFactor Inner) (IsBracketed Inner) multiplication_of (EndsFactor 7) (EndsFactor 6) (factor_at inner)
+      (λ rest e. record { stops = stops_weaker 6 7 rest (omega arith) e.stops; no_interval = e.no_interval })
+      (λ rest e. stops_token 6 multiplication_of (λ t o h. let s = multiplication_strong t o h in omega (arith, s)) rest e.stops)
+      (λ o a us vs rest h f. multiplication_ends o us vs h)
       (factor_exact Inner inner reads)
 
   addition_ends : (o : Operator) (ts rest : List Lexeme) → IsOperator addition_of o ts rest → Starts rest → EndsFactor 6 ts
@@ -525,18 +440,8 @@ module _ (Inner : Clause → List Lexeme → List Lexeme → Type 0) (inner : Li
   pub sum_exact : Exact (Of (IsValueExpression Inner) (IsBracketed Inner)) (Stops 5) (sum_at inner)
   unfolding sum_at
   sum_exact =
-      rank_exact expression addition_of (IsTerm Inner) arithmetic join_arithmetic (Of (IsTerm Inner) (IsBracketed Inner)) (Of (IsValueExpression Inner) (IsBracketed Inner)) (EndsFactor 6) (Stops 5) (term_at inner)
-      record {
-        operand = λ a ts rest h. h;
-        clause = λ a ts rest h. h;
-        alone = alone_in (IsTerm Inner) (IsBracketed Inner) addition_of;
-        whole = λ a ts rest h. h;
-        series = λ a ts rest h. h;
-        sorts = sorts_in (IsTerm Inner) (IsBracketed Inner) addition_of;
-        joins = λ o a b. refl;
-        parts = arithmetic_parts;
-        ends = λ rest e. let f = stops_factor 5 rest (omega arith) e in record { stops = stops_weaker 5 6 rest (omega arith) e; no_interval = f.no_interval };
-        none = λ rest e. stops_token 5 addition_of (λ t o h. let s = addition_strong t o h in omega (arith, s)) rest e;
-        between = λ o a us vs rest h f. addition_ends o us vs h (term_exact.begins (expression a) vs rest f);
-      }
+      arithmetic_exact (IsTerm Inner) (IsBracketed Inner) addition_of (EndsFactor 6) (Stops 5) (term_at inner)
+      (λ rest e. let f = stops_factor 5 rest (omega arith) e in record { stops = stops_weaker 5 6 rest (omega arith) e; no_interval = f.no_interval })
+      (λ rest e. stops_token 5 addition_of (λ t o h. let s = addition_strong t o h in omega (arith, s)) rest e)
+      (λ o a us vs rest h f. addition_ends o us vs h (term_exact.begins (expression a) vs rest f))
       term_exact

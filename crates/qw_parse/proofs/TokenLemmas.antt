@@ -8,35 +8,41 @@ use Rattle.qw_token.specs.declared.token.Kind.{Kind}
 use Rattle.qw_token.specs.declared.token.Kind.TheVariants.{Word, DelimitedIdentifier, CharacterString, Number, Symbol}
 use Rattle.qw_token.specs.Token.{Lexeme}
 use Rattle.qw_ast.specs.Grammar.{folded}
-use Rattle.qw_ast.specs.ScriptGrammar.{is_word_kind, is_symbol_kind, is_word, is_symbol, is_name}
+use Rattle.qw_ast.specs.ScriptGrammar.{is_word_kind, is_symbol_kind, is_number_kind, is_string_kind, is_word, is_symbol, is_number, is_string, is_name}
 use Rattle.qw_parse.specs.Inner.Readers.{token_at, one_at, octets_if}
 use Rattle.qw_parse.proofs.LoopLemmas.{bind_some, some_same, Shortens}
 
 -- ---- kinds
 
-word_kind : (k : Kind) → is_word_kind k ≡ true → k ≡ Word
-word_kind Word e = refl
-word_kind DelimitedIdentifier e = absurd cc
-word_kind CharacterString e = absurd cc
-word_kind Number e = absurd cc
-word_kind Symbol e = absurd cc
+-- of which kind what passes a test of kinds is
+record Kinds (k : Kind) : Type 0 where
+  pub word : is_word_kind k ≡ true → k ≡ Word
+  pub symbol : is_symbol_kind k ≡ true → k ≡ Symbol
+  pub number : is_number_kind k ≡ true → k ≡ Number
+  pub string : is_string_kind k ≡ true → k ≡ CharacterString
 
-symbol_kind : (k : Kind) → is_symbol_kind k ≡ true → k ≡ Symbol
-symbol_kind Word e = absurd cc
-symbol_kind DelimitedIdentifier e = absurd cc
-symbol_kind CharacterString e = absurd cc
-symbol_kind Number e = absurd cc
-symbol_kind Symbol e = refl
+kinds : (k : Kind) → Kinds k
+kinds Word = record { word = λ e. refl; symbol = λ e. absurd cc; number = λ e. absurd cc; string = λ e. absurd cc }
+kinds DelimitedIdentifier = record { word = λ e. absurd cc; symbol = λ e. absurd cc; number = λ e. absurd cc; string = λ e. absurd cc }
+kinds CharacterString = record { word = λ e. absurd cc; symbol = λ e. absurd cc; number = λ e. absurd cc; string = λ e. refl }
+kinds Number = record { word = λ e. absurd cc; symbol = λ e. absurd cc; number = λ e. refl; string = λ e. absurd cc }
+kinds Symbol = record { word = λ e. absurd cc; symbol = λ e. refl; number = λ e. absurd cc; string = λ e. absurd cc }
+
+pub number_kind : (t : Lexeme) → is_number t ≡ true → t.kind ≡ Number
+number_kind t e = (kinds t.kind).number e
+
+pub string_kind : (t : Lexeme) → is_string t ≡ true → t.kind ≡ CharacterString
+string_kind t e = (kinds t.kind).string e
 
 pub word_is : (w : List ℕ) (t : Lexeme) → IsTrue (is_word w t) → (t.kind ≡ Word) × (folded t.octets ≡ w)
 word_is w t e =
     let parts = and_parts (is_word_kind t.kind) (bytes_eq (folded t.octets) w) e in
-    (word_kind t.kind parts.0, (bytes_eq-Decides (folded t.octets) w).0 parts.1)
+    ((kinds t.kind).word parts.0, (bytes_eq-Decides (folded t.octets) w).0 parts.1)
 
 pub symbol_is : (s : List ℕ) (t : Lexeme) → IsTrue (is_symbol s t) → (t.kind ≡ Symbol) × (t.octets ≡ s)
 symbol_is s t e =
     let parts = and_parts (is_symbol_kind t.kind) (bytes_eq t.octets s) e in
-    (symbol_kind t.kind parts.0, (bytes_eq-Decides t.octets s).0 parts.1)
+    ((kinds t.kind).symbol parts.0, (bytes_eq-Decides t.octets s).0 parts.1)
 
 -- ---- the first token
 
@@ -65,11 +71,12 @@ pub one_none : (test : Lexeme → Bool) → one_at test [] ≡ None
 unfolding one_at
 one_none test = refl
 
-front_shorter : (test : Lexeme → Bool) (ts rest : List Lexeme) → Front test ts rest → length rest < length ts
-front_shorter test _ _ (front t rest h) = omega arith
-
-pub one_shorter : (test : Lexeme → Bool) (ts rest : List Lexeme) → one_at test ts ≡ Some rest → length rest < length ts
-one_shorter test ts rest e = front_shorter test ts rest (one_takes test ts rest e)
+-- what holds where the first token passes holds
+pub one_holds : (test : Lexeme → Bool) (Q : List Lexeme → Type 0) (ts rest : List Lexeme) → ((t : Lexeme) → IsTrue (test t) → Q (t ∷ rest)) → one_at test ts ≡ Some rest → Q ts
+one_holds test Q ts rest holds e = of_front ts rest holds (one_takes test ts rest e)
+  where
+    of_front : (us vs : List Lexeme) → ((t : Lexeme) → IsTrue (test t) → Q (t ∷ vs)) → Front test us vs → Q us
+    of_front _ _ holds' (front t vs h) = holds' t h
 
 -- the tokens begin with one in which this is found
 pub data Found {A : Type 0} (find : Lexeme → Option A) : A → List Lexeme → List Lexeme → Type 0 where
@@ -110,9 +117,24 @@ octets_found test t octets e =
 pub octets_are : (test : Lexeme → Bool) (t : Lexeme) → IsTrue (test t) → octets_if test t ≡ Some t.octets
 octets_are test t h = rw h refl
 
+-- what holds of the octets of a first token that passes holds of those that are found
+pub octets_hold : (test : Lexeme → Bool) (Q : List ℕ → List Lexeme → Type 0) (ts : List Lexeme) (x : List ℕ × List Lexeme) → ((t : Lexeme) → IsTrue (test t) → Q t.octets (t ∷ x.1)) → token_at (octets_if test) ts ≡ Some x → Q x.0 ts
+octets_hold test Q ts x holds e = of_found x.0 ts x.1 holds (token_takes (octets_if test) ts x e)
+  where
+    of_found : (n : List ℕ) (us vs : List Lexeme) → ((t : Lexeme) → IsTrue (test t) → Q t.octets (t ∷ vs)) → Found (octets_if test) n us vs → Q n us
+    of_found _ _ _ holds' (found n t vs h) = let o = octets_found test t n h in subst (λ octets. Q octets (t ∷ vs)) o.1 (holds' t o.0)
+
 pub choose : {A : Type 0} (b : Bool) (p q : Option A) (x : A) → cond b p q ≡ Some x → ((b ≡ true) × (p ≡ Some x)) ⊎ ((b ≡ false) × (q ≡ Some x))
 choose true p q x e = inl (refl, e)
 choose false p q x e = inr (refl, e)
+
+-- what holds of what the first of some tests tells holds of what they tell
+pub told_or : {A : Type 0} (R : A → Type 0) (b : Bool) (a k : A) (o : Option A) → cond b (Some a) o ≡ Some k → (b ≡ true → R a) → (o ≡ Some k → R k) → R k
+told_or R b a k o e one more =
+    elim (choose b (Some a) o k e) [
+      | inl is ↦ subst R (some_same a k is.1) (one is.0)
+      | inr other ↦ more other.1
+    ]
 
 -- ---- how strongly a token goes on with what stands before it: 0 where it doesn't
 

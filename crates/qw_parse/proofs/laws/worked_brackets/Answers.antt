@@ -8,18 +8,11 @@ use Rattle.qw_parse.specs.Inner.Readers.{nested_at, clause_at, boolean_term_at, 
 use Rattle.qw_parse.proofs.WorkedLemmas.{says_read}
 use Rattle.qw_parse.proofs.laws.worked_brackets.Goals as goal
 
-pub returns-clause-operand : goal.returns-clause-operand
+pub returns : goal.returns
 unfolding nested_at clause_at boolean_term_at boolean_factor_at test_at truth_test_at predicate_at tail_at ranged_at between_at compare_at condition_clause condition_at expression_at not_at sum_at term_at factor_at primary_at brackets_at column_at as_clause token_at one_at steps_within
-returns-clause-operand c = says_read (s (codes "(") ∷ w (codes "a") ∷ s (codes ")") ∷ s (codes "=") ∷ n (codes "1") ∷ []) (condition (equals (codes "a") (codes "1"))) refl
-
-pub returns-clause-predicate : goal.returns-clause-predicate
-unfolding nested_at clause_at boolean_term_at boolean_factor_at test_at truth_test_at predicate_at tail_at ranged_at between_at compare_at condition_clause condition_at expression_at not_at sum_at term_at factor_at primary_at brackets_at column_at as_clause token_at one_at steps_within
-returns-clause-predicate c = says_read (s (codes "(") ∷ w (codes "a") ∷ s (codes "=") ∷ n (codes "1") ∷ s (codes ")") ∷ []) (condition (bracketed (equals (codes "a") (codes "1")))) refl
-
-pub returns-clause-sum : goal.returns-clause-sum
-unfolding nested_at clause_at boolean_term_at boolean_factor_at test_at truth_test_at predicate_at tail_at ranged_at between_at compare_at condition_clause condition_at expression_at not_at sum_at term_at factor_at primary_at brackets_at column_at as_clause token_at one_at steps_within
-returns-clause-sum c = says_read (s (codes "(") ∷ s (codes "(") ∷ w (codes "a") ∷ s (codes ")") ∷ s (codes "+") ∷ n (codes "1") ∷ s (codes ")") ∷ s (codes ">") ∷ n (codes "2") ∷ []) (condition (comparison Greater (arithmetic Add (the_column (codes "a")) (number (codes "1"))) (number (codes "2")))) refl
-
-pub returns-clause-nested : goal.returns-clause-nested
-unfolding nested_at clause_at boolean_term_at boolean_factor_at test_at truth_test_at predicate_at tail_at ranged_at between_at compare_at condition_clause condition_at expression_at not_at sum_at term_at factor_at primary_at brackets_at column_at as_clause token_at one_at steps_within
-returns-clause-nested c = says_read (s (codes "(") ∷ s (codes "(") ∷ w (codes "a") ∷ s (codes "=") ∷ n (codes "1") ∷ s (codes ")") ∷ w (codes "AND") ∷ w (codes "b") ∷ s (codes "=") ∷ n (codes "2") ∷ s (codes ")") ∷ []) (condition (bracketed (both (bracketed (equals (codes "a") (codes "1"))) (equals (codes "b") (codes "2"))))) refl
+returns c = record {
+  operand = says_read (s (codes "(") ∷ w (codes "a") ∷ s (codes ")") ∷ s (codes "=") ∷ n (codes "1") ∷ []) (condition (equals (codes "a") (codes "1"))) refl;
+  predicate = says_read (s (codes "(") ∷ w (codes "a") ∷ s (codes "=") ∷ n (codes "1") ∷ s (codes ")") ∷ []) (condition (bracketed (equals (codes "a") (codes "1")))) refl;
+  sum = says_read (s (codes "(") ∷ s (codes "(") ∷ w (codes "a") ∷ s (codes ")") ∷ s (codes "+") ∷ n (codes "1") ∷ s (codes ")") ∷ s (codes ">") ∷ n (codes "2") ∷ []) (condition (comparison Greater (arithmetic Add (the_column (codes "a")) (number (codes "1"))) (number (codes "2")))) refl;
+  nested = says_read (s (codes "(") ∷ s (codes "(") ∷ w (codes "a") ∷ s (codes "=") ∷ n (codes "1") ∷ s (codes ")") ∷ w (codes "AND") ∷ w (codes "b") ∷ s (codes "=") ∷ n (codes "2") ∷ s (codes ")") ∷ []) (condition (bracketed (both (bracketed (equals (codes "a") (codes "1"))) (equals (codes "b") (codes "2"))))) refl;
+}
