@@ -131,7 +131,7 @@ combined_null operator (val.Num a) sa y sb nx is = rw is refl
 combined_null operator (val.Date d) sa y sb nx is = absurd nx
 combined_null operator (val.Text t) sa y sb nx is = absurd nx
 
-combined_left : (operator : Operator) (x : Val) (sa : ℕ) (y : Val) (sb : ℕ) → x ≡ val.Null → combined operator x sa y sb ≡ Ok val.Null
+pub combined_left : (operator : Operator) (x : Val) (sa : ℕ) (y : Val) (sb : ℕ) → x ≡ val.Null → combined operator x sa y sb ≡ Ok val.Null
 combined_left operator x sa y sb is = rw is refl
 
 combined_numbers : (operator : Operator) (x : Val) (sa : ℕ) (y : Val) (sb : ℕ) (a b : ℤ) → x ≡ val.Num a → y ≡ val.Num b → combined operator x sa y sb ≡ as_number (applied operator a sa b sb)

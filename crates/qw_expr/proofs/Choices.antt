@@ -31,12 +31,13 @@ use Rattle.qw_expr.specs.declared.operand.Operand.{Operand}
 use Rattle.qw_expr.specs.Cells.{Holds, HoldsValue, HoldsTruth, IsWithin, IsBelowNull, DeclaresNull, DeclaresKind, Declares}
 use Rattle.qw_scalar.specs.Units.{units}
 use Rattle.qw_expr.specs.Computes.{Known, AreHeld, AreBelow, Computes, Decides}
-use Rattle.qw_expr.specs.Inner.Truths.{unknown_word, junction_null}
+use Rattle.qw_expr.specs.Inner.Truths.{junction_null}
 use Rattle.qw_expr.specs.Inner.Choices.{Suits, place_types, place_at, copy_block, chosen_at}
 use Rattle.qw_expr.proofs.Nulls.{known_kept, below_more}
 use Rattle.qw_expr.proofs.Binary.{if_ok_is, declares_first, declares_rest}
 use Rattle.qw_expr.proofs.Junctions.{true_word}
 use Rattle.qw_expr.proofs.Copies.{IsApart, copied}
+use Rattle.qw_expr.proofs.JunctionsDecide.{unknown_typed}
 
 -- ---- a result is in no local that its block keeps
 ended : (m : ℕ) (P : LowState → Type 0) (out : Outcome) → Ends m P (λ t. ⊥) (λ code. ⊥) out → (t : LowState) × P t
@@ -126,10 +127,6 @@ same_kind types c d None one other h = tt
 same_kind types c d (Some (kind.Number s)) one other h = subst (λ n. slice_get types n ≡ Some I64) one h
 same_kind types c d (Some kind.Date) one other h = subst (λ n. slice_get types n ≡ Some I64) one h
 same_kind types c d (Some kind.Text) one other h = (subst (λ n. slice_get types n ≡ Some I32) one h.0, subst (λ n. slice_get types n ≡ Some I32) other h.1)
-
-unknown_typed : (types : List ValType) (n : Option ℕ) → DeclaresNull types n → low.HasType types (unknown_word n) I32
-unknown_typed types None h = (omega arith, refl)
-unknown_typed types (Some n) h = h
 
 copy_typed : (types : List ValType) (to : Place) (from : Cell) (k : Option Kind) → DeclaresKind types (record { value = to.value; length = to.length; null = None }) k → slice_get types to.null ≡ Some I32 → DeclaresKind types from k → DeclaresNull types from.null →
     low.IsTyped types (copy_block k to from)

@@ -29,6 +29,7 @@ use Rattle.qw_expr.specs.Computes.{Known, Decides}
 use Rattle.qw_expr.specs.Inner.Truths.{is_false}
 use Rattle.qw_expr.proofs.Nulls.{value_says, null_below_more}
 use Rattle.qw_expr.proofs.Binary.{one_long, first_declared, declares_first, declares_rest}
+use Rattle.qw_expr.proofs.Junctions.{same_cell}
 
 -- a cell of a truth that is never unknown
 abbrev pub sure : ℕ → Cell
@@ -46,11 +47,6 @@ false_is v None Unknown s holds = absurd (holds.1)
 false_is v (Some n) True s holds = rw (holds.0, holds.1) refl
 false_is v (Some n) False s holds = rw (holds.0, holds.1) refl
 false_is v (Some n) Unknown s holds = rw (holds.0, holds.1) refl
-
-same_cell : (c : Cell) (t : Truth) (s : LowState) → HoldsTruth c t s → HoldsTruth (record { value = c.value; length = c.value; null = c.null }) t s
-same_cell c True s holds = holds
-same_cell c False s holds = holds
-same_cell c Unknown s holds = holds
 
 false_typed : (types : List ValType) (c : Cell) → DeclaresTruth types c → low.HasType types (is_false c.value c.null) I32
 false_typed types c declared = by_null c.null declared.0 declared.1

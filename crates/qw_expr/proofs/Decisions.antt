@@ -37,10 +37,10 @@ use Rattle.qw_expr.proofs.Unary.{date_of, no_number, no_text, date_declared}
 use Rattle.qw_expr.proofs.Comparisons.{ordered}
 use Rattle.qw_expr.proofs.Unknowns.{decided}
 
-compared_left : (o : Comparison) (x : Val) (sa : ℕ) (y : Val) (sb : ℕ) → x ≡ val.Null → compared o x sa y sb ≡ Unknown
+pub compared_left : (o : Comparison) (x : Val) (sa : ℕ) (y : Val) (sb : ℕ) → x ≡ val.Null → compared o x sa y sb ≡ Unknown
 compared_left o x sa y sb is = rw is refl
 
-compared_right : (o : Comparison) (x : Val) (sa : ℕ) (y : Val) (sb : ℕ) → y ≡ val.Null → compared o x sa y sb ≡ Unknown
+pub compared_right : (o : Comparison) (x : Val) (sa : ℕ) (y : Val) (sb : ℕ) → y ≡ val.Null → compared o x sa y sb ≡ Unknown
 compared_right o val.Null sa y sb is = refl
 compared_right o (val.Num a) sa y sb is = rw is refl
 compared_right o (val.Date a) sa y sb is = rw is refl

@@ -19,9 +19,10 @@ use Rattle.qw_expr.specs.Bindings.{known_of}
 use Rattle.qw_expr.specs.Cells.{IsWithin}
 use Rattle.qw_expr.specs.Computes.{Known}
 use Rattle.qw_expr.specs.Inner.Guards.{Nulled, Calm, Gathers, Stays, Strict, Tells}
-use Rattle.qw_expr.proofs.Binary.{NumberOrNull, number_of_typed}
+use Rattle.qw_expr.proofs.Binary.{NumberOrNull, number_of_typed, combined_left}
 use Rattle.qw_expr.proofs.Trees.{scale_low}
 use Rattle.qw_expr.proofs.Leaves.{are_two, left_in, right_in, takes_more, tells_two}
+use Rattle.qw_expr.proofs.Decisions.{compared_left, compared_right}
 
 -- ---- one after another
 pub gathers_two : (old mid new : Sure) (P Q R : List Binding → List ℕ → Type 0) → Gathers old mid P → Gathers mid new Q → ((la lb : List Binding) (na nb : List ℕ) → P la na → Q lb nb → R (la ++ lb) (na ++ nb)) → Gathers old new R
@@ -117,9 +118,6 @@ combined_right operator (val.Text a) sa y sb null = refl
 combined_is : (operator : Operator) (a b : Expression) (row : List Val) (x y : Val) → value_of a (at_row row) ≡ Ok x → value_of b (at_row row) ≡ Ok y → combined operator x (scale_of a) y (scale_of b) ≡ Ok val.Null → value_of (arithmetic operator a b) (at_row row) ≡ Ok val.Null
 combined_is operator a b row x y is_x is_y null = rw (is_x, is_y) null
 
-combined_left : (operator : Operator) (x : Val) (sa : ℕ) (y : Val) (sb : ℕ) → x ≡ val.Null → combined operator x sa y sb ≡ Ok val.Null
-combined_left operator x sa y sb null = rw null refl
-
 pub operated_nulled : (known : List Known) (operator : Operator) (a b : Expression) (la lb : List Binding) (na nb : List ℕ) (sa ma sb mb : ℕ) → Calm known a la na sa ma → Calm known b lb nb sb mb → Nulled known (arithmetic operator a b) (la ++ lb) (na ++ nb)
 operated_nulled known operator a b la lb na nb sa ma sb mb one other = record {
   are = are_two known la lb na nb one.are other.are;
@@ -133,15 +131,6 @@ operated_nulled known operator a b la lb na nb sa ma sb mb one other = record {
 }
 
 -- ---- conditions
-pub compared_left : (o : Comparison) (x : Val) (sa : ℕ) (y : Val) (sb : ℕ) → x ≡ val.Null → compared o x sa y sb ≡ Unknown
-compared_left o x sa y sb is = rw is refl
-
-pub compared_right : (o : Comparison) (x : Val) (sa : ℕ) (y : Val) (sb : ℕ) → y ≡ val.Null → compared o x sa y sb ≡ Unknown
-compared_right o val.Null sa y sb is = refl
-compared_right o (val.Num a) sa y sb is = rw is refl
-compared_right o (val.Date a) sa y sb is = rw is refl
-compared_right o (val.Text a) sa y sb is = rw is refl
-
 -- a comparison of two values
 pub compared_is : (o : Comparison) (a b : Expression) (row : List Val) (x y : Val) → value_of a (at_row row) ≡ Ok x → value_of b (at_row row) ≡ Ok y → compared o x (scale_of a) y (scale_of b) ≡ Unknown → truth_of (comparison o a b) (at_row row) ≡ Ok Unknown
 compared_is o a b row x y is_x is_y unknown = rw (is_x, is_y) (ap (λ (t : Truth). let r : Result Truth Code = Ok t in r) unknown)

@@ -38,7 +38,7 @@ may_typed : (types : List ValType) (v : ℕ) (n : Option ℕ) → slice_get type
 may_typed types v None one other = one
 may_typed types v (Some n) one other = (one, other, refl)
 
-unknown_typed : (types : List ValType) (n : Option ℕ) → DeclaresNull types n → low.HasType types (unknown_word n) I32
+pub unknown_typed : (types : List ValType) (n : Option ℕ) → DeclaresNull types n → low.HasType types (unknown_word n) I32
 unknown_typed types None other = (omega arith, refl)
 unknown_typed types (Some n) other = other
 

@@ -16,10 +16,11 @@ use Rattle.qw_expr.specs.Bindings.{IsAmong, TakesKnown, known_of, named}
 use Rattle.qw_expr.specs.Computes.{Known, AreHeld}
 use Rattle.qw_expr.specs.Inner.Guards.{AreKept, AreLeaves, Keeps, Nulled, Strict, Tells}
 use Rattle.qw_expr.proofs.Abbreviations.{among_first}
-use Rattle.qw_expr.proofs.Guards.{compared_is, compared_left, compared_right}
+use Rattle.qw_expr.proofs.Guards.{compared_is}
 use Rattle.qw_expr.proofs.Leaves.{are_two, left_in, right_in, takes_leaf, takes_more, tells_two}
 use Rattle.qw_expr.proofs.Shared.{below_of, declared_of, held_of}
 use Rattle.qw_expr.proofs.Trees.{described}
+use Rattle.qw_expr.proofs.Decisions.{compared_left, compared_right}
 
 -- ---- one that is kept
 module _ (known : List Known) (e : Expression) (leaves : List Binding) (nulls : List ℕ) (kept : Keeps known e leaves nulls) where

@@ -26,7 +26,7 @@ use Rattle.qw_expr.specs.Cells.{DeclaresNull, DeclaresValue, Holds, IsBelow}
 use Rattle.qw_expr.specs.Computes.{Known}
 use Rattle.qw_expr.specs.Inner.Guards.{AreLeaves, Calm, Flagged, Gathers, Tells, any_of, null_words, sure_operand}
 use Rattle.qw_expr.specs.Inner.Made.{Includes}
-use Rattle.qw_expr.proofs.Nulls.{Says}
+use Rattle.qw_expr.proofs.Nulls.{Says, or_false}
 use Rattle.qw_expr.proofs.Shared.{below_of, declared_of, held_of}
 use Rattle.qw_expr.proofs.Trees.{described}
 
@@ -97,10 +97,6 @@ or_word s n e true true one other = rw (one, other) refl
 or_word s n e true false one other = rw (one, other) refl
 or_word s n e false true one other = rw (one, other) refl
 or_word s n e false false one other = rw (one, other) refl
-
-or_false : (g : Bool) → (g || false) ≡ g
-or_false true = refl
-or_false false = refl
 
 pub any_value : (s : LowState) (n : ℕ) (nulls : List ℕ) (g : Bool) → Flagged s (n ∷ nulls) g → value s (any_of n nulls) ≡ Some (Number (truth g))
 any_value s n [] g told = told.2 ∙ ap (λ k. Some (Number (truth k))) (sym (told.4 ∙ ap (λ k. told.0 || k) told.3 ∙ or_false told.0))

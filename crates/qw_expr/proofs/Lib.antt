@@ -31,7 +31,6 @@ mod Sought
 mod Tests
 mod TextDecisions
 mod TreeChoices
-mod TreeExtents
 mod Trees
 mod TruthsEmitted
 pub mod Unary

@@ -92,7 +92,7 @@ word_says : (s : LowState) (n : ℕ) (g : Bool) → slice_get s.locals n ≡ Som
 word_says s n true is = is
 word_says s n false is = is
 
-or_false : (g : Bool) → (g || false) ≡ g
+pub or_false : (g : Bool) → (g || false) ≡ g
 or_false true = refl
 or_false false = refl
 

@@ -56,27 +56,17 @@ if_both P Q R (Ok v) one other makes = makes v one other
 if_both P Q R (Err e) one other makes = tt
 
 -- ---- words of truths: unknown counts as false, on either side
-and_word : (s : LowState) (e f : low.Expression) (v w : Truth) → value s e ≡ Some (Number (truth_word v)) → value s f ≡ Some (Number (truth_word w)) → value s (low.binop I32 And e f) ≡ Some (Number (truth_word (conjunction v w)))
-and_word s e f True True one other = rw (one, other) refl
-and_word s e f True False one other = rw (one, other) refl
-and_word s e f True Unknown one other = rw (one, other) refl
-and_word s e f False True one other = rw (one, other) refl
-and_word s e f False False one other = rw (one, other) refl
-and_word s e f False Unknown one other = rw (one, other) refl
-and_word s e f Unknown True one other = rw (one, other) refl
-and_word s e f Unknown False one other = rw (one, other) refl
-and_word s e f Unknown Unknown one other = rw (one, other) refl
-
-or_word : (s : LowState) (e f : low.Expression) (v w : Truth) → value s e ≡ Some (Number (truth_word v)) → value s f ≡ Some (Number (truth_word w)) → value s (low.binop I32 Or e f) ≡ Some (Number (truth_word (disjunction v w)))
-or_word s e f True True one other = rw (one, other) refl
-or_word s e f True False one other = rw (one, other) refl
-or_word s e f True Unknown one other = rw (one, other) refl
-or_word s e f False True one other = rw (one, other) refl
-or_word s e f False False one other = rw (one, other) refl
-or_word s e f False Unknown one other = rw (one, other) refl
-or_word s e f Unknown True one other = rw (one, other) refl
-or_word s e f Unknown False one other = rw (one, other) refl
-or_word s e f Unknown Unknown one other = rw (one, other) refl
+joined_words : (s : LowState) (e f : low.Expression) (v w : Truth) → value s e ≡ Some (Number (truth_word v)) → value s f ≡ Some (Number (truth_word w)) →
+    (value s (low.binop I32 And e f) ≡ Some (Number (truth_word (conjunction v w)))) × (value s (low.binop I32 Or e f) ≡ Some (Number (truth_word (disjunction v w))))
+joined_words s e f True True one other = (rw (one, other) refl, rw (one, other) refl)
+joined_words s e f True False one other = (rw (one, other) refl, rw (one, other) refl)
+joined_words s e f True Unknown one other = (rw (one, other) refl, rw (one, other) refl)
+joined_words s e f False True one other = (rw (one, other) refl, rw (one, other) refl)
+joined_words s e f False False one other = (rw (one, other) refl, rw (one, other) refl)
+joined_words s e f False Unknown one other = (rw (one, other) refl, rw (one, other) refl)
+joined_words s e f Unknown True one other = (rw (one, other) refl, rw (one, other) refl)
+joined_words s e f Unknown False one other = (rw (one, other) refl, rw (one, other) refl)
+joined_words s e f Unknown Unknown one other = (rw (one, other) refl, rw (one, other) refl)
 
 not_word : (s : LowState) (e : low.Expression) (g : Bool) → value s e ≡ Some (Number (truth_word (truth_if g))) → value s (low.is_zero I32 e) ≡ Some (Number (truth_word (truth_if (not g))))
 not_word s e true one = rw one refl
@@ -167,52 +157,50 @@ related_plain known next o a b left right served typed one among_a among_b =
       typed = λ types declared. (related.left_typed types (declared_of types known ka declared among_a), related.right_typed types (declared_of types known kb declared among_b), refl);
     }
 
-module _ (known : List Known) (next : ℕ) (c d : Condition) (t u : Test) (p : IsPlain known next c t) (q : IsPlain known next d u) where
-  -- what both sides come to
-  sides : (r s : Result Truth Code) (v w : Truth) → r ≡ Ok v → s ≡ Ok w → ((r >>= (λ t. and_then t s)) ≡ Ok (conjunction v w)) × ((r >>= (λ t. or_else t s)) ≡ Ok (disjunction v w))
-  sides r s v w is other = (rw (is, other) (and_sure (Ok v) (Ok w) w refl), rw (is, other) (or_sure (Ok v) (Ok w) w refl))
+-- what a condition makes of two others, of which the right one raises nothing
+record Joins (c d e : Condition) (joins : Truth → Truth → Truth) : Type 0 where
+  pub sure : (env : Environment) (w : Truth) → truth_of d env ≡ Ok w → truth_of e env ≡ (truth_of c env >>= (λ v. Ok (joins v w)))
+  pub weighs : (env : Environment) → units_of c env ≤ units_of e env
+  pub columns : (row : List Val) → HaveColumns (HoldsIn row) e → HaveColumns (HoldsIn row) c × HaveColumns (HoldsIn row) d
 
-  pub both_plain : (out : Test) → tested out ≡ low.binop I32 And (tested t) (tested u) → (IsTestBelow next t → IsTestBelow next u → IsTestBelow next out) → IsPlain known next (both c d) out
-  both_plain out is below = record {
-    below = below p.below q.below;
+both_joins : (c d : Condition) → Joins c d (both c d) conjunction
+both_joins c d = record { sure = λ env w sure. and_sure (truth_of c env) (truth_of d env) w sure; weighs = λ env. omega arith; columns = λ row has. has }
+
+either_joins : (c d : Condition) → Joins c d (either c d) disjunction
+either_joins c d = record { sure = λ env w sure. or_sure (truth_of c env) (truth_of d env) w sure; weighs = λ env. omega arith; columns = λ row has. has }
+
+module _ (known : List Known) (next : ℕ) (c d : Condition) (t u : Test) (p : IsPlain known next c t) (q : IsPlain known next d u) (out : Test) where
+  joined_plain : (e : Condition) (whole : low.Expression) (joins : Truth → Truth → Truth) (joined : Bool → Bool → Bool) → Joins c d e joins → ((g h : Bool) → joins (truth_if g) (truth_if h) ≡ truth_if (joined g h)) →
+      ((s : LowState) (g h : Bool) → value s (tested t) ≡ Some (Number (truth_word (truth_if g))) → value s (tested u) ≡ Some (Number (truth_word (truth_if h))) → value s whole ≡ Some (Number (truth_word (joins (truth_if g) (truth_if h))))) →
+      ((types : List ValType) → HasType types (tested t) I32 → HasType types (tested u) I32 → HasType types whole I32) → tested out ≡ whole → IsTestBelow next out → IsPlain known next e out
+  joined_plain e whole joins joined by same word typed is under = record {
+    below = under;
     tells = λ row s held columns.
-        let one = p.tells row s held columns.0 in
-        let other = q.tells row s held columns.1 in
-        let same = both_true one.0 other.0 in (
-          one.0 && other.0,
-          (sides (truth_of c (at_row row)) (truth_of d (at_row row)) (truth_if one.0) (truth_if other.0) one.1 other.1).0 ∙ ap (λ (v : Truth). let r : Result Truth Code = Ok v in r) same,
-          ap (value s) is ∙ and_word s (tested t) (tested u) (truth_if one.0) (truth_if other.0) one.2 other.2 ∙ ap (λ (v : Truth). Some (Number (truth_word v))) same,
+        let env : Environment = at_row row in
+        let one = p.tells row s held (by.columns row columns).0 in
+        let other = q.tells row s held (by.columns row columns).1 in (
+          joined one.0 other.0,
+          by.sure env (truth_if other.0) other.1 ∙ ap (λ (r : Result Truth Code). r >>= (λ v. Ok (joins v (truth_if other.0)))) one.1 ∙ ap (λ (v : Truth). let r : Result Truth Code = Ok v in r) (same one.0 other.0),
+          ap (value s) is ∙ word s one.0 other.0 one.2 other.2 ∙ ap (λ (v : Truth). Some (Number (truth_word v))) (same one.0 other.0),
         );
-    typed = λ types declared. subst (λ (e : low.Expression). HasType types e I32) (sym is) (p.typed types declared, q.typed types declared, refl);
+    typed = λ types declared. subst (λ (x : low.Expression). HasType types x I32) (sym is) (typed types (p.typed types declared) (q.typed types declared));
   }
 
-  pub either_plain : (out : Test) → tested out ≡ low.binop I32 Or (tested t) (tested u) → (IsTestBelow next t → IsTestBelow next u → IsTestBelow next out) → IsPlain known next (either c d) out
-  either_plain out is below = record {
-    below = below p.below q.below;
-    tells = λ row s held columns.
-        let one = p.tells row s held columns.0 in
-        let other = q.tells row s held columns.1 in
-        let same = either_true one.0 other.0 in (
-          one.0 || other.0,
-          (sides (truth_of c (at_row row)) (truth_of d (at_row row)) (truth_if one.0) (truth_if other.0) one.1 other.1).1 ∙ ap (λ (v : Truth). let r : Result Truth Code = Ok v in r) same,
-          ap (value s) is ∙ or_word s (tested t) (tested u) (truth_if one.0) (truth_if other.0) one.2 other.2 ∙ ap (λ (v : Truth). Some (Number (truth_word v))) same,
-        );
-    typed = λ types declared. subst (λ (e : low.Expression). HasType types e I32) (sym is) (p.typed types declared, q.typed types declared, refl);
-  }
+  pub both_plain : tested out ≡ low.binop I32 And (tested t) (tested u) → (IsTestBelow next t → IsTestBelow next u → IsTestBelow next out) → IsPlain known next (both c d) out
+  both_plain is below =
+      joined_plain (both c d) (low.binop I32 And (tested t) (tested u)) conjunction (λ g h. g && h) (both_joins c d) both_true (λ s g h one other. (joined_words s (tested t) (tested u) (truth_if g) (truth_if h) one other).0)
+      (λ types one other. (one, other, refl)) is (below p.below q.below)
 
-  pub swapped_plain : (out : Test) → tested out ≡ low.binop I32 Or (tested u) (tested t) → (IsTestBelow next u → IsTestBelow next t → IsTestBelow next out) → IsPlain known next (either c d) out
-  swapped_plain out is below = record {
-    below = below q.below p.below;
-    tells = λ row s held columns.
-        let one = p.tells row s held columns.0 in
-        let other = q.tells row s held columns.1 in
-        let same = either_true one.0 other.0 in (
-          one.0 || other.0,
-          (sides (truth_of c (at_row row)) (truth_of d (at_row row)) (truth_if one.0) (truth_if other.0) one.1 other.1).1 ∙ ap (λ (v : Truth). let r : Result Truth Code = Ok v in r) same,
-          ap (value s) is ∙ or_word s (tested u) (tested t) (truth_if other.0) (truth_if one.0) other.2 one.2 ∙ ap (λ (v : Truth). Some (Number (truth_word v))) (same_disjunction one.0 other.0 ∙ same),
-        );
-    typed = λ types declared. subst (λ (e : low.Expression). HasType types e I32) (sym is) (q.typed types declared, p.typed types declared, refl);
-  }
+  pub either_plain : tested out ≡ low.binop I32 Or (tested t) (tested u) → (IsTestBelow next t → IsTestBelow next u → IsTestBelow next out) → IsPlain known next (either c d) out
+  either_plain is below =
+      joined_plain (either c d) (low.binop I32 Or (tested t) (tested u)) disjunction (λ g h. g || h) (either_joins c d) either_true (λ s g h one other. (joined_words s (tested t) (tested u) (truth_if g) (truth_if h) one other).1)
+      (λ types one other. (one, other, refl)) is (below p.below q.below)
+
+  pub swapped_plain : tested out ≡ low.binop I32 Or (tested u) (tested t) → (IsTestBelow next u → IsTestBelow next t → IsTestBelow next out) → IsPlain known next (either c d) out
+  swapped_plain is below =
+      joined_plain (either c d) (low.binop I32 Or (tested u) (tested t)) disjunction (λ g h. g || h) (either_joins c d) either_true
+      (λ s g h one other. (joined_words s (tested u) (tested t) (truth_if h) (truth_if g) other one).1 ∙ ap (λ (v : Truth). Some (Number (truth_word v))) (same_disjunction g h))
+      (λ types one other. (other, one, refl)) is (below q.below p.below)
 
 pub not_plain : (known : List Known) (next : ℕ) (c : Condition) (t out : Test) → IsPlain known next c t → tested out ≡ low.is_zero I32 (tested t) → (IsTestBelow next t → IsTestBelow next out) → IsPlain known next (negation_of c) out
 not_plain known next c t out p is below = record {
@@ -269,9 +257,9 @@ shared_tests known x ox c start mid out served ex made first =
     }
 
 -- and a truth that was decided where it is known
-pub handed_tests : (known : List Known) (x : Expression) (ox : Operand) (c : Condition) (start mid new : Emitter) (t : Cell) → IsServed (free_of start) known → Emits known x start mid ox → MadeTruth (with_operand x ox known) c mid new t → First x c →
+pub handed_tests : (known : List Known) (x : Expression) (ox : Operand) (c : Condition) (m : ℕ) (start mid new : Emitter) (t : Cell) → IsServed (free_of start) known → Emits known x start mid ox → MadeTruth (with_operand x ox known) c m mid new t → First x c →
     EmitsTest known c start new (test.Local t.value)
-handed_tests known x ox c start mid new t served ex mt first =
+handed_tests known x ox c m start mid new t served ex mt first =
     let low = (operand_served known x ox start mid served ex).0 in
     truth_tests known c start new t (shared_decides known x c start mid new ox t served.0 ex (mt.emits (with_operand x ox known) (includes_same (with_operand x ox known)) low) first.raises first.weighs first.columns)
 
@@ -301,11 +289,9 @@ not_tests known c now t out served made is below = plain_tests known (negation_o
 
 -- beside a left side that was emitted
 module _ (known : List Known) (c d : Condition) (start now : Emitter) (t u : Test) (served : IsServed (free_of start) known) (ec : EmitsTest known c start now t) (made : MadePlain known d u) (out : Test)
-    (e : Condition) (whole : low.Expression) (joins : Truth → Truth → Truth) (below : (n : ℕ) → IsTestBelow n t → IsTestBelow n u → IsTestBelow n out) (is : tested out ≡ whole)
-    (typed_is : (types : List ValType) → HasType types (tested t) I32 → HasType types (tested u) I32 → HasType types whole I32)
+    (e : Condition) (whole : low.Expression) (joins : Truth → Truth → Truth) (by : Joins c d e joins) (below : (n : ℕ) → IsTestBelow n t → IsTestBelow n u → IsTestBelow n out) (is : tested out ≡ whole)
     (word : (s : LowState) (v w : Truth) → value s (tested t) ≡ Some (Number (truth_word v)) → value s (tested u) ≡ Some (Number (truth_word w)) → value s whole ≡ Some (Number (truth_word (joins v w))))
-    (sure : (env : Environment) (w : Truth) → truth_of d env ≡ Ok w → truth_of e env ≡ (truth_of c env >>= (λ v. Ok (joins v w)))) (weighs : (env : Environment) → units_of c env ≤ units_of e env)
-    (columns : (row : List Val) → HaveColumns (HoldsIn row) e → HaveColumns (HoldsIn row) c × HaveColumns (HoldsIn row) d) where
+    (typed : (types : List ValType) → HasType types (tested t) I32 → HasType types (tested u) I32 → HasType types whole I32) where
   joined_tests : EmitsTest known e start now out
   joined_tests =
       let next : ℕ = free_of start in
@@ -320,11 +306,11 @@ module _ (known : List Known) (c d : Condition) (start now : Emitter) (t u : Tes
           below = below (next + length ec.own) ec.decides.below (test_below_more next (next + length ec.own) u (omega arith) p.below);
           runs = λ pages fuel more row s enough within held has room.
               let env : Environment = at_row row in
-              let has_both = columns row has in
+              let has_both = by.columns row has in
               let Q : Truth → LowState → Type 0 = λ v t. Kept next s t × (value t (tested out) ≡ Some (Number (truth_word v))) in
               let here = p.tells row s held has_both.1 in
-              let come = ec.decides.runs pages fuel more row s (omega (arith, enough, weighs env)) within held has_both.0 room in
-              subst (λ (r : Result Truth Code). Comes pages fuel more Q r ec.statement s) (sym (sure env (truth_if here.0) here.1))
+              let come = ec.decides.runs pages fuel more row s (omega (arith, enough, by.weighs env)) within held has_both.0 room in
+              subst (λ (r : Result Truth Code). Comes pages fuel more Q r ec.statement s) (sym (by.sure env (truth_if here.0) here.1))
               (comes_made pages fuel more (λ v w. Kept next s w × (value w (tested t) ≡ Some (Number (truth_word v)))) Q (truth_of c env) (λ v. joins v (truth_if here.0)) ec.statement s
               (λ v w is_v left.
               let there = p.tells row w (known_kept next s w row known left.0 served.0 held) has_both.1 in
@@ -332,18 +318,16 @@ module _ (known : List Known) (c d : Condition) (start now : Emitter) (t u : Tes
               (left.0, ap (value w) is ∙ word w v (truth_if here.0) left.1 (there.2 ∙ ap (λ (x : Truth). Some (Number (truth_word x))) same))) come);
           typed = λ types declared declares.
               let one = ec.decides.typed types declared declares in
-              (one.0, subst (λ (x : low.Expression). HasType types x I32) (sym is) (typed_is types one.1 (p.typed types declared)));
+              (one.0, subst (λ (x : low.Expression). HasType types x I32) (sym is) (typed types one.1 (p.typed types declared)));
         };
       }
 
 pub both_tests : (known : List Known) (c d : Condition) (start now : Emitter) (t u out : Test) → IsServed (free_of start) known → EmitsTest known c start now t → MadePlain known d u → ((n : ℕ) → IsTestBelow n t → IsTestBelow n u → IsTestBelow n out) →
     tested out ≡ low.binop I32 And (tested t) (tested u) → EmitsTest known (both c d) start now out
 both_tests known c d start now t u out served ec made below is =
-    joined_tests known c d start now t u served ec made out (both c d) (low.binop I32 And (tested t) (tested u)) conjunction below is (λ types one other. (one, other, refl)) (λ s v w one other. and_word s (tested t) (tested u) v w one other)
-    (λ env w sure. and_sure (truth_of c env) (truth_of d env) w sure) (λ env. omega arith) (λ row has. has)
+    joined_tests known c d start now t u served ec made out (both c d) (low.binop I32 And (tested t) (tested u)) conjunction (both_joins c d) below is (λ s v w one other. (joined_words s (tested t) (tested u) v w one other).0) (λ types one other. (one, other, refl))
 
 pub either_tests : (known : List Known) (c d : Condition) (start now : Emitter) (t u out : Test) → IsServed (free_of start) known → EmitsTest known c start now t → MadePlain known d u → ((n : ℕ) → IsTestBelow n t → IsTestBelow n u → IsTestBelow n out) →
     tested out ≡ low.binop I32 Or (tested t) (tested u) → EmitsTest known (either c d) start now out
 either_tests known c d start now t u out served ec made below is =
-    joined_tests known c d start now t u served ec made out (either c d) (low.binop I32 Or (tested t) (tested u)) disjunction below is (λ types one other. (one, other, refl)) (λ s v w one other. or_word s (tested t) (tested u) v w one other)
-    (λ env w sure. or_sure (truth_of c env) (truth_of d env) w sure) (λ env. omega arith) (λ row has. has)
+    joined_tests known c d start now t u served ec made out (either c d) (low.binop I32 Or (tested t) (tested u)) disjunction (either_joins c d) below is (λ s v w one other. (joined_words s (tested t) (tested u) v w one other).1) (λ types one other. (one, other, refl))

@@ -34,6 +34,7 @@ use Rattle.qw_expr.specs.Inner.Tests.{is_one_relation}
 use Rattle.qw_expr.proofs.Related.{relates}
 use Rattle.qw_expr.proofs.Shared.{declared_of, held_of}
 use Rattle.qw_expr.proofs.Trees.{described}
+use Rattle.qw_expr.proofs.Nulls.{or_false}
 
 -- ---- lists
 pub all_both : {A : Type 0} (P : A → Type 0) (xs ys : List A) → AllByRecursion P xs → AllByRecursion P ys → AllByRecursion P (xs ++ ys)
@@ -58,10 +59,6 @@ same_held s x v w one other = sym one.3 ∙ ap (cast_signed w64) (same_word one.
 
 same_value : (a b : Val) → (let r : Result Val Code = Ok a in r) ≡ Ok b → a ≡ b
 same_value a b is = cc
-
-or_false : (g : Bool) → (g || false) ≡ g
-or_false true = refl
-or_false false = refl
 
 -- one literal
 module _ (known : List Known) (a b : Expression) (x y : Operand) (literal : ℤ) (typed : AreTyped (comparison op.Equal a b)) (one : is_one_relation x y ≡ true) (among : IsAmong (record { expression = b; operand = y }) known)

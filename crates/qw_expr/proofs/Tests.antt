@@ -27,6 +27,7 @@ use Rattle.qw_low.proofs.Results.{Kept-then, Comes, comes_weaker, comes_then}
 use Rattle.qw_wide.specs.Relations.{relation_of}
 use Rattle.qw_expr.specs.declared.emitter.Emitter.{Emitter}
 use Rattle.qw_expr.specs.declared.operand.Operand.{Operand}
+use Rattle.qw_expr.specs.declared.test.Test.{Test}
 use Rattle.qw_expr.specs.declared.test.Test.TheVariants as test
 use Rattle.qw_expr.specs.Bindings.{IsServed}
 use Rattle.qw_expr.specs.Cells.{Holds, HoldsTruth, IsBelow}
@@ -58,41 +59,33 @@ turned c True t none h = rw (h.0) refl
 turned c False t none h = rw (h.0) refl
 turned c Unknown t none h = absurd (subst (SaysNull t) none h.1)
 
+-- a test of what a block leaves
+same_block : (known : List Known) (c d : Condition) (old new : Emitter) (cell : Cell) (out : Test) (ec : EmitsTruth known c old new cell) → DecidesTest known d (free_of old) out ec.statement ec.own → EmitsTest known d old new out
+same_block known c d old new cell out ec decides = record { first_is = ec.first_is; statement = ec.statement; own = ec.own; code_is = ec.code_is; own_is = ec.own_is; decides = decides }
+
 pub truth_tests : (known : List Known) (c : Condition) (old new : Emitter) (cell : Cell) → EmitsTruth known c old new cell → EmitsTest known c old new (test.Local cell.value)
-truth_tests known c old new cell ec = record {
-  first_is = ec.first_is;
-  statement = ec.statement;
-  own = ec.own;
-  code_is = ec.code_is;
-  own_is = ec.own_is;
-  decides = record {
-    below = ec.decides.below.0;
-    runs = λ pages fuel more row s enough within held has room.
-        comes_weaker pages fuel more (λ v t. Kept (free_of old) s t × HoldsTruth cell v t) (λ v t. Kept (free_of old) s t × (value t (local cell.value) ≡ Some (Number (truth_word v)))) (truth_of c (at_row row)) ec.statement s
-        (λ v t is left. (left.0, told cell v t left.1)) (ec.decides.runs pages fuel more row s enough within held has room);
-    typed = λ types declared declares.
-        let done = ec.decides.typed types declared declares in
-        (done.0, done.1.0);
-  };
-}
+truth_tests known c old new cell ec =
+    same_block known c c old new cell (test.Local cell.value) ec (record {
+      below = ec.decides.below.0;
+      runs = λ pages fuel more row s enough within held has room.
+          comes_weaker pages fuel more (λ v t. Kept (free_of old) s t × HoldsTruth cell v t) (λ v t. Kept (free_of old) s t × (value t (local cell.value) ≡ Some (Number (truth_word v)))) (truth_of c (at_row row)) ec.statement s
+          (λ v t is left. (left.0, told cell v t left.1)) (ec.decides.runs pages fuel more row s enough within held has room);
+      typed = λ types declared declares.
+          let done = ec.decides.typed types declared declares in
+          (done.0, done.1.0);
+    })
 
 pub zero_tests : (known : List Known) (c : Condition) (old new : Emitter) (cell : Cell) → cell.null ≡ None → EmitsTruth known c old new cell → EmitsTest known (negation_of c) old new (test.Zero cell.value)
-zero_tests known c old new cell none ec = record {
-  first_is = ec.first_is;
-  statement = ec.statement;
-  own = ec.own;
-  code_is = ec.code_is;
-  own_is = ec.own_is;
-  decides = record {
-    below = ec.decides.below.0;
-    runs = λ pages fuel more row s enough within held has room.
-        comes_made pages fuel more (λ v t. Kept (free_of old) s t × HoldsTruth cell v t) (λ v t. Kept (free_of old) s t × (value t (is_zero I32 (local cell.value)) ≡ Some (Number (truth_word v)))) (truth_of c (at_row row)) negation ec.statement s
-        (λ v t is left. (left.0, turned cell v t none left.1)) (ec.decides.runs pages fuel more row s enough within held has room);
-    typed = λ types declared declares.
-        let done = ec.decides.typed types declared declares in
-        (done.0, (done.1.0, refl));
-  };
-}
+zero_tests known c old new cell none ec =
+    same_block known c (negation_of c) old new cell (test.Zero cell.value) ec (record {
+      below = ec.decides.below.0;
+      runs = λ pages fuel more row s enough within held has room.
+          comes_made pages fuel more (λ v t. Kept (free_of old) s t × HoldsTruth cell v t) (λ v t. Kept (free_of old) s t × (value t (is_zero I32 (local cell.value)) ≡ Some (Number (truth_word v)))) (truth_of c (at_row row)) negation ec.statement s
+          (λ v t is left. (left.0, turned cell v t none left.1)) (ec.decides.runs pages fuel more row s enough within held has room);
+      typed = λ types declared declares.
+          let done = ec.decides.typed types declared declares in
+          (done.0, (done.1.0, refl));
+    })
 
 -- ---- one relation of two values
 module _ (known : List Known) (next : ℕ) (low_known : AreBelow next known) (o : Comparison) (a b : Expression) (oa ob : Operand) (sa sb : Statement) (owna ownb : List ValType)

@@ -2,16 +2,18 @@
 //!
 //! What an abbreviation names twice, as the operand of BETWEEN, IN, CASE and NULLIF, is evaluated once: its operand is handed on.
 
-ghost use Rattle.std.specs.Prelude.{◌≡◌, ◌≤◌, IfOk, IsTrue, ◌+◌, ◌*◌, length, OnOk};
-ghost use Rattle.qw_scalar.specs.Expression.{among, between, brought, cases, coalesced, comparison, scale_of, unless_among};
+ghost use Rattle.std.specs.Prelude.{◌≡◌, ℕ, ◌≤◌, IfOk, IsTrue, ◌+◌, ◌*◌, List, length, OnOk};
+ghost use Rattle.qw_scalar.specs.Expression.{Condition, among, between, brought, cases, coalesced, comparison, is_there, scale_of, unless_among};
 ghost use Rattle.qw_scalar.specs.Nodes.{nodes, nodes_of, nodes_of_all, nodes_of_branches, nodes_of_matches};
 ghost use Rattle.qw_scalar.specs.Tree.{choices_of, condition_of, expression_of, expressions_of, matches_of};
 ghost use Rattle.qw_scalar.specs.Typing.{AreTyped, IsTyped, kind_of};
 ghost use Rattle.qw_expr.specs.Cells.{IsBelow};
 ghost use Rattle.qw_expr.specs.Bindings.{IsServed, TakeKnown, TakesKnown, known_of};
+ghost use Rattle.qw_expr.specs.Computes.{Known};
+ghost use Rattle.qw_expr.specs.declared.emitter.Emitter.{Emitter};
 ghost use Rattle.qw_expr.specs.Emits.{Emits, EmitsTruth, comparing, extent, free_of};
 ghost use Rattle.qw_expr.specs.Inner.Choices.{Suits};
-ghost use Rattle.qw_expr.specs.Inner.Made.{Made, MadeTruth, StartsUnlessNull, with_operand};
+ghost use Rattle.qw_expr.specs.Inner.Made.{Asks, Includes, Made, MadeTruth, Starts, with_operand};
 
 use crate::choice::Started;
 use crate::emitter::Emitter;
@@ -37,8 +39,7 @@ fn expression(emitter: &mut Emitter, expr: &Expr, known: &[Binding]) -> Result<O
     requires typed { IsTyped (expression_of expr.now) }
     requires known { TakesKnown (known_of known.now) (expression_of expr.now) }
     requires served { IsServed (free_of emitter.old) (known_of known.now) }
-    ensures emits { IfOk result (λ out. Made (known_of known.now) (expression_of expr.now) emitter.old emitter.new out) }
-    ensures short { OnOk result (extent emitter.new ≤ extent emitter.old + 400 * nodes expr.now) }
+    ensures { IfOk result (λ out. Made (known_of known.now) (expression_of expr.now) (400 * nodes expr.now) emitter.old emitter.new out) }
 {
     match expr {
         Expr::Null => emitter.null(),
@@ -71,6 +72,44 @@ fn expression(emitter: &mut Emitter, expr: &Expr, known: &[Binding]) -> Result<O
     }
 }
 
+/// Adds an expression, brought to a scale.
+#[cycle(tree)]
+fn scaled(
+    emitter: &mut Emitter,
+    expr: &Expr,
+    to: u8,
+    known: &[Binding],
+) -> Result<Operand, NoMemory>
+    requires typed { IsTyped (brought (expression_of expr.now) to) }
+    requires known { TakesKnown (known_of known.now) (expression_of expr.now) }
+    requires served { IsServed (free_of emitter.old) (known_of known.now) }
+    ensures { IfOk result (λ out. Made (known_of known.now) (brought (expression_of expr.now) to) (400 * nodes expr.now + 85) emitter.old emitter.new out) }
+{
+    let a = expression(emitter, expr, known)?;
+    emitter.brought(a, to)
+}
+
+/// Begins a choice by a truth, and adds what it gives where that is true.
+#[cycle(tree)]
+fn first_result(
+    emitter: &mut Emitter,
+    test: Cell,
+    expr: &Expr,
+    form: Form,
+    known: &[Binding],
+) -> Result<Started, NoMemory>
+    requires typed { IsTyped (brought (expression_of expr.now) form.scale) }
+    requires known { TakesKnown (known_of known.now) (expression_of expr.now) }
+    requires served { IsServed (free_of emitter.old) (known_of known.now) }
+    ensures { IfOk result (λ begun. (all : List Known) (c : Condition) (most : ℕ) (start : Emitter) → Includes all (known_of known.now) → IsServed (free_of start) all → MadeTruth all c most start emitter.old test →
+        Starts all c (brought (expression_of expr.now) form.scale) form.text (most + (400 * nodes expr.now + 100)) start emitter.new begun) }
+{
+    let place = emitter.begin_choice(test, form.text)?;
+    let a = expression(emitter, expr, known)?;
+    let first = emitter.first_brought(place, a, form.scale)?;
+    Ok(Started { place, first })
+}
+
 /// Adds the first result whose condition is true, brought to a scale.
 #[cycle(tree)]
 fn branch(
@@ -79,25 +118,17 @@ fn branch(
     form: Form,
     known: &[Binding],
 ) -> Result<Operand, NoMemory>
-    requires typed { IsTyped (cases form.scale (choices_of branches.now)) }
-    requires known { TakesKnown (known_of known.now) (cases form.scale (choices_of branches.now)) }
+    requires asks { Asks (known_of known.now) form.text (cases form.scale (choices_of branches.now)) }
     requires served { IsServed (free_of emitter.old) (known_of known.now) }
-    requires suits { Suits form.text (kind_of (cases form.scale (choices_of branches.now))) }
-    ensures emits { IfOk result (λ out. Made (known_of known.now) (cases form.scale (choices_of branches.now)) emitter.old emitter.new out) }
-    ensures short { OnOk result (extent emitter.new ≤ extent emitter.old + 400 * nodes_of_branches branches.now) }
+    ensures { IfOk result (λ out. Made (known_of known.now) (cases form.scale (choices_of branches.now)) (400 * nodes_of_branches branches.now) emitter.old emitter.new out) }
 {
     match branches {
-        Branches::Else(result) => {
-            let a = expression(emitter, result, known)?;
-            emitter.brought(a, form.scale)
-        }
+        Branches::Else(result) => scaled(emitter, result, form.scale, known),
         Branches::When(test, result, rest) => {
             let t = condition(emitter, test, known)?;
-            let place = emitter.begin_choice(t, form.text)?;
-            let a = expression(emitter, result, known)?;
-            let first = emitter.first_brought(place, a, form.scale)?;
+            let begun = first_result(emitter, t, result, form, known)?;
             let second = branch(emitter, rest, form, known)?;
-            emitter.end_choice(place, first, second)
+            emitter.end_choice(begun.place, begun.first, second)
         }
     }
 }
@@ -112,30 +143,22 @@ fn matched(
     form: Form,
     known: &[Binding],
 ) -> Result<Operand, NoMemory>
-    requires typed { IsTyped (cases form.scale (matches_of matches.now (expression_of operand.now))) }
-    requires known { TakesKnown (known_of known.now) (cases form.scale (matches_of matches.now (expression_of operand.now))) }
+    requires asks { Asks (known_of known.now) form.text (cases form.scale (matches_of matches.now (expression_of operand.now))) }
     requires served { IsServed (free_of emitter.old) (with_operand (expression_of operand.now) x (known_of known.now)) }
-    requires suits { Suits form.text (kind_of (cases form.scale (matches_of matches.now (expression_of operand.now)))) }
-    ensures emits { IfOk result (λ out. Made (with_operand (expression_of operand.now) x (known_of known.now)) (cases form.scale (matches_of matches.now (expression_of operand.now))) emitter.old emitter.new out) }
-    ensures short { OnOk result (extent emitter.new ≤ extent emitter.old + 400 * nodes_of_matches matches.now) }
+    ensures { IfOk result (λ out. Made (with_operand (expression_of operand.now) x (known_of known.now)) (cases form.scale (matches_of matches.now (expression_of operand.now))) (400 * nodes_of_matches matches.now) emitter.old emitter.new out) }
 {
     match matches {
         Matches::Last(wanted, result, other) => {
             let t = against(emitter, Comparison::Equal, wanted, operand, x, known)?;
-            let place = emitter.begin_choice(t, form.text)?;
-            let a = expression(emitter, result, known)?;
-            let first = emitter.first_brought(place, a, form.scale)?;
-            let b = expression(emitter, other, known)?;
-            let second = emitter.brought(b, form.scale)?;
-            emitter.end_choice(place, first, second)
+            let begun = first_result(emitter, t, result, form, known)?;
+            let second = scaled(emitter, other, form.scale, known)?;
+            emitter.end_choice(begun.place, begun.first, second)
         }
         Matches::When(wanted, result, rest) => {
             let t = against(emitter, Comparison::Equal, wanted, operand, x, known)?;
-            let place = emitter.begin_choice(t, form.text)?;
-            let a = expression(emitter, result, known)?;
-            let first = emitter.first_brought(place, a, form.scale)?;
+            let begun = first_result(emitter, t, result, form, known)?;
             let second = matched(emitter, rest, operand, x, form, known)?;
-            emitter.end_choice(place, first, second)
+            emitter.end_choice(begun.place, begun.first, second)
         }
     }
 }
@@ -148,18 +171,12 @@ fn coalesce(
     form: Form,
     known: &[Binding],
 ) -> Result<Operand, NoMemory>
-    requires typed { IsTyped (cases form.scale (coalesced (expressions_of arguments.now))) }
-    requires known { TakesKnown (known_of known.now) (cases form.scale (coalesced (expressions_of arguments.now))) }
+    requires asks { Asks (known_of known.now) form.text (cases form.scale (coalesced (expressions_of arguments.now))) }
     requires served { IsServed (free_of emitter.old) (known_of known.now) }
-    requires suits { Suits form.text (kind_of (cases form.scale (coalesced (expressions_of arguments.now)))) }
-    ensures emits { IfOk result (λ out. Made (known_of known.now) (cases form.scale (coalesced (expressions_of arguments.now))) emitter.old emitter.new out) }
-    ensures short { OnOk result (extent emitter.new ≤ extent emitter.old + 400 * nodes_of_all arguments.now) }
+    ensures { IfOk result (λ out. Made (known_of known.now) (cases form.scale (coalesced (expressions_of arguments.now))) (400 * nodes_of_all arguments.now) emitter.old emitter.new out) }
 {
     match arguments {
-        Exprs::Last(argument) => {
-            let a = expression(emitter, argument, known)?;
-            emitter.brought(a, form.scale)
-        }
+        Exprs::Last(argument) => scaled(emitter, argument, form.scale, known),
         Exprs::More(argument, rest) => {
             let x = expression(emitter, argument, known)?;
             let begun = unless_null(emitter, argument, x, form, known)?;
@@ -177,18 +194,13 @@ fn unless_among(
     form: Form,
     known: &[Binding],
 ) -> Result<Operand, NoMemory>
-    requires typed { IsTyped (unless_among (expressions_of arguments.now)) }
-    requires known { TakesKnown (known_of known.now) (unless_among (expressions_of arguments.now)) }
+    requires asks { Asks (known_of known.now) form.text (unless_among (expressions_of arguments.now)) }
+    requires scale { form.scale ≡ scale_of (unless_among (expressions_of arguments.now)) }
     requires served { IsServed (free_of emitter.old) (known_of known.now) }
-    requires suits { Suits form.text (kind_of (unless_among (expressions_of arguments.now))) }
-    ensures emits { IfOk result (λ out. Made (known_of known.now) (unless_among (expressions_of arguments.now)) emitter.old emitter.new out) }
-    ensures short { OnOk result (extent emitter.new ≤ extent emitter.old + 400 * nodes_of_all arguments.now) }
+    ensures { IfOk result (λ out. Made (known_of known.now) (unless_among (expressions_of arguments.now)) (400 * nodes_of_all arguments.now) emitter.old emitter.new out) }
 {
     match arguments {
-        Exprs::Last(argument) => {
-            let a = expression(emitter, argument, known)?;
-            emitter.brought(a, a.scale)
-        }
+        Exprs::Last(argument) => scaled(emitter, argument, form.scale, known),
         Exprs::More(argument, others) => {
             let x = expression(emitter, argument, known)?;
             let t = among(emitter, others, argument, x, known)?;
@@ -203,8 +215,7 @@ fn condition(emitter: &mut Emitter, cond: &Cond, known: &[Binding]) -> Result<Ce
     requires typed { AreTyped (condition_of cond.now) }
     requires known { TakeKnown (known_of known.now) (condition_of cond.now) }
     requires served { IsServed (free_of emitter.old) (known_of known.now) }
-    ensures emits { IfOk result (λ out. MadeTruth (known_of known.now) (condition_of cond.now) emitter.old emitter.new out) }
-    ensures short { OnOk result (extent emitter.new ≤ extent emitter.old + 400 * nodes_of cond.now) }
+    ensures { IfOk result (λ out. MadeTruth (known_of known.now) (condition_of cond.now) (400 * nodes_of cond.now) emitter.old emitter.new out) }
 {
     match cond {
         Cond::Compare(operator, left, right) => {
@@ -276,8 +287,7 @@ fn against(
     requires typed { AreTyped (comparison operator (expression_of operand.now) (expression_of right.now)) }
     requires known { TakeKnown (known_of known.now) (comparison operator (expression_of operand.now) (expression_of right.now)) }
     requires served { IsServed (free_of emitter.old) (with_operand (expression_of operand.now) x (known_of known.now)) }
-    ensures emits { IfOk result (λ out. MadeTruth (with_operand (expression_of operand.now) x (known_of known.now)) (comparison operator (expression_of operand.now) (expression_of right.now)) emitter.old emitter.new out) }
-    ensures short { OnOk result (extent emitter.new ≤ extent emitter.old + (400 * nodes right.now + comparing operator)) }
+    ensures { IfOk result (λ out. MadeTruth (with_operand (expression_of operand.now) x (known_of known.now)) (comparison operator (expression_of operand.now) (expression_of right.now)) (400 * nodes right.now + comparing operator) emitter.old emitter.new out) }
 {
     let y = expression(emitter, right, known)?;
     emitter.compare(operator, x, y)
@@ -295,8 +305,7 @@ pub(crate) fn among(
     requires typed { AreTyped (among (expression_of operand.now) (expressions_of values.now)) }
     requires known { TakeKnown (known_of known.now) (among (expression_of operand.now) (expressions_of values.now)) }
     requires served { IsServed (free_of emitter.old) (with_operand (expression_of operand.now) x (known_of known.now)) }
-    ensures emits { IfOk result (λ out. MadeTruth (with_operand (expression_of operand.now) x (known_of known.now)) (among (expression_of operand.now) (expressions_of values.now)) emitter.old emitter.new out) }
-    ensures short { OnOk result (extent emitter.new ≤ extent emitter.old + 400 * nodes_of_all values.now) }
+    ensures { IfOk result (λ out. MadeTruth (with_operand (expression_of operand.now) x (known_of known.now)) (among (expression_of operand.now) (expressions_of values.now)) (400 * nodes_of_all values.now) emitter.old emitter.new out) }
 {
     match values {
         Exprs::Last(wanted) => against(emitter, Comparison::Equal, wanted, operand, x, known),
@@ -319,14 +328,12 @@ fn unless_null(
 ) -> Result<Started, NoMemory>
     requires typed { IsTyped (brought (expression_of operand.now) form.scale) }
     requires served { IsServed (free_of emitter.old) (with_operand (expression_of operand.now) x (known_of known.now)) }
-    ensures emits { IfOk result (λ begun. StartsUnlessNull (known_of known.now) (expression_of operand.now) x form.scale form.text emitter.old emitter.new begun) }
-    ensures short { OnOk result (extent emitter.new ≤ extent emitter.old + 110) }
+    ensures { IfOk result (λ begun. Starts (with_operand (expression_of operand.now) x (known_of known.now)) (is_there (expression_of operand.now)) (brought (expression_of operand.now) form.scale) form.text 110 emitter.old emitter.new begun) }
 {
     let null = emitter.predicate(Predicate::IsNull, x)?;
     let t = emitter.negation(null)?;
     let place = emitter.begin_choice(t, form.text)?;
-    let first = emitter.brought(x, form.scale)?;
-    emitter.begin_other(place, first)?;
+    let first = emitter.first_brought(place, x, form.scale)?;
     Ok(Started { place, first })
 }
 
@@ -356,8 +363,7 @@ pub(crate) fn between(
     requires typed { AreTyped (between (expression_of operand.now) (expression_of least.now) (expression_of greatest.now)) }
     requires known { TakeKnown (known_of known.now) (between (expression_of operand.now) (expression_of least.now) (expression_of greatest.now)) }
     requires served { IsServed (free_of emitter.old) (with_operand (expression_of operand.now) x (known_of known.now)) }
-    ensures emits { IfOk result (λ out. MadeTruth (with_operand (expression_of operand.now) x (known_of known.now)) (between (expression_of operand.now) (expression_of least.now) (expression_of greatest.now)) emitter.old emitter.new out) }
-    ensures short { OnOk result (extent emitter.new ≤ extent emitter.old + (400 * (nodes least.now + nodes greatest.now) + 300)) }
+    ensures { IfOk result (λ out. MadeTruth (with_operand (expression_of operand.now) x (known_of known.now)) (between (expression_of operand.now) (expression_of least.now) (expression_of greatest.now)) (400 * (nodes least.now + nodes greatest.now) + 300) emitter.old emitter.new out) }
 {
     let t = against(
         emitter,

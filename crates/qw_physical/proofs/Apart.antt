@@ -1,5 +1,5 @@
 -- A lookup keeps columns of entries that no row of its pipeline has before.
-use Rattle.std.proofs.Common.{◌≡◌, ◌∙◌, ℕ, ◌+◌, ◌/◌, nat_eq, Bool, true, false, ◌&&◌, ◌||◌, List, [], ◌∷◌, ◌++◌, length, refl, sym, ap, subst, append_assoc, append-nil}
+use Rattle.std.proofs.Common.{◌≡◌, ◌∙◌, ℕ, ◌+◌, ◌/◌, nat_eq, Bool, true, false, ◌&&◌, ◌||◌, List, [], ◌∷◌, ◌++◌, length, refl, sym, ap, subst, append-nil}
 use Rattle.std.specs.List.{AllByRecursion}
 use Rattle.qw_types.specs.Contents.{rows_of}
 use Rattle.qw_types.specs.Value.{IsSized}
@@ -24,12 +24,9 @@ use Rattle.qw_physical.specs.Spelled.{all_spelled, kept_columns, keys_sought, sp
 use Rattle.qw_physical.specs.declared.pipeline.ReadColumn.{ReadColumn}
 use Rattle.qw_physical.proofs.Building.{filter_holds}
 use Rattle.qw_physical.proofs.Entries.{filtered_number}
-use Rattle.qw_physical.proofs.Feeding.{building, spelled_append, spelled_join}
+use Rattle.qw_physical.proofs.Feeding.{steps_with, building, spelled_join}
 use Rattle.qw_physical.proofs.Placed.{F, IsReady}
-
-or_falses : (a b : Bool) → (a || b) ≡ false → (a ≡ false) × (b ≡ false)
-or_falses true b h = absurd cc
-or_falses false b h = (refl, h)
+use Rattle.qw_physical.proofs.Reading.{either_way}
 
 both_false : (a b : Bool) → a ≡ false → b ≡ false → (a || b) ≡ false
 both_false true b h g = absurd cc
@@ -42,7 +39,7 @@ keep_less (filter_by conjuncts ∷ operators) taken less more h = keep_less oper
 keep_less (probe p ∷ operators) taken less more h = (
   all_more (λ (c : ReadColumn). taken c.number ≡ false) (λ (c : ReadColumn). less c.number ≡ false) p.kept (λ (c : ReadColumn) no. more c.number no) h.0,
   keep_less operators (λ i. taken i || is_read p.kept i) (λ i. less i || is_read p.kept i)
-      (λ i no. let parts = or_falses (taken i) (is_read p.kept i) no in both_false (less i) (is_read p.kept i) (more i parts.0) parts.1) h.1,
+      (λ i no. let parts = either_way (taken i) (is_read p.kept i) no in both_false (less i) (is_read p.kept i) (more i parts.0) parts.1) h.1,
 )
 
 module _ (entries : List Entry) (tables : List (List (List Val))) (columns : List ReadColumn)
@@ -50,18 +47,12 @@ module _ (entries : List Entry) (tables : List (List (List Val))) (columns : Lis
   abbrev lookup : Bool → Node → List Condition → List ℕ → Lookup
   lookup outer right on keys = record { entries = entries_below right; outer = outer; on = on; keys = keys }
 
-  steps_with : (steps : List pipes.Step) (s : pipes.Step) (o : Operator) (more : List Operator) → spelled_steps columns (s ∷ []) ≡ o ∷ [] → spelled_steps columns steps ++ o ∷ more ≡ spelled_steps columns (steps ++ s ∷ []) ++ more
-  steps_with steps s o more e =
-      sym (append_assoc (spelled_steps columns steps) (o ∷ []) more)
-      ∙ ap (λ (os : List Operator). (spelled_steps columns steps ++ os) ++ more) (sym e)
-      ∙ ap (λ (os : List Operator). os ++ more) (sym (spelled_append columns steps (s ∷ [])))
-
   -- what comes behind a plan's pipeline keeps nothing of the plan's entries
   pub steps_apart : (node : Node) (next : ℕ) (more : List Operator) → IsReady entries tables columns sized node → KeepApart (owns node) more
       → KeepApart (λ i. nat_eq (split next node).last.entry (i / 64)) (spelled_steps columns (split next node).last.steps ++ more)
-  steps_apart (scan entry table) next more ready h = keep_less more (owns (scan entry table)) (λ i. nat_eq entry (i / 64)) (λ i no. (or_falses (nat_eq entry (i / 64)) false no).0) h
+  steps_apart (scan entry table) next more ready h = keep_less more (owns (scan entry table)) (λ i. nat_eq entry (i / 64)) (λ i no. (either_way (nat_eq entry (i / 64)) false no).0) h
   steps_apart (filter conjuncts below) next more ready h =
-      subst (KeepApart (λ i. nat_eq (split next below).last.entry (i / 64))) (steps_with (split next below).last.steps (test conjuncts) (filter_by conjuncts) more refl)
+      subst (KeepApart (λ i. nat_eq (split next below).last.entry (i / 64))) (steps_with columns (split next below).last.steps (test conjuncts) (filter_by conjuncts) more refl)
       (steps_apart below next (filter_by conjuncts ∷ more) ready.1 h)
   steps_apart (join outer left right on keys) next more ready h =
       let m : ℕ = next + length (split next right).builds in
@@ -73,9 +64,9 @@ module _ (entries : List Entry) (tables : List (List (List Val))) (columns : Lis
       let later : KeepApart (λ i. owns left i || is_read kept i) more =
       keep_less more (owns (join outer left right on keys)) (λ i. owns left i || is_read kept i)
       (λ i no.
-      let parts = or_falses (owns left i) (owns right i) (sym (owns_join outer left right on keys i) ∙ no) in
+      let parts = either_way (owns left i) (owns right i) (sym (owns_join outer left right on keys i) ∙ no) in
       both_false (owns left i) (is_read kept i) parts.0 (filtered_number (owns right) columns i ∙ ap (λ (b : Bool). b && is_read columns i) parts.1)) h in
-      subst (KeepApart (λ i. nat_eq (split (m + 1) left).last.entry (i / 64))) (steps_with (split (m + 1) left).last.steps (pipes.probe m (lookup outer right on keys)) o more refl)
+      subst (KeepApart (λ i. nat_eq (split (m + 1) left).last.entry (i / 64))) (steps_with columns (split (m + 1) left).last.steps (pipes.probe m (lookup outer right on keys)) o more refl)
       (steps_apart left (m + 1) (o ∷ more) ready.1.0 (here, later))
   steps_apart (project below items) next more ready h = absurd ready
 
@@ -112,7 +103,7 @@ module _ (entries : List Entry) (tables : List (List (List Val))) (columns : Lis
   null_kept (filter_by conjuncts ∷ operators) taken row null h = null_kept operators taken row null h
   null_kept (probe p ∷ operators) taken row null h = (
     all_more (λ (c : ReadColumn). taken c.number ≡ false) (λ (c : ReadColumn). cell row c.number ≡ Null) p.kept (λ (c : ReadColumn) no. null c.number no) h.0,
-    null_kept operators taken row null (keep_less operators (λ i. taken i || is_read p.kept i) taken (λ i no. (or_falses (taken i) (is_read p.kept i) no).0) h.1),
+    null_kept operators taken row null (keep_less operators (λ i. taken i || is_read p.kept i) taken (λ i no. (either_way (taken i) (is_read p.kept i) no).0) h.1),
   )
 
   pub last_nulls : (node : Node) (next : ℕ) → IsReady entries tables columns sized node

@@ -2,6 +2,7 @@
 use Rattle.std.proofs.Common.{◌≡◌, ◌∙◌, ℕ, ◌+◌, ◌≤◌, true, List, [], ◌∷◌, ◌++◌, length, sum_by, refl, sym, ap, ap₂, subst, arith, Result, Ok, Err, append-nil, append_assoc, length-append}
 use Rattle.std.specs.List.{AllByRecursion}
 use Rattle.std.specs.List.Sorted.{IsPermutation}
+use Rattle.std.proofs.lemmas.List.Sorted.{length_permutation}
 use Rattle.std.specs.declared.cmp.Ordering.TheVariants as ordering
 use Rattle.qw_types.specs.ValueOrder.{is_same_row, value_order}
 use Rattle.qw_types.specs.declared.code.Code.{Code}
@@ -26,6 +27,7 @@ use Rattle.qw_rewrite.specs.Placed.{IsSizedPlan}
 use Rattle.qw_rewrite.specs.Probe.{keyed}
 use Rattle.qw_rewrite.specs.Sift.{sifted}
 use Rattle.qw_physical.specs.Courses.{AreBuilt, by_values, costs, pipeline_cost, pipeline_fed}
+use Rattle.qw_physical.specs.Held.{held, sink_octets}
 use Rattle.qw_physical.specs.Physical.{Operator, Pipeline, Sink, select}
 use Rattle.qw_physical.specs.Reads.{AreRead, AreScaled, IsScaled, is_read}
 use Rattle.qw_physical.specs.Spelled.{all_spelled, items_made, spelled, spelled_sink, spelled_steps}
@@ -51,36 +53,53 @@ module _ (tables : List (List (List Val))) where
   are_begun built (p ∷ front) back [] h = absurd h
   are_begun built (p ∷ front) back (e ∷ more) h = (h.0, h.1, are_begun (built ++ e ∷ []) front back more h.2)
 
-  -- up to one before this one; all before it; or this one too
+  -- what a table holds, once it is built of all that was fed
+  abbrev pub held_next : (built : List (List (List Val))) → Pipeline → ℕ
+  held_next built p = sink_octets p.sink (length (pipeline_fed tables built p).rows)
+
+  -- up to one before this one; all before it; or this one too: what they cost, and what their tables hold
   pub data IsBegunAt (built : List (List (List Val))) (xs : List Pipeline) (y : Pipeline) (ys : List Pipeline) (more : List (List (List Val))) : Type 0 where
-    before : AreBegun built xs more → costs tables built (xs ++ y ∷ ys) more ≡ costs tables built xs more → IsBegunAt built xs y ys more
-    at : AreBuilt tables built xs more → costs tables built (xs ++ y ∷ ys) more ≡ costs tables built xs more + pipeline_cost tables (built ++ more) y → IsBegunAt built xs y ys more
-    behind : (front : List (List (List Val))) (entries : List (List Val)) (back : List (List (List Val))) → AreBuilt tables built xs front → AreBegun ((built ++ front) ++ entries ∷ []) ys back
+    before : AreBegun built xs more → costs tables built (xs ++ y ∷ ys) more ≡ costs tables built xs more → held tables built (xs ++ y ∷ ys) more ≡ held tables built xs more → IsBegunAt built xs y ys more
+    at : AreBuilt tables built xs more → AreBegun built xs more → costs tables built (xs ++ y ∷ ys) more ≡ costs tables built xs more + pipeline_cost tables (built ++ more) y
+        → held tables built (xs ++ y ∷ ys) more ≡ held tables built xs more + held_next (built ++ more) y → IsBegunAt built xs y ys more
+    behind : (front : List (List (List Val))) (entries : List (List Val)) (back : List (List (List Val))) → AreBuilt tables built xs front → AreBegun built xs front
+        → length entries ≡ length (pipeline_fed tables (built ++ front) y).rows → AreBegun ((built ++ front) ++ entries ∷ []) ys back
         → costs tables built (xs ++ y ∷ ys) more ≡ costs tables built xs front + pipeline_cost tables (built ++ front) y + costs tables ((built ++ front) ++ entries ∷ []) ys back
+        → held tables built (xs ++ y ∷ ys) more ≡ held tables built xs front + sink_octets y.sink (length entries) + held tables ((built ++ front) ++ entries ∷ []) ys back
         → IsBegunAt built xs y ys more
 
   pub begun_at : (built : List (List (List Val))) (xs : List Pipeline) (y : Pipeline) (ys : List Pipeline) (more : List (List (List Val))) → AreBegun built (xs ++ y ∷ ys) more → IsBegunAt built xs y ys more
   begun_at built [] y ys [] h =
-      at tt (zero_and (pipeline_cost tables built y) ∙ ap (λ (b : List (List (List Val))). 0 + pipeline_cost tables b y) (sym (append-nil built)))
+      at tt tt (zero_and (pipeline_cost tables built y) ∙ ap (λ (b : List (List (List Val))). 0 + pipeline_cost tables b y) (sym (append-nil built)))
+      (zero_and (held_next built y) ∙ ap (λ (b : List (List (List Val))). 0 + held_next b y) (sym (append-nil built)))
   begun_at built [] y ys (e ∷ more) h =
-      behind [] e more tt (subst (λ (b : List (List (List Val))). AreBegun (b ++ e ∷ []) ys more) (sym (append-nil built)) h.2)
+      behind [] e more tt tt (subst (λ (b : List (List (List Val))). length e ≡ length (pipeline_fed tables b y).rows) (sym (append-nil built)) (length_permutation (pipeline_fed tables built y).rows e h.1))
+      (subst (λ (b : List (List (List Val))). AreBegun (b ++ e ∷ []) ys more) (sym (append-nil built)) h.2)
       (zero_and_two (pipeline_cost tables built y) (costs tables (built ++ e ∷ []) ys more)
       ∙ ap (λ (b : List (List (List Val))). 0 + pipeline_cost tables b y + costs tables (b ++ e ∷ []) ys more) (sym (append-nil built)))
-  begun_at built (x ∷ xs) y ys [] h = before tt refl
+      (zero_and_two (sink_octets y.sink (length e)) (held tables (built ++ e ∷ []) ys more)
+      ∙ ap (λ (b : List (List (List Val))). 0 + sink_octets y.sink (length e) + held tables (b ++ e ∷ []) ys more) (sym (append-nil built)))
+  begun_at built (x ∷ xs) y ys [] h = before tt refl refl
   begun_at built (x ∷ xs) y ys (e ∷ more) h = one (begun_at (built ++ e ∷ []) xs y ys more h.2)
     where
       one : IsBegunAt (built ++ e ∷ []) xs y ys more → IsBegunAt built (x ∷ xs) y ys (e ∷ more)
-      one (before begun cost) = before (h.0, h.1, begun) (ap (λ (n : ℕ). pipeline_cost tables built x + n) cost)
-      one (at are cost) =
-          at (h.0, h.1, are)
+      one (before begun cost is) = before (h.0, h.1, begun) (ap (λ (n : ℕ). pipeline_cost tables built x + n) cost) (ap (λ (n : ℕ). sink_octets x.sink (length e) + n) is)
+      one (at are begun cost is) =
+          at (h.0, h.1, are) (h.0, h.1, begun)
           (later_cost (pipeline_cost tables built x) (costs tables (built ++ e ∷ []) (xs ++ y ∷ ys) more) (costs tables (built ++ e ∷ []) xs more) (pipeline_cost tables ((built ++ e ∷ []) ++ more) y) cost
           ∙ ap (λ (b : List (List (List Val))). (pipeline_cost tables built x + costs tables (built ++ e ∷ []) xs more) + pipeline_cost tables b y) (append_assoc built (e ∷ []) more))
-      one (behind front entries back are begun cost) =
-          behind (e ∷ front) entries back (h.0, h.1, are)
-          (subst (λ (b : List (List (List Val))). AreBegun (b ++ entries ∷ []) ys back) (append_assoc built (e ∷ []) front) begun)
+          (later_cost (sink_octets x.sink (length e)) (held tables (built ++ e ∷ []) (xs ++ y ∷ ys) more) (held tables (built ++ e ∷ []) xs more) (held_next ((built ++ e ∷ []) ++ more) y) is
+          ∙ ap (λ (b : List (List (List Val))). (sink_octets x.sink (length e) + held tables (built ++ e ∷ []) xs more) + held_next b y) (append_assoc built (e ∷ []) more))
+      one (behind front entries back are begun many rest cost is) =
+          behind (e ∷ front) entries back (h.0, h.1, are) (h.0, h.1, begun)
+          (subst (λ (b : List (List (List Val))). length entries ≡ length (pipeline_fed tables b y).rows) (append_assoc built (e ∷ []) front) many)
+          (subst (λ (b : List (List (List Val))). AreBegun (b ++ entries ∷ []) ys back) (append_assoc built (e ∷ []) front) rest)
           (later_costs (pipeline_cost tables built x) (costs tables (built ++ e ∷ []) (xs ++ y ∷ ys) more) (costs tables (built ++ e ∷ []) xs front)
           (pipeline_cost tables ((built ++ e ∷ []) ++ front) y) (costs tables (((built ++ e ∷ []) ++ front) ++ entries ∷ []) ys back) cost
           ∙ ap (λ (b : List (List (List Val))). (pipeline_cost tables built x + costs tables (built ++ e ∷ []) xs front) + pipeline_cost tables b y + costs tables (b ++ entries ∷ []) ys back) (append_assoc built (e ∷ []) front))
+          (later_costs (sink_octets x.sink (length e)) (held tables (built ++ e ∷ []) (xs ++ y ∷ ys) more) (held tables (built ++ e ∷ []) xs front) (sink_octets y.sink (length entries))
+          (held tables (((built ++ e ∷ []) ++ front) ++ entries ∷ []) ys back) is
+          ∙ ap (λ (b : List (List (List Val))). (sink_octets x.sink (length e) + held tables (built ++ e ∷ []) xs front) + sink_octets y.sink (length entries) + held tables (b ++ entries ∷ []) ys back) (append_assoc built (e ∷ []) front))
 
 -- ---- plans
 
@@ -127,9 +146,9 @@ module _ (same_rows : (row other : List Val) → is_same_row row other ≡ true 
           → ((b back : List (List (List Val))) → length b ≡ (next + length (split next right).builds) + 1 → AreBegun tables b (builds_of ((next + length (split next right).builds) + 1) left) back → costs tables b (builds_of ((next + length (split next right).builds) + 1) left) back ≤ units_of general_hashing tables left)
           → IsBegunAt tables built (builds_of next right) (spelled columns (next + length (split next right).builds) (building tables outer next right on keys)) (builds_of ((next + length (split next right).builds) + 1) left) more
           → costs tables built (builds_of next right ++ (spelled columns (next + length (split next right).builds) (building tables outer next right on keys)) ∷ builds_of ((next + length (split next right).builds) + 1) left) more ≤ units_of general_hashing tables (join outer left right on keys)
-      one first second (before begun cost) = let less = first more begun in omega (arith, cost, less)
-      one first second (at are cost) = let less = built_first more are in let table = table_bound same_rows same_value columns tables (next + length (split next right).builds) outer left right on keys g.0 in omega (arith, cost, less, table)
-      one first second (behind front entries back are begun cost) =
+      one first second (before begun cost is) = let less = first more begun in omega (arith, cost, less)
+      one first second (at are begun cost is) = let less = built_first more are in let table = table_bound same_rows same_value columns tables (next + length (split next right).builds) outer left right on keys g.0 in omega (arith, cost, less, table)
+      one first second (behind front entries back are some many begun cost is) =
           let less = built_first front are in
           let after : length ((built ++ front) ++ entries ∷ []) ≡ (next + length (split next right).builds) + 1 =
           length-append (built ++ front) (entries ∷ [])
@@ -186,10 +205,10 @@ module _ (same_rows : (row other : List Val) → is_same_row row other ≡ true 
           omega (arith, less, same)
 
       one : IsBegunAt tables [] (builds_of 0 node) (spelled columns (0 + length (split 0 node).builds) (then_step (split 0 node).last (make items))) [] more → costs tables [] (builds_of 0 node ++ (spelled columns (0 + length (split 0 node).builds) (then_step (split 0 node).last (make items))) ∷ []) more ≤ units_of general_hashing tables (project node items)
-      one (before begun cost) = let less = begun_bound node 0 [] more g refl begun in omega (arith, cost, less)
-      one (at are cost) = let less = built_first more are in omega (arith, cost, less)
-      one (behind front entries [] are begun cost) = let less = built_first front are in omega (arith, cost, less)
-      one (behind front entries (e ∷ back) are begun cost) = absurd begun
+      one (before begun cost is) = let less = begun_bound node 0 [] more g refl begun in omega (arith, cost, less)
+      one (at are begun cost is) = let less = built_first more are in omega (arith, cost, less)
+      one (behind front entries [] are some many begun cost is) = let less = built_first front are in omega (arith, cost, less)
+      one (behind front entries (e ∷ back) are some many begun cost is) = absurd begun
 
   pub known_all : (cs : List Condition) → AllByRecursion (λ (c : Condition). condition_names_only (is_read columns) c ≡ true) cs → AllByRecursion IsScaled cs → AllByRecursion (IsKnown columns) cs
   known_all [] h g = tt

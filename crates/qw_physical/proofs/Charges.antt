@@ -21,7 +21,8 @@ use Rattle.qw_physical.specs.Physical.{Operator, Probe, Sink, filter, probe}
 use Rattle.qw_physical.proofs.Alone.{alone_is, any_same}
 use Rattle.qw_physical.proofs.Sight.{Agree, AllName, meets_sees, merged_agree, values_agree}
 use Rattle.qw_physical.proofs.SeenUnits.{conjuncts_agree, items_agree}
-use Rattle.qw_physical.proofs.Totals.{spend_is, total, total_filter, total_flat, total_less, total_plus, total_same}
+use Rattle.qw_physical.proofs.Totals.{spend_is, total, total_filter, total_flat, total_less, total_plus, total_same, both_less}
+use Rattle.qw_physical.proofs.Alikeness.{by_values_same}
 
 abbrev pub count : (counted : Bool) → ℕ → ℕ
 count true n = n
@@ -89,9 +90,6 @@ plus_less a b c h = omega (arith, h)
 if_less : (b : Bool) (x y : ℕ) → x ≤ y → (if b then x else 0) ≤ (if b then y else 0)
 if_less true x y h = h
 if_less false x y h = omega arith
-
-both_less : (a b c d : ℕ) → a ≤ b → c ≤ d → a + c ≤ b + d
-both_less a b c d h g = omega (arith, h, g)
 
 -- ---- the cost of a row
 
@@ -231,10 +229,6 @@ module _ (test : ℕ → Bool) where
   matched_respects counted after p names after_respects r s h key entry =
       let same : Agree test (pair_of p r entry) (pair_of p s entry) = merged_agree test r s (row_of p.kept (drop (length p.key) entry)) (row_of p.kept (drop (length p.key) entry)) h (same_rows_agree (row_of p.kept (drop (length p.key) entry))) in
       rw (conjuncts_agree test (pair_of p r entry) (pair_of p s entry) same p.on names, passes_agrees test (pair_of p r entry) (pair_of p s entry) same p.on names, after_respects (pair_of p r entry) (pair_of p s entry) same) refl
-
-  by_values_same : (r : Result (List Val) Code) (f g : List Val → ℕ) → ((values : List Val) → f values ≡ g values) → by_values r f ≡ by_values r g
-  by_values_same (Ok values) f g h = h values
-  by_values_same (Err code) f g h = refl
 
   alone_respects : (counted : Bool) (after : List Val → ℕ) (p : Probe) (entries : List (List Val)) → NamesOnly test p.on → Respects after → (r s : List Val) → Agree test r s → (key : List Val)
       → alone_charge counted after p entries r key ≡ alone_charge counted after p entries s key

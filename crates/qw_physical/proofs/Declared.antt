@@ -24,7 +24,7 @@ use Rattle.qw_physical.specs.Sides.{column_in}
 use Rattle.qw_physical.specs.declared.pipeline.ReadColumn.{ReadColumn}
 use Rattle.qw_physical.proofs.Entries.{nat_is}
 use Rattle.qw_physical.proofs.Placed.{F, IsReady}
-use Rattle.qw_physical.proofs.QueryNulls.{NullAt, OuterRights, entry_among}
+use Rattle.qw_physical.proofs.QueryNulls.{NullAt, OuterRights, entry_among, none_more, one_more}
 use Rattle.qw_leaves.proofs.LeafLists.{all_pairs as both_all}
 
 -- ---- scans of a plan
@@ -91,7 +91,7 @@ or_false : (b : Bool) → (b || false) ≡ true → b ≡ true
 or_false true h = refl
 or_false false h = h
 
-or_parts : (a b : Bool) → (a || b) ≡ true → (a ≡ true) ⊎ (b ≡ true)
+pub or_parts : (a b : Bool) → (a || b) ≡ true → (a ≡ true) ⊎ (b ≡ true)
 or_parts true b h = inl refl
 or_parts false b h = inr h
 
@@ -162,12 +162,6 @@ module _ (known : List Entry) where
           (all_more (AllZip IsOfColumnType e.columns) (AllZip IsOfColumnType f.columns) (rows_of tables e.table) z.0 of.0.typed),
       hold_all es fs (next + 1) (λ k. ap (slice_get known) (one_more next k) ∙ at (suc k)) z.1 of.1,
     )
-      where
-        none_more : (n : ℕ) → n ≡ n + 0
-        none_more n = omega arith
-
-        one_more : (n k : ℕ) → (n + 1) + k ≡ n + suc k
-        one_more n k = omega arith
 
     module _ (entries : List Entry) (columns : List ReadColumn) (sized : AllByRecursion (λ (e : Entry). AllByRecursion (λ (c : ColumnType). IsSized c.ty) e.columns) entries) where
       -- rows of a plan that keep this, with those of a join

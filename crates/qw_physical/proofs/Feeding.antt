@@ -48,6 +48,12 @@ pipelines_append columns next (x ∷ xs) ys =
     let more : (next + 1) + length xs ≡ next + suc (length xs) = omega arith in
     ap (λ (ps : List Pipeline). spelled columns next x ∷ ps) (pipelines_append columns (next + 1) xs ys ∙ ap (λ (n : ℕ). all_spelled columns (next + 1) xs ++ all_spelled columns n ys) more)
 
+pub steps_with : (columns : List ReadColumn) (steps : List pipes.Step) (s : pipes.Step) (o : Operator) (more : List Operator) → spelled_steps columns (s ∷ []) ≡ o ∷ [] → spelled_steps columns steps ++ o ∷ more ≡ spelled_steps columns (steps ++ s ∷ []) ++ more
+steps_with columns steps s o more e =
+    sym (append_assoc (spelled_steps columns steps) (o ∷ []) more)
+    ∙ ap (λ (os : List Operator). (spelled_steps columns steps ++ os) ++ more) (sym e)
+    ∙ ap (λ (os : List Operator). os ++ more) (sym (spelled_append columns steps (s ∷ [])))
+
 pub spelled_count : (columns : List ReadColumn) (next : ℕ) (xs : List pipes.Pipeline) → length (all_spelled columns next xs) ≡ length xs
 spelled_count columns next [] = refl
 spelled_count columns next (x ∷ xs) = ap suc (spelled_count columns (next + 1) xs)

@@ -1,10 +1,9 @@
 -- What a query's pipelines put into memory is within what its plan is said to hold.
-use Rattle.std.proofs.Common.{◌≡◌, ◌∙◌, ℕ, suc, ◌+◌, ◌*◌, ◌≤◌, max, take, Bool, true, false, if◌then◌else◌, List, [], ◌∷◌, ◌++◌, length, map, Option, Some, None, Result, Ok, Err, refl, sym, ap, ap₂, subst, arith, append-nil, append_assoc, length-append}
+use Rattle.std.proofs.Common.{◌≡◌, ◌∙◌, ℕ, suc, ◌+◌, ◌*◌, ◌≤◌, max, take, Bool, true, false, if◌then◌else◌, List, [], ◌∷◌, ◌++◌, length, map, Option, Some, None, Result, Ok, Err, refl, sym, ap, ap₂, subst, arith, append-nil, length-append}
 use Rattle.std.specs.Prelude.{slice_get}
 use Rattle.std.specs.List.{AllByRecursion, filter as filter_list, filter_map, flat_map}
 use Rattle.std.specs.declared.cmp.Ordering.TheVariants as ordering
 use Rattle.std.proofs.lemmas.List.{length-map}
-use Rattle.std.proofs.lemmas.List.Sorted.{length_permutation}
 use Rattle.qw_types.specs.Arithmetic.{◌>>=◌}
 use Rattle.qw_types.specs.ValueOrder.{is_same_row, value_order}
 use Rattle.qw_types.specs.declared.code.Code.{Code}
@@ -33,13 +32,13 @@ use Rattle.qw_physical.specs.Physical.{Operator, Pipeline, Sink, build, select}
 use Rattle.qw_physical.specs.Reads.{AreRead, AreScaled, is_read}
 use Rattle.qw_physical.specs.Spelled.{all_spelled, keys_kept, spelled, spelled_steps}
 use Rattle.qw_physical.specs.declared.pipeline.ReadColumn.{ReadColumn}
-use Rattle.qw_physical.proofs.Begun.{AreBegun, are_begun, known_all, sink_last, steps_last}
+use Rattle.qw_physical.proofs.Begun.{AreBegun, IsBegunAt, are_begun, at, before, begun_at, behind, known_all, sink_last, steps_last}
 use Rattle.qw_physical.proofs.Bounded.{bounds, build_fed, joined_builds}
 use Rattle.qw_physical.proofs.Feeding.{built_count, spelled_count, pipelines_append}
 use Rattle.qw_physical.proofs.Charges.{Respects, charges, fed_respects, sink_fed}
 use Rattle.qw_physical.proofs.Grounded.{IsGround, clauses, query_grounded}
 use Rattle.qw_physical.proofs.JoinBound.{IsKnown, names_kept}
-use Rattle.qw_physical.proofs.Totals.{later_cost, later_costs, total, total_flat, total_less, total_ones, total_same, zero_and, zero_and_two}
+use Rattle.qw_physical.proofs.Totals.{total, total_flat, total_less, total_ones, total_same}
 
 -- ---- sizes
 
@@ -56,45 +55,6 @@ product_less n m s t h g = grind (arith, h, g)
 
 octets_less : (n m s t : ℕ) → n ≤ m → s ≤ t → 4096 + n * s ≤ 4096 + m * t
 octets_less n m s t h g = let both = product_less n m s t h g in omega (arith, both)
-
--- ---- pipelines that have begun
-
-module _ (tables : List (List (List Val))) where
-  abbrev held_next : (built : List (List (List Val))) → Pipeline → ℕ
-  held_next built p = sink_octets p.sink (length (pipeline_fed tables built p).rows)
-
-  data IsHeldAt (built : List (List (List Val))) (xs : List Pipeline) (y : Pipeline) (ys : List Pipeline) (more : List (List (List Val))) : Type 0 where
-    before : AreBegun tables built xs more → held tables built (xs ++ y ∷ ys) more ≡ held tables built xs more → IsHeldAt built xs y ys more
-    at : AreBuilt tables built xs more → AreBegun tables built xs more → held tables built (xs ++ y ∷ ys) more ≡ held tables built xs more + held_next (built ++ more) y → IsHeldAt built xs y ys more
-    behind : (front : List (List (List Val))) (entries : List (List Val)) (back : List (List (List Val))) → AreBuilt tables built xs front → AreBegun tables built xs front
-        → length entries ≡ length (pipeline_fed tables (built ++ front) y).rows → AreBegun tables ((built ++ front) ++ entries ∷ []) ys back
-        → held tables built (xs ++ y ∷ ys) more ≡ held tables built xs front + sink_octets y.sink (length entries) + held tables ((built ++ front) ++ entries ∷ []) ys back
-        → IsHeldAt built xs y ys more
-
-  held_at : (built : List (List (List Val))) (xs : List Pipeline) (y : Pipeline) (ys : List Pipeline) (more : List (List (List Val))) → AreBegun tables built (xs ++ y ∷ ys) more → IsHeldAt built xs y ys more
-  held_at built [] y ys [] h =
-      at tt tt (zero_and (held_next built y) ∙ ap (λ (b : List (List (List Val))). 0 + held_next b y) (sym (append-nil built)))
-  held_at built [] y ys (e ∷ more) h =
-      behind [] e more tt tt (subst (λ (b : List (List (List Val))). length e ≡ length (pipeline_fed tables b y).rows) (sym (append-nil built)) (length_permutation (pipeline_fed tables built y).rows e h.1))
-      (subst (λ (b : List (List (List Val))). AreBegun tables (b ++ e ∷ []) ys more) (sym (append-nil built)) h.2)
-      (zero_and_two (sink_octets y.sink (length e)) (held tables (built ++ e ∷ []) ys more)
-      ∙ ap (λ (b : List (List (List Val))). 0 + sink_octets y.sink (length e) + held tables (b ++ e ∷ []) ys more) (sym (append-nil built)))
-  held_at built (x ∷ xs) y ys [] h = before tt refl
-  held_at built (x ∷ xs) y ys (e ∷ more) h = one (held_at (built ++ e ∷ []) xs y ys more h.2)
-    where
-      one : IsHeldAt (built ++ e ∷ []) xs y ys more → IsHeldAt built (x ∷ xs) y ys (e ∷ more)
-      one (before begun is) = before (h.0, h.1, begun) (ap (λ (n : ℕ). sink_octets x.sink (length e) + n) is)
-      one (at are begun is) =
-          at (h.0, h.1, are) (h.0, h.1, begun)
-          (later_cost (sink_octets x.sink (length e)) (held tables (built ++ e ∷ []) (xs ++ y ∷ ys) more) (held tables (built ++ e ∷ []) xs more) (held_next ((built ++ e ∷ []) ++ more) y) is
-          ∙ ap (λ (b : List (List (List Val))). (sink_octets x.sink (length e) + held tables (built ++ e ∷ []) xs more) + held_next b y) (append_assoc built (e ∷ []) more))
-      one (behind front entries back are begun many rest is) =
-          behind (e ∷ front) entries back (h.0, h.1, are) (h.0, h.1, begun)
-          (subst (λ (b : List (List (List Val))). length entries ≡ length (pipeline_fed tables b y).rows) (append_assoc built (e ∷ []) front) many)
-          (subst (λ (b : List (List (List Val))). AreBegun tables (b ++ entries ∷ []) ys back) (append_assoc built (e ∷ []) front) rest)
-          (later_costs (sink_octets x.sink (length e)) (held tables (built ++ e ∷ []) (xs ++ y ∷ ys) more) (held tables (built ++ e ∷ []) xs front) (sink_octets y.sink (length entries))
-          (held tables (((built ++ e ∷ []) ++ front) ++ entries ∷ []) ys back) is
-          ∙ ap (λ (b : List (List (List Val))). (sink_octets x.sink (length e) + held tables (built ++ e ∷ []) xs front) + sink_octets y.sink (length entries) + held tables (b ++ entries ∷ []) ys back) (append_assoc built (e ∷ []) front))
 
 -- ---- how many are fed
 
@@ -185,7 +145,7 @@ module _ (same_rows : (row other : List Val) → is_same_row row other ≡ true 
       let second : (b back : List (List (List Val))) → length b ≡ m + 1 → AreBegun tables b (builds_of (m + 1) left) back → held tables b (builds_of (m + 1) left) back ≤ table_octets (kept_of columns) tables left =
       λ b back after begun. held_bound left (m + 1) b back g.1.0 after begun in
       subst (λ (ps : List Pipeline). held tables built ps more ≤ table_octets (kept_of columns) tables (join outer left right on keys)) (sym (joined_builds same_rows same_value columns tables next outer left right on keys))
-      (one first second (held_at tables built (builds_of next right) y (builds_of (m + 1) left) more
+      (one first second (begun_at tables built (builds_of next right) y (builds_of (m + 1) left) more
       (subst (λ (ps : List Pipeline). AreBegun tables built ps more) (joined_builds same_rows same_value columns tables next outer left right on keys) h)))
     where
       few : (front : List (List (List Val))) → AreBuilt tables built (builds_of next right) front
@@ -197,14 +157,14 @@ module _ (same_rows : (row other : List Val) → is_same_row row other ≡ true 
       one : ((more : List (List (List Val))) → AreBegun tables built (builds_of next right) more → held tables built (builds_of next right) more ≤ table_octets (kept_of columns) tables right)
           → ((b back : List (List (List Val))) → length b ≡ (next + length (split next right).builds) + 1 → AreBegun tables b (builds_of ((next + length (split next right).builds) + 1) left) back
           → held tables b (builds_of ((next + length (split next right).builds) + 1) left) back ≤ table_octets (kept_of columns) tables left)
-          → IsHeldAt tables built (builds_of next right) (it outer left right on keys next) (builds_of ((next + length (split next right).builds) + 1) left) more
+          → IsBegunAt tables built (builds_of next right) (it outer left right on keys next) (builds_of ((next + length (split next right).builds) + 1) left) more
           → held tables built (builds_of next right ++ it outer left right on keys next ∷ builds_of ((next + length (split next right).builds) + 1) left) more ≤ table_octets (kept_of columns) tables (join outer left right on keys)
-      one first second (before begun is) = let less = first more begun in omega (arith, is, less)
-      one first second (at are begun is) =
+      one first second (before begun cost is) = let less = first more begun in omega (arith, is, less)
+      one first second (at are begun cost is) =
           let less = first more begun in
           let own = it_octets outer left right on keys next (length (pipeline_fed tables (built ++ more) (it outer left right on keys next)).rows) (few more are) in
           omega (arith, is, less, own)
-      one first second (behind front entries back are begun many rest is) =
+      one first second (behind front entries back are begun many rest cost is) =
           let less = first front begun in
           let after : length ((built ++ front) ++ entries ∷ []) ≡ (next + length (split next right).builds) + 1 =
           length-append (built ++ front) (entries ∷ [])
@@ -258,7 +218,7 @@ module _ (same_rows : (row other : List Val) → is_same_row row other ≡ true 
       → held tables [] (all_spelled columns 0 (pipelines (project node items))) more ≤ table_octets (kept_of columns) tables (project node items) + rows_octets node items
   selected_held node items more g named h =
       subst (λ (ps : List Pipeline). held tables [] ps more ≤ table_octets (kept_of columns) tables node + rows_octets node items) (sym (whole_builds node items))
-      (one (held_at tables [] (builds_of 0 node) (spelled columns (0 + length (split 0 node).builds) (then_step (split 0 node).last (make items))) [] more (subst (λ (ps : List Pipeline). AreBegun tables [] ps more) (whole_builds node items) h)))
+      (one (begun_at tables [] (builds_of 0 node) (spelled columns (0 + length (split 0 node).builds) (then_step (split 0 node).last (make items))) [] more (subst (λ (ps : List Pipeline). AreBegun tables [] ps more) (whole_builds node items) h)))
     where
       sink_is : (spelled columns (0 + length (split 0 node).builds) (then_step (split 0 node).last (make items))).sink ≡ select items
       sink_is = sink_last same_rows same_value columns tables node items (0 + length (split 0 node).builds)
@@ -276,18 +236,18 @@ module _ (same_rows : (row other : List Val) → is_same_row row other ≡ true 
           let less = product_less n (length (node_flow tables (project node items)).rows) (8 + 16 * length items) (8 + 16 * length items) h (omega arith) in
           omega (arith, same, less)
 
-      one : IsHeldAt tables [] (builds_of 0 node) (spelled columns (0 + length (split 0 node).builds) (then_step (split 0 node).last (make items))) [] more → held tables [] (builds_of 0 node ++ (spelled columns (0 + length (split 0 node).builds) (then_step (split 0 node).last (make items))) ∷ []) more ≤ table_octets (kept_of columns) tables node + rows_octets node items
-      one (before begun is) = let less = held_bound node 0 [] more g refl begun in omega (arith, is, less)
-      one (at are begun is) =
+      one : IsBegunAt tables [] (builds_of 0 node) (spelled columns (0 + length (split 0 node).builds) (then_step (split 0 node).last (make items))) [] more → held tables [] (builds_of 0 node ++ (spelled columns (0 + length (split 0 node).builds) (then_step (split 0 node).last (make items))) ∷ []) more ≤ table_octets (kept_of columns) tables node + rows_octets node items
+      one (before begun cost is) = let less = held_bound node 0 [] more g refl begun in omega (arith, is, less)
+      one (at are begun cost is) =
           let less = held_bound node 0 [] more g refl begun in
           let own = octets (length (pipeline_fed tables ([] ++ more) (spelled columns (0 + length (split 0 node).builds) (then_step (split 0 node).last (make items)))).rows) (few more are) in
           omega (arith, is, less, own)
-      one (behind front entries [] are begun many rest is) =
+      one (behind front entries [] are begun many rest cost is) =
           let less = held_bound node 0 [] front g refl begun in
           let fed : length entries ≤ length (node_flow tables (project node items)).rows = (let n = few front are in omega (arith, many, n)) in
           let own = octets (length entries) fed in
           omega (arith, is, less, own)
-      one (behind front entries (e ∷ back) are begun many rest is) = absurd rest
+      one (behind front entries (e ∷ back) are begun many rest cost is) = absurd rest
 
   pub held_within : (query : Specification) (front back : List Pipeline) (more : List (List (List Val))) → IsSpecification query → AreOfEntries (entries_of query.sources) tables
       → IsSizedPlan (written query) → AreRead columns query → AreScaled query → all_spelled columns 0 (pipelines (keyed true (sifted true [] (written query)))) ≡ front ++ back → AreBuilt tables [] front more

@@ -42,13 +42,13 @@ use Rattle.qw_physical.specs.declared.pipeline.ReadColumn.{ReadColumn}
 use Rattle.qw_physical.proofs.Alone.{any_none, none_found}
 use Rattle.qw_physical.proofs.Charges.{Respects, alone_charge, count, keyed_charge, matched, probe_charge, sink_cost, sink_fed}
 use Rattle.qw_physical.proofs.Sight.{Agree, AllName, merged_agree}
-use Rattle.qw_physical.proofs.EntryRows.{Values, all_filter, all_read, columns_units, drop_front, made_again, take_front, values_append, values_long}
+use Rattle.qw_physical.proofs.EntryRows.{Values, all_filter, all_read, columns_units, made_again, values_append, values_long}
 use Rattle.qw_physical.proofs.Grounded.{IsKeyedJoin, IsNullBeside}
 use Rattle.qw_physical.proofs.Meeting.{keys_pair, parted}
 use Rattle.qw_physical.proofs.SeenUnits.{conjuncts_agree}
 use Rattle.qw_physical.proofs.Partners.{met_keys, met_values}
 use Rattle.qw_physical.proofs.Totals.{none_counted, sum_is, total, total_filter, total_flat, total_less, total_less_all, total_map, total_none, total_ones, total_plus, total_same, total_zero}
-use Rattle.qw_physical.proofs.Entries.{columns_values, kept_values, nat_is, values_append as values_joined}
+use Rattle.qw_physical.proofs.Entries.{columns_values, front_dropped, front_taken, kept_values, nat_is, values_append as values_joined}
 
 -- what is known of each conjunct
 abbrev pub IsKnown : List ReadColumn → Condition → Type 0
@@ -261,11 +261,11 @@ module _ (same_rows : (row other : List Val) → is_same_row row other ≡ true 
       front_long : length parts.front ≡ length (keys_kept look)
       front_long = values_long (keys_kept look) (at_row r) parts.front parts.front_is
 
-      front_taken : take (length (keys_kept look)) values ≡ parts.front
-      front_taken = ap (take (length (keys_kept look))) parts.is ∙ take_front parts.front parts.back (length (keys_kept look)) front_long
+      key_taken : take (length (keys_kept look)) values ≡ parts.front
+      key_taken = ap (take (length (keys_kept look))) parts.is ∙ front_taken (length (keys_kept look)) parts.front parts.back front_long
 
       back_dropped : drop (length (keys_sought look)) values ≡ parts.back
-      back_dropped = ap (drop (length (keys_sought look))) parts.is ∙ drop_front parts.front parts.back (length (keys_sought look)) (front_long ∙ sym same_length)
+      back_dropped = ap (drop (length (keys_sought look))) parts.is ∙ front_dropped (length (keys_sought look)) parts.front parts.back (front_long ∙ sym same_length)
 
       made : Agree read (row_of (kept_columns columns look) (drop (length (keys_sought look)) values)) r
       made i t =
@@ -291,9 +291,9 @@ module _ (same_rows : (row other : List Val) → is_same_row row other ≡ true 
               + where_passed (passes (beside_keys keys 0 on) (at_row (pair_of probing l values))) (after (pair_of probing l values)) else 0) ≤ pair_bound counted after l r
           one false e = omega arith
           one true e =
-              let taken : take (length (keys_sought look)) values ≡ parts.front = ap (λ (n : ℕ). take n values) same_length ∙ front_taken in
+              let taken : take (length (keys_sought look)) values ≡ parts.front = ap (λ (n : ℕ). take n values) same_length ∙ key_taken in
               let same : key ≡ parts.front = same_rows key parts.front (subst (λ (vs : List Val). is_same_row key vs ≡ true) taken e) in
-              let full : have_values key ≡ true = subst (λ (vs : List Val). have_values vs ≡ true) (front_taken ∙ sym same) has in
+              let full : have_values key ≡ true = subst (λ (vs : List Val). have_values vs ≡ true) (key_taken ∙ sym same) has in
               let met = keys_pair same_value (owns left) (owns right) ground.apart l r lefts rights (equalities look) key eligible_equal scaled_equal el (parts.front_is ∙ ap Ok (sym same)) full in
               let all : all_meet (owns left) (owns right) (at_keys keys 0 on) l r ≡ true = subst (λ (cs : List Condition). all_meet (owns left) (owns right) cs l r ≡ true) ground.equalities met.0 in
               let meet : meets look (merged l r) ≡ true = ap is_passed met.1 in
@@ -331,7 +331,7 @@ module _ (same_rows : (row other : List Val) → is_same_row row other ≡ true 
   entry_key r values er =
       let parts = values_append (keys_kept look) (map column_of (kept_columns columns look)) (at_row r) values er in
       ap (take (length (keys_kept look))) parts.is
-      ∙ take_front parts.front parts.back (length (keys_kept look)) (values_long (keys_kept look) (at_row r) parts.front parts.front_is)
+      ∙ front_taken (length (keys_kept look)) parts.front parts.back (values_long (keys_kept look) (at_row r) parts.front parts.front_is)
       ∙ sym (key_is (is_of look.entries) (equalities look) (at_row r) parts.front parts.front_is)
 
   abbrev slot_units : (key r : List Val) → ℕ
@@ -418,7 +418,7 @@ module _ (same_rows : (row other : List Val) → is_same_row row other ≡ true 
             let values : List Val = ws ++ rest in
             let er : values_of (sink_values building) (at_row r) ≡ Ok values =
             values_joined (keys_kept look) (map column_of (kept_columns columns look)) (at_row r) ws rest found_key.1 (columns_values (kept_columns columns look) r) in
-            let taken : take (length (keys_kept look)) values ≡ ws = take_front ws rest (length (keys_kept look)) (values_long (keys_kept look) (at_row r) ws found_key.1) in
+            let taken : take (length (keys_kept look)) values ≡ ws = front_taken (length (keys_kept look)) ws rest (values_long (keys_kept look) (at_row r) ws found_key.1) in
             let has : have_values (take (length (keys_kept look)) values) ≡ true = ap have_values taken ∙ same_keys.1.0 in
             let fed_is : sink_fed building r ≡ one_row values =
             ap (λ (q : Result (List Val) Code). flow_by q (placed building)) er ∙ ap (λ (b : Bool). if b then one_row values else nothing) has in

@@ -1,5 +1,5 @@
 -- Each column that trees of a query name is named by what they stand for, so the columns that are named are read.
-use Rattle.std.proofs.Common.{◌≡◌, ℕ, ◌==◌, nat_eq, Bool, true, false, not, ◌||◌, if◌then◌else◌, List, [], ◌∷◌, ◌++◌, map, refl, ap, arith}
+use Rattle.std.proofs.Common.{◌≡◌, ℕ, ◌==◌, nat_eq, Bool, true, false, not, ◌||◌, if◌then◌else◌, List, [], ◌∷◌, ◌++◌, map, ap, arith}
 use Rattle.std.specs.List.{AllByRecursion, flat_map, list_any}
 use Rattle.std.proofs.lemmas.Bool.Decides.{nat_tests}
 use Rattle.qw_scalar.specs.declared.expression.Expr.{Expr}
@@ -17,6 +17,7 @@ use Rattle.qw_rewrite.proofs.Names.{names_has, names_have}
 use Rattle.qw_physical.specs.Named.{and_column, and_columns, columns_in, columns_of_join, columns_of_query, columns_of_source, columns_within, named_by}
 use Rattle.qw_physical.specs.Reads.{conjuncts_in}
 use Rattle.qw_physical.proofs.Naming.{columns_within_have, named_have}
+use Rattle.qw_physical.proofs.EntryRows.{or_true}
 
 module _ (test : ℕ → Bool) where
   abbrev Pass : List ℕ → Type 0
@@ -80,13 +81,9 @@ module _ (test : ℕ → Bool) where
 itself : (n : ℕ) → nat_eq n n ≡ true
 itself n = grind (arith, nat_tests)
 
-or_second : (a b : Bool) → b ≡ true → (a || b) ≡ true
-or_second true b h = refl
-or_second false b h = h
-
 more_there : (j : ℕ) (js is : List ℕ) → AllByRecursion (λ i. list_any (λ k. nat_eq k i) js ≡ true) is → AllByRecursion (λ i. list_any (λ k. nat_eq k i) (j ∷ js) ≡ true) is
 more_there j js [] h = tt
-more_there j js (i ∷ is) h = (or_second (nat_eq j i) (list_any (λ k. nat_eq k i) js) h.0, more_there j js is h.1)
+more_there j js (i ∷ is) h = (or_true (nat_eq j i) (list_any (λ k. nat_eq k i) js) h.0, more_there j js is h.1)
 
 all_there : (js : List ℕ) → AllByRecursion (λ i. list_any (λ k. nat_eq k i) js ≡ true) js
 all_there [] = tt

@@ -39,6 +39,7 @@ use Rattle.qw_physical.specs.declared.pipeline.ReadColumn.{ReadColumn}
 use Rattle.qw_physical.proofs.Conjuncts.{AllConjuncts}
 use Rattle.qw_physical.proofs.EqualKeys.{AllOperands, BothOperands, HasOneScale, IsDivided, IsTold, divided, operand_has}
 use Rattle.qw_leaves.proofs.LeafLists.{all_pairs}
+use Rattle.qw_physical.proofs.QueryNulls.{none_more, one_more}
 
 -- ---- keys
 
@@ -77,12 +78,6 @@ module _ (tl tr : ℕ → Bool) (on : List Condition) where
   found_are (c ∷ cs) k at =
       found_step (condition_can_raise c) (is_eligible tl tr c) c (keys_from tl tr (k + 1) cs) k (list.filter (is_eligible tl tr) (quiet_front cs)) (quiet_front cs)
       (ap (slice_get on) (none_more k) ∙ at 0) (found_are cs (k + 1) (λ j. ap (slice_get on) (one_more k j) ∙ at (suc j))) refl refl
-    where
-      one_more : (n j : ℕ) → (n + 1) + j ≡ n + suc j
-      one_more n j = omega arith
-
-      none_more : (n : ℕ) → n ≡ n + 0
-      none_more n = omega arith
 
 keys_of : (clean : Bool) (left right : Node) (on : List Condition)
     → (filter_map (λ k. slice_get on k) (keys_of_join clean left right on) ≡ at_keys (keys_of_join clean left right on) 0 on)

@@ -1,5 +1,5 @@
 -- Each expression of a plan's pipelines names only columns of the entry that is scanned, and those that the lookups before it keep.
-use Rattle.std.proofs.Common.{◌≡◌, ◌∙◌, ◌⊎◌, ℕ, ◌+◌, ◌/◌, nat_eq, Bool, true, false, not, ◌||◌, List, [], ◌∷◌, ◌++◌, length, map, inl, inr, refl, sym, ap, subst, append_assoc, append-nil}
+use Rattle.std.proofs.Common.{◌≡◌, ◌∙◌, ◌⊎◌, ℕ, ◌+◌, ◌/◌, nat_eq, Bool, true, false, not, ◌||◌, List, [], ◌∷◌, ◌++◌, length, map, inl, inr, refl, sym, subst, append-nil}
 use Rattle.std.specs.List.{AllByRecursion}
 use Rattle.qw_types.specs.Value.{IsSized}
 use Rattle.qw_types.specs.declared.schema.ColumnType.{ColumnType}
@@ -23,19 +23,16 @@ use Rattle.qw_physical.specs.Spelled.{all_spelled, kept_columns, keys_kept, keys
 use Rattle.qw_physical.specs.declared.pipeline.ReadColumn.{ReadColumn}
 use Rattle.qw_physical.proofs.Conjuncts.{AllConjuncts}
 use Rattle.qw_physical.proofs.EqualKeys.{AllOperands, BothOperands, IsDivided, operand_has, sought}
-use Rattle.qw_physical.proofs.Feeding.{building, spelled_append, spelled_join}
+use Rattle.qw_physical.proofs.Feeding.{steps_with, building, spelled_join}
 use Rattle.qw_physical.proofs.Placed.{IsReady, keys_have}
 use Rattle.qw_leaves.proofs.LeafLists.{all_pairs}
 use Rattle.qw_physical.proofs.Shown.{IsAmong, IsSeen, Sees, Shows, ShowsIn, Within, all_shown_in, among_owned, columns_shown, of_entry, owned, owned_among, sees_more, shown, shows_in_more, within_left, within_owned, within_right}
+use Rattle.qw_physical.proofs.Declared.{or_parts}
 
 operands_shown : (columns : List ReadColumn) (c : Condition) → ShowsIn columns c → AllOperands (Shows columns) c
 operands_shown columns = by_compared (λ c o. ShowsIn columns c → BothOperands (Shows columns) o) (λ op a b h. h) (λ c h. tt)
 
 -- ---- a plan
-
-or_true : (a b : Bool) → (a || b) ≡ true → (a ≡ true) ⊎ (b ≡ true)
-or_true true b h = inl refl
-or_true false b h = inr h
 
 module _ (entries : List Entry) (tables : List (List (List Val))) (columns : List ReadColumn)
     (sized : AllByRecursion (λ (e : Entry). AllByRecursion (λ (c : ColumnType). IsSized c.ty) e.columns) entries) where
@@ -47,12 +44,6 @@ module _ (entries : List Entry) (tables : List (List (List Val))) (columns : Lis
 
   abbrev pub AreShown : Node → Type 0
   AreShown node = AllConjuncts (ShowsIn columns) node
-
-  steps_with : (steps : List pipes.Step) (s : pipes.Step) (o : Operator) (more : List Operator) → spelled_steps columns (s ∷ []) ≡ o ∷ [] → spelled_steps columns steps ++ o ∷ more ≡ spelled_steps columns (steps ++ s ∷ []) ++ more
-  steps_with steps s o more e =
-      sym (append_assoc (spelled_steps columns steps) (o ∷ []) more)
-      ∙ ap (λ (os : List Operator). (spelled_steps columns steps ++ os) ++ more) (sym e)
-      ∙ ap (λ (os : List Operator). os ++ more) (sym (spelled_append columns steps (s ∷ [])))
 
   -- the keys of a join
   module _ (outer : Bool) (left right : Node) (on : List Condition) (keys : List ℕ) (ready : Ready (join outer left right on keys)) (shows : AllByRecursion (ShowsIn columns) on) where
@@ -76,7 +67,7 @@ module _ (entries : List Entry) (tables : List (List (List Val))) (columns : Lis
   join_within : (outer : Bool) (left right : Node) (on : List Condition) (keys : List ℕ) → Within (owned (owns (join outer left right on keys)) columns) (owned (owns right) columns ++ owned (owns left) columns)
   join_within outer left right on keys i ty h =
       let r = owned_among (owns (join outer left right on keys)) columns i ty h in
-      one r.1 (or_true (owns left i) (owns right i) (sym (owns_join outer left right on keys i) ∙ r.0))
+      one r.1 (or_parts (owns left i) (owns right i) (sym (owns_join outer left right on keys i) ∙ r.0))
     where
       one : IsAmong (typed_numbers columns) i ty → (owns left i ≡ true) ⊎ (owns right i ≡ true) → IsAmong (typed_numbers (owned (owns right) columns ++ owned (owns left) columns)) i ty
       one g (inl e) = within_right (owned (owns right) columns) (owned (owns left) columns) i ty (among_owned (owns left) columns i ty e g)
@@ -91,7 +82,7 @@ module _ (entries : List Entry) (tables : List (List (List Val))) (columns : Lis
       one true e = refl
       one false e = e
   steps_see (filter conjuncts below) next more values ready names shows h =
-      subst (λ (os : List Operator). Sees (of_entry (split next below).last.entry columns) os values) (steps_with (split next below).last.steps (test conjuncts) (filter_by conjuncts) more refl)
+      subst (λ (os : List Operator). Sees (of_entry (split next below).last.entry columns) os values) (steps_with columns (split next below).last.steps (test conjuncts) (filter_by conjuncts) more refl)
       (steps_see below next (filter_by conjuncts ∷ more) values ready.1 names.1 shows.1 (all_shown_in (owns below) columns conjuncts names.0 shows.0, h))
   steps_see (join outer left right on keys) next more values ready names shows h =
       let m : ℕ = next + length (split next right).builds in
@@ -100,7 +91,7 @@ module _ (entries : List Entry) (tables : List (List (List Val))) (columns : Lis
       let both_sides : Within (owned (owns (join outer left right on keys)) columns) (kept ++ owned (owns left) columns) = join_within outer left right on keys in
       let others : AllByRecursion (ShowsIn (owned (owns (join outer left right on keys)) columns)) (beside_keys keys 0 on) =
       (keys_have entries tables columns sized (ShowsIn (owned (owns (join outer left right on keys)) columns)) keys 0 on (all_shown_in (owns (join outer left right on keys)) columns on names.0 shows.0)).1 in
-      subst (λ (os : List Operator). Sees (of_entry (split (m + 1) left).last.entry columns) os values) (steps_with (split (m + 1) left).last.steps (pipes.probe m (looked outer right on keys)) o more refl)
+      subst (λ (os : List Operator). Sees (of_entry (split (m + 1) left).last.entry columns) os values) (steps_with columns (split (m + 1) left).last.steps (pipes.probe m (looked outer right on keys)) o more refl)
       (steps_see left (m + 1) (o ∷ more) values ready.1.0 names.1.0 shows.1.0 (
         key_sought_shown outer left right on keys ready shows.0,
         (

@@ -2,7 +2,6 @@
 use Rattle.std.proofs.Common.{◌≡◌, ◌∙◌, ℕ, zero, suc, ◌+◌, ◌/◌, ◌%◌, nat_eq, Bool, true, false, ◌&&◌, ◌||◌, if◌then◌else◌, Option, Some, slice_get, List, [], ◌∷◌, ◌++◌, map, length, refl, sym, ap, subst, arith}
 use Rattle.std.specs.List.{AllByRecursion, AllZip, list_any}
 use Rattle.std.specs.List as list
-use Rattle.std.proofs.lemmas.Bool.Decides.{nat_tests}
 use Rattle.std.proofs.lemmas.List.{length-map}
 use Rattle.std.proofs.lemmas.Option.{same_Some}
 use Rattle.qw_types.specs.declared.schema.ColumnType.{ColumnType}
@@ -23,6 +22,7 @@ use Rattle.qw_physical.specs.Physical.{MayBeNull, Operator, Pipeline, filter as 
 use Rattle.qw_physical.specs.Sides.{IsOfEntries, IsPlanned, builds_of, column_in, last_of}
 use Rattle.qw_physical.specs.Spelled.{all_spelled, spelled_steps}
 use Rattle.qw_physical.specs.declared.pipeline.ReadColumn.{ReadColumn}
+use Rattle.qw_physical.proofs.Entries.{nat_is}
 
 -- ---- the right sides of a plan's LEFT JOINs
 module _ (N : ℕ → Type 0) where
@@ -121,10 +121,10 @@ one_null : (entries : List Entry) (n : ℕ) (outer : Bool) (e : Entry) → slice
 one_null entries n true e there is k c col = nulls_at e.columns k c (subst (λ (o : Option Entry). column_in o k ≡ Some c) there col)
 one_null entries n false e there is k c col = absurd cc
 
-none_more : (n : ℕ) → n ≡ n + 0
+pub none_more : (n : ℕ) → n ≡ n + 0
 none_more n = omega arith
 
-one_more : (n k : ℕ) → (n + 1) + k ≡ n + suc k
+pub one_more : (n k : ℕ) → (n + 1) + k ≡ n + suc k
 one_more n k = omega arith
 
 module _ (all : List Entry) where
@@ -148,15 +148,12 @@ module _ (all : List Entry) where
       counted n a b e = omega (arith, e)
 
 -- ---- columns that are kept
-is_entry : (m n : ℕ) → nat_eq m n ≡ true → m ≡ n
-is_entry m n h = grind (arith, nat_tests)
-
 pub entry_among : (N : ℕ → Type 0) (entries : List ℕ) (n : ℕ) → list_any (λ entry. nat_eq entry n) entries ≡ true → AllByRecursion N entries → N n
 entry_among N [] n h all = absurd cc
 entry_among N (m ∷ entries) n h all = one (nat_eq m n) refl h (λ g. entry_among N entries n g all.1)
   where
     one : (b : Bool) → nat_eq m n ≡ b → (b || list_any (λ entry. nat_eq entry n) entries) ≡ true → (list_any (λ entry. nat_eq entry n) entries ≡ true → N n) → N n
-    one true e g later = subst N (is_entry m n e) all.0
+    one true e g later = subst N (nat_is m n e) all.0
     one false e g later = later g
 
 module _ (all : List Entry) where

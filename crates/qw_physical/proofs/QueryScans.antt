@@ -16,6 +16,7 @@ use Rattle.qw_physical.specs.Sides.{IsPlanned, builds_of, last_of}
 use Rattle.qw_physical.specs.Spelled.{all_spelled}
 use Rattle.qw_physical.specs.declared.pipeline.ReadColumn.{ReadColumn}
 use Rattle.qw_physical.proofs.Declared.{AllScans, Hold, from_scans, keyed_scans, sifted_scans}
+use Rattle.qw_physical.proofs.QueryNulls.{none_more, one_more}
 
 -- the table is that of an entry
 pub record IsScanOf (entries : List Entry) (entry table : ℕ) : Type 0 where
@@ -32,12 +33,6 @@ hold_each all (e ∷ es) next at = (
   record { one = e; stands = ap (slice_get all) (none_more next) ∙ at 0; table_is = refl },
   hold_each all es (next + 1) (λ k. ap (slice_get all) (one_more next k) ∙ at (suc k)),
 )
-  where
-    none_more : (n : ℕ) → n ≡ n + 0
-    none_more n = omega arith
-
-    one_more : (n k : ℕ) → (n + 1) + k ≡ n + suc k
-    one_more n k = omega arith
 
 module _ (P : ℕ → ℕ → Type 0) where
   last_scans : (node : Node) (next : ℕ) → AllScans P node → P (split next node).last.entry (split next node).last.table

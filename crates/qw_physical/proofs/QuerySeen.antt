@@ -29,6 +29,7 @@ use Rattle.qw_physical.proofs.Conjuncts.{AllConjuncts, placed_all}
 use Rattle.qw_physical.proofs.PlanSeen.{builds_see, last_sees}
 use Rattle.qw_physical.proofs.Shown.{IsAmong, IsSeen, Sees, Shows, ShowsIn, among_owned, of_entry, owned}
 use Rattle.qw_physical.proofs.Typing.{tests_columns, values_columns}
+use Rattle.qw_physical.proofs.EntryRows.{or_true}
 
 -- ---- the entries of FROM are those of the plan
 
@@ -43,10 +44,6 @@ or_left : (a b : Bool) → a ≡ true → (a || b) ≡ true
 or_left true b h = refl
 or_left false b h = absurd cc
 
-or_right : (a b : Bool) → b ≡ true → (a || b) ≡ true
-or_right true b h = refl
-or_right false b h = h
-
 scan_covers : (next table : ℕ) → Covers next (next + 1) (scan next table)
 scan_covers next table i h g = or_left (nat_eq next (i / 64)) false (nat_same next (i / 64) (omega (arith, h, g)))
 
@@ -58,7 +55,7 @@ join_covers outer left right on keys low mid high hl hr i h g = owns_join outer 
 
     one : (i / 64 < mid) ⊎ (mid ≤ i / 64) → (owns left i || owns right i) ≡ true
     one (inl before) = or_left (owns left i) (owns right i) (hl i h before)
-    one (inr later) = or_right (owns left i) (owns right i) (hr i later g)
+    one (inr later) = or_true (owns left i) (owns right i) (hr i later g)
 
 joins_cover : (joins : List Joined) (first next : ℕ) (node : Node) → Covers first next node → Covers first (next + length (map (λ (j : Joined). j.entry) joins)) (with_joins next node joins)
 joins_cover [] first next node covers =

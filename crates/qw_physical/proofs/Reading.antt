@@ -29,7 +29,7 @@ use Rattle.qw_physical.proofs.Naming.{has_named, have_named, named_have, columns
 pub same_number : (x y : ℕ) → (x == y) ≡ true → x ≡ y
 same_number x y h = grind (arith)
 
-either_way : (a b : Bool) → (a || b) ≡ false → (a ≡ false) × (b ≡ false)
+pub either_way : (a b : Bool) → (a || b) ≡ false → (a ≡ false) × (b ≡ false)
 either_way false b h = (refl, h)
 either_way true b h = absurd cc
 

@@ -33,7 +33,7 @@ pub total_same : {A : Type 0} (f g : A → ℕ) (xs : List A) → ((x : A) → f
 total_same f g [] h = refl
 total_same f g (x ∷ xs) h = ap₂ (λ a b. a + b) (h x) (total_same f g xs h)
 
-both_less : (a b c d : ℕ) → a ≤ b → c ≤ d → a + c ≤ b + d
+pub both_less : (a b c d : ℕ) → a ≤ b → c ≤ d → a + c ≤ b + d
 both_less a b c d h g = omega (arith, h, g)
 
 pub total_less : {A : Type 0} (f g : A → ℕ) (xs : List A) → ((x : A) → f x ≤ g x) → total f xs ≤ total g xs

@@ -34,4 +34,4 @@ pub returns-in_ok-t-in-None-clause-emits : goal.returns-in_ok-t-in-None-clause-e
 returns-in_ok-t-in-None-clause-emits c =
     let e = expression_of c.args.operand.now in
     let values = expressions_of c.args.values.now in
-    handed_tests (known_of c.args.known.now) e c.in_ok-x.x (among e values) c.args.emitter.now c.emit_expr.new.emitter c.among.new.emitter c.in_ok-t-in-None.t c.requires.served c.in_ok-x.ensures.emits c.in_ok-t-in-None.ensures.emits (among_first e values)
+    handed_tests (known_of c.args.known.now) e c.in_ok-x.x (among e values) _ c.args.emitter.now c.emit_expr.new.emitter c.among.new.emitter c.in_ok-t-in-None.t c.requires.served c.in_ok-x.ensures.emits c.in_ok-t-in-None.ensures (among_first e values)

@@ -18,5 +18,5 @@ returns-in_ok-t-in-None-clause-emits c =
     let e = expression_of c.args.operand.now in
     let least = expression_of c.args.least.now in
     let greatest = expression_of c.args.greatest.now in
-    handed_tests (known_of c.args.known.now) e c.in_ok-x.x (between e least greatest) c.args.emitter.now c.emit_expr.new.emitter c.between.new.emitter c.in_ok-t-in-None.t c.requires.served c.in_ok-x.ensures.emits c.in_ok-t-in-None.ensures.emits
+    handed_tests (known_of c.args.known.now) e c.in_ok-x.x (between e least greatest) _ c.args.emitter.now c.emit_expr.new.emitter c.between.new.emitter c.in_ok-t-in-None.t c.requires.served c.in_ok-x.ensures.emits c.in_ok-t-in-None.ensures
     (between_first e least greatest)
