@@ -15,7 +15,7 @@ use Rattle.qw_low.specs.Syntax.{Statement, seq}
 use Rattle.qw_expr.specs.Bindings.{IsServed, Knows}
 use Rattle.qw_expr.specs.Cells.{IsBelow, IsBelowNull}
 use Rattle.qw_expr.specs.Computes.{AreBelow, Known}
-use Rattle.qw_expr.specs.Emits.{free_of}
+use Rattle.qw_expr.specs.Emits.{extent, free_of}
 use Rattle.qw_expr.specs.declared.emitter.Emitter.{Emitter}
 use Rattle.qw_expr.specs.declared.operand.Operand.{Operand}
 use Rattle.qw_expr.proofs.Nulls.{known_below_more}
@@ -25,16 +25,17 @@ use Rattle.qw_group.specs.Values.{may_be_null}
 use Rattle.qw_group.specs.Walks.{groups_walk_block}
 use Rattle.qw_physical.specs.Physical.{Operator, Sink}
 use Rattle.qw_physical.specs.declared.pipeline.ReadColumn.{ReadColumn}
-use Rattle.qw_operator.specs.Carries.{ReadsEntry, entry_types, known_entry}
+use Rattle.qw_operator.specs.Carries.{EmitsTo, IsCarriedTo, ReadsEntry, entry_types, known_entry}
 use Rattle.qw_operator.specs.Takes.{CanCarry, anywhere}
 use Rattle.qw_operator.specs.Kept.{ReadsKept}
 use Rattle.qw_operator.proofs.EntryReads.{entry_many}
 use Rattle.qw_operator.proofs.KeptReads.{kept_free}
 use Rattle.qw_operator.proofs.Knowing.{carry_over, served_entry}
-use Rattle.qw_group_pipeline.specs.Groups.{EmitsGroupsTo, IsGroupRowTo, ReadsValues, all_anywhere, known_group, known_values, value_anywhere, values_types}
+use Rattle.qw_group_pipeline.specs.Groups.{EmitsGroupsTo, InEnd, IsGroupRowTo, ReadsValues, all_anywhere, known_group, known_values, value_anywhere, values_types}
 use Rattle.qw_group_pipeline.specs.Inner.Met.{IsMet}
 use Rattle.qw_group_pipeline.specs.Inner.Valued.{ReadsValued}
 use Rattle.qw_group_pipeline.specs.declared.columns.ValueColumn.{ValueColumn}
+use Rattle.qw_group_pipeline.proofs.GroupsShort.{groups_short, met_long}
 use Rattle.qw_group_pipeline.proofs.ValueReads.{values_many}
 
 -- ---- a group is met
@@ -127,51 +128,51 @@ module _ (literals : List Known) (count : ℕ) (key : List ReadColumn) (values :
   entry_at : met.entry ≡ count + 1
   entry_at = let is = met.entry_is in omega (arith, is)
 
-  -- within the reads something was emitted
-  module _ (Rest : List Known → (next : ℕ) → Statement → List ValType → Type 0) (directory : ℕ) (old mid new done : Emitter) (count_is : count ≡ free_of old) (rest : Statement) (rest_own : List ValType) (rest_code : done.block.code.items ≡ inner.block.code.items ++ steps_of rest)
-      (rest_own_is : done.own.items ≡ inner.own.items ++ rest_own) (carried : Rest held (free_of inner) rest rest_own) where
-    abbrev pub at_group : Statement
-    at_group = seq met.key_reads (seq met.value_reads rest)
+  -- within the reads operators were emitted, and what is innermost
+  module _ (End : List Known → (next : ℕ) → Statement → List ValType → Type 0) (operators : List Operator) (directory : ℕ) (old mid new done : Emitter) (count_is : count ≡ free_of old) (em : EmitsTo End held operators inner done) (code : mid.block.code.items ≡ old.block.code.items)
+      (own : mid.own.items ≡ old.own.items ++ (I32 ∷ I32 ∷ [])) (walked : (b : Statement) → done.block.code.items ≡ steps_of b → new.block.code.items ≡ mid.block.code.items ++ steps_of (groups_walk_block directory count b)) (joined : new.own.items ≡ mid.own.items ++ done.own.items) where
+    abbrev at_group : Statement
+    at_group = seq met.key_reads (seq met.value_reads em.statement)
 
-    pub at_group_is : done.block.code.items ≡ steps_of (seq met.key_reads (seq met.value_reads rest))
-    at_group_is = rest_code ∙ (ap (λ (l : List LowStep). l ++ steps_of rest) met.code_is ∙ append_assoc (steps_of met.key_reads) (steps_of met.value_reads) (steps_of rest))
+    at_group_is : done.block.code.items ≡ steps_of (seq met.key_reads (seq met.value_reads em.statement))
+    at_group_is = em.code_is ∙ (ap (λ (l : List LowStep). l ++ steps_of em.statement) met.code_is ∙ append_assoc (steps_of met.key_reads) (steps_of met.value_reads) (steps_of em.statement))
 
-    abbrev group_own : List ValType
-    group_own = entry_types key ++ (values_types values ++ rest_own)
+    own_done : done.own.items ≡ entry_types key ++ (values_types values ++ em.own)
+    own_done = em.own_is ∙ (ap (λ (l : List ValType). l ++ em.own) met.own_is ∙ append_assoc (entry_types key) (values_types values) em.own)
 
-    own_done : done.own.items ≡ entry_types key ++ (values_types values ++ rest_own)
-    own_done = rest_own_is ∙ (ap (λ (l : List ValType). l ++ rest_own) met.own_is ∙ append_assoc (entry_types key) (values_types values) rest_own)
-
-    row_here : IsGroupRowTo Rest literals (count + 1) (cell_offset (length key)) (count + 2) key values (seq met.key_reads (seq met.value_reads rest)) (entry_types key ++ (values_types values ++ rest_own))
+    row_here : IsGroupRowTo (InEnd End operators) literals (count + 1) (cell_offset (length key)) (count + 2) key values (seq met.key_reads (seq met.value_reads em.statement)) (entry_types key ++ (values_types values ++ em.own))
     row_here = record {
       key_reads = met.key_reads;
       value_reads = met.value_reads;
-      rest = rest;
-      rest_own = rest_own;
+      rest = em.statement;
+      rest_own = em.own;
       is = refl;
       own_is = refl;
       key_reading = subst (λ (n : ℕ). ReadsEntry (cell_offset 0) n (count + 2) key met.key_reads) entry_at met.key_reading;
       value_reading = subst (λ (n : ℕ). ReadsValues (cell_offset (length key)) n (count + 2 + 3 * length key) values met.value_reads) entry_at met.value_reading;
-      carried = subst (λ (n : ℕ). Rest (known_group (count + 2) key values ++ literals) n rest rest_own) inner_free
-          (subst (λ (ks : List Known). Rest ks (free_of inner) rest rest_own) met.known_is carried);
+      carried = subst (λ (n : ℕ). IsCarriedTo End (known_group (count + 2) key values ++ literals) n operators em.statement em.own) inner_free
+          (subst (λ (ks : List Known). IsCarriedTo End ks (free_of inner) operators em.statement em.own) met.known_is em.carried);
     }
 
-    pub groups_emit : mid.first ≡ old.first → mid.block.code.items ≡ old.block.code.items → mid.own.items ≡ old.own.items ++ (I32 ∷ I32 ∷ []) → new.first ≡ mid.first →
-        new.block.code.items ≡ mid.block.code.items ++ steps_of (groups_walk_block directory count (seq met.key_reads (seq met.value_reads rest))) → new.own.items ≡ mid.own.items ++ done.own.items → EmitsGroupsTo Rest literals directory key values old new
-    groups_emit first code own same walked joined =
-        let b : Statement = seq met.key_reads (seq met.value_reads rest) in
-        let own_here : List ValType = entry_types key ++ (values_types values ++ rest_own) in
+    pub groups_emit : new.first ≡ old.first → EmitsGroupsTo (InEnd End operators) literals directory key values old new
+    groups_emit first =
+        let b : Statement = seq met.key_reads (seq met.value_reads em.statement) in
+        let own_here : List ValType = entry_types key ++ (values_types values ++ em.own) in
         record {
-          first_is = same ∙ first;
+          first_is = first;
           statement = groups_walk_block directory (free_of old) b;
           own = (I32 ∷ I32 ∷ []) ++ own_here;
-          code_is = walked ∙ (ap (λ (l : List LowStep). l ++ steps_of (groups_walk_block directory count b)) code ∙ ap (λ (n : ℕ). old.block.code.items ++ steps_of (groups_walk_block directory n b)) count_is);
+          code_is = walked b at_group_is ∙ (ap (λ (l : List LowStep). l ++ steps_of (groups_walk_block directory count b)) code ∙ ap (λ (n : ℕ). old.block.code.items ++ steps_of (groups_walk_block directory n b)) count_is);
           own_is = joined ∙ (ap (λ (l : List ValType). l ++ done.own.items) own ∙ (append_assoc old.own.items (I32 ∷ I32 ∷ []) done.own.items ∙ ap (λ (l : List ValType). old.own.items ++ ((I32 ∷ I32 ∷ []) ++ l)) own_done));
           pipeline = record {
             met = b;
             met_own = own_here;
             is = refl;
             own_is = refl;
-            row = subst (λ (n : ℕ). IsGroupRowTo Rest literals (n + 1) (cell_offset (length key)) (n + 2) key values b own_here) count_is row_here;
+            row = subst (λ (n : ℕ). IsGroupRowTo (InEnd End operators) literals (n + 1) (cell_offset (length key)) (n + 2) key values b own_here) count_is row_here;
           };
         }
+
+    pub groups_within : (rest : ℕ) → extent done ≤ extent inner + rest → extent new ≤ extent old + (25 * length key + 328 * length values + rest + 60)
+    groups_within rest within =
+        groups_short old mid new inner done directory count (25 * length key + 328 * length values) rest at_group at_group_is code own (walked at_group at_group_is) joined (met_long literals (count + 2) key values inner held met) within

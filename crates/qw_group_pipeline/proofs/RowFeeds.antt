@@ -42,7 +42,7 @@ use Rattle.qw_physical.specs.Physical.{Operator, Sink, select}
 use Rattle.qw_physical.specs.declared.pipeline.ReadColumn.{ReadColumn}
 use Rattle.qw_operator.specs.Carries.{entry_types, known_entry}
 use Rattle.qw_operator.specs.Takes.{AreSized, CanCarry, anywhere}
-use Rattle.qw_operator.proofs.OperatorsFeed.{carried_feeds}
+use Rattle.qw_operator.proofs.OperatorsFeed.{FeedsEnd, carried_feeds, carried_to_feeds}
 use Rattle.qw_operator.proofs.EntryReads.{entry_declared, entry_many, entry_told, entry_within, reads_end}
 use Rattle.qw_operator.proofs.Filters.{Runs, Here, base_high, old_low}
 use Rattle.qw_operator.proofs.KnownLeaves.{AreFit, Fits, IsUtf8Value}
@@ -54,7 +54,6 @@ use Rattle.qw_operator.proofs.Stood.{AllStand}
 use Rattle.qw_operator.proofs.WholeFeeds.{FeedsSink}
 use Rattle.qw_group.proofs.EntryAreas.{areas-map}
 use Rattle.qw_group_sink.specs.Carrying.{cost_to}
-use Rattle.qw_group_sink.proofs.CarriedTo.{FeedsEnd, carried_to_feeds}
 use Rattle.qw_group_pipeline.specs.Groups.{InEnd, InSink, IsGroupRowTo, all_anywhere, known_group, known_values, most_read, value_anywhere, values_types}
 use Rattle.qw_group_pipeline.specs.declared.columns.ValueColumn.{ValueColumn}
 use Rattle.qw_group_pipeline.proofs.ValueReads.{values_many}
@@ -137,10 +136,10 @@ module _ (c : Cells) (base : ℕ) (sink : FlowSink) (runs : Runs c [] base sink)
   sink_rest snk sunk can known next row a own s enough low room told within declared own_types is fit here =
       carried_feeds c [] base sink runs most fuel many types snk sunk operators carried known next row a own s enough low room told within declared own_types is can apart served fit (nulls row) here
 
-  pub end_rest : (End : List Known → (next : ℕ) → Statement → List ValType → Type 0) (values : List Expression) (turn : List Val → ℕ) → FeedsEnd c [] base sink most fuel many types End values turn → CanCarry carried operators (select values) →
+  pub end_rest : (End : List Known → (next : ℕ) → Statement → List ValType → Type 0) (values : List Expression) (turn : List Val → ℕ) → FeedsEnd c [] base sink most fuel many types End (select values) turn → CanCarry carried operators (select values) →
       FeedsRest c base sink most fuel many types carried (InEnd End operators) (fed [] operators (select values)) (cost_to values turn [] operators)
   end_rest End values turn ends can known next row a own s enough low room told within declared own_types is fit here =
-      carried_to_feeds c [] base sink runs most fuel many types End values turn ends operators carried known next row a own s enough low room told within declared own_types is can apart served fit (nulls row) here
+      carried_to_feeds c [] base sink runs most fuel many types End (select values) turn ends operators carried known next row a own s enough low room told within declared own_types is can apart served fit (nulls row) here
 
 module _ (c : Cells) (base : ℕ) (sink : FlowSink) (runs : Runs c [] base sink) (most fuel many : ℕ) (types : List ValType) (Rest : List Known → (next : ℕ) → Statement → List ValType → Type 0) (work : List Val → Flow (List Val)) (units : List Val → ℕ)
     (literals : List Known) (entry far next : ℕ) (key : List ReadColumn) (values : List ValueColumn) (a : Statement) (own : List ValType) (h : IsGroupRowTo Rest literals entry far next key values a own) (low : base ≤ next)

@@ -20,9 +20,8 @@ use Rattle.qw_group.specs.Values.{ReadsValue, may_be_null, read_units, value_typ
 use Rattle.qw_group.specs.Walks.{groups_walk_block}
 use Rattle.qw_physical.specs.Physical.{Operator, Sink}
 use Rattle.qw_physical.specs.declared.pipeline.ReadColumn.{ReadColumn}
-use Rattle.qw_operator.specs.Carries.{IsCarried, ReadsEntry, entry_types, known_entry}
+use Rattle.qw_operator.specs.Carries.{IsCarriedTo, IsSunk, ReadsEntry, entry_types, known_entry}
 use Rattle.qw_operator.specs.Takes.{anywhere}
-use Rattle.qw_group_sink.specs.Carrying.{IsCarriedTo}
 use Rattle.qw_group_sink.specs.Grouping.{Group, IsGrouped}
 use Rattle.qw_group_pipeline.specs.declared.columns.ValueColumn.{ValueColumn}
 
@@ -78,7 +77,7 @@ pub record IsGroupRowTo (Rest : List Known → (next : ℕ) → Statement → Li
 
 -- operators, and a sink or what `End` says innermost
 abbrev pub InSink : List Operator → Sink → List Known → (next : ℕ) → Statement → List ValType → Type 0
-InSink operators sink known next a own = IsCarried known next operators sink a own
+InSink operators sink known next a own = IsCarriedTo (IsSunk sink) known next operators a own
 
 abbrev pub InEnd : (End : List Known → (next : ℕ) → Statement → List ValType → Type 0) → List Operator → List Known → (next : ℕ) → Statement → List ValType → Type 0
 InEnd End operators known next a own = IsCarriedTo End known next operators a own

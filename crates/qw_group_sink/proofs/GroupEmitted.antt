@@ -12,94 +12,69 @@ use Rattle.qw_limit.specs.Counting.{guarded_block}
 use Rattle.qw_expr.specs.Computes.{Known}
 use Rattle.qw_expr.specs.Emits.{extent, free_of}
 use Rattle.qw_expr.specs.declared.emitter.Emitter.{Emitter}
-use Rattle.qw_expr.specs.declared.operand.Operand.{Operand}
 use Rattle.qw_feed.specs.Cells.{cells_block, kinds_of}
 use Rattle.qw_feed.specs.Stages.{Test, items_block}
 use Rattle.qw_table.specs.Joins as joins
-use Rattle.qw_table.specs.Keys.{AreBelow}
 use Rattle.qw_table.specs.declared.key.Field.{Field}
 use Rattle.qw_table.proofs.JoinTyped.{cells_size}
-use Rattle.qw_group.specs.Areas.{area_types}
-use Rattle.qw_group.specs.Groups.{Groups, UpdatesAreas, group_block, group_size, group_types}
+use Rattle.qw_group.specs.Groups.{Groups, UpdatesAreas, group_block, group_size}
 use Rattle.qw_group.specs.declared.group.Aggregate.{Aggregate}
 use Rattle.qw_group.proofs.AreaClauses.{aggregates_short}
-use Rattle.qw_operator.specs.Carries.{directory, moved}
-use Rattle.qw_operator.specs.Emitted.{EmitsItems, sources_of}
-use Rattle.qw_operator.proofs.Computed.{fields_are, fields_below, fields_long, items_below, items_long, items_many}
+use Rattle.qw_operator.specs.Carries.{EmitsTo, directory}
+use Rattle.qw_operator.specs.Opened.{AreMade}
 use Rattle.qw_operator.proofs.Promised.{items_kinds, kinds_moved}
 use Rattle.qw_operator.proofs.Shortness.{steps_twice}
 use Rattle.qw_group_sink.specs.Grouping.{Group, IsGrouped, aggregates_of, key_fields, over_fields}
-use Rattle.qw_group_sink.specs.Guarded.{EmitsPut, guarded_by}
+use Rattle.qw_group_sink.specs.Guarded.{IsPut, guarded_by}
+use Rattle.qw_group_sink.specs.Inner.Entering.{Enters, put_types}
 use Rattle.qw_group_sink.specs.OneGroup.{IsOneGroup}
+use Rattle.qw_group_sink.specs.declared.group.Place.{Place}
 use Rattle.qw_group_sink.specs.declared.group.Place.TheVariants as places
 use Rattle.qw_group_sink.proofs.FieldParts.{over_few, take_few}
 
--- ---- where the values are
-module _ (known : List Known) (g : Group) (old mid : Emitter) (values : List Operand) (h : EmitsItems known g.values old mid values) (fields : List Field) (are : joins.sources_of fields ≡ map moved (sources_of values)) where
-  pub group_many : length fields ≡ length g.values
-  group_many = fields_long values fields are ∙ items_many known g.values old mid values h
+-- ---- the block
+module _ (types : List ValType) (known : List Known) (g : Group) (old mid new : Emitter) (table free : ℕ) (fields : List Field) (k : AreMade types known g.values g.table old mid table free fields) where
+  pub made_kinds : kinds_of (joins.sources_of fields) ≡ map kind_of g.values
+  made_kinds = ap kinds_of (sym k.key_is) ∙ (kinds_moved k.items ∙ items_kinds known (free_of old) g.values k.items k.key_own k.computed)
 
-  pub group_below : AreBelow (free_of mid) fields
-  group_below = fields_below (free_of mid) (sources_of values) fields are (items_below known g.values old mid values h)
+  module _ (guard : Option ℕ) (a : Statement) (first : new.first ≡ mid.first) (own : new.own.items ≡ mid.own.items) (code : new.block.code.items ≡ mid.block.code.items ++ steps_of (guarded_by guard a)) where
+    put_here : (place : Place) → types ≡ put_types place → Enters place table free g fields a → IsPut place guard fields known (free_of old) g (seq (items_block k.items) (guarded_by guard a)) (k.key_own ++ types)
+    put_here places.Table are groups = record { plain = seq (items_block k.items) a; grouped = made; is = refl }
+      where
+        made : IsGrouped fields known (free_of old) g (seq (items_block k.items) a) (k.key_own ++ types)
+        made = record {
+          items = k.items;
+          items_own = k.key_own;
+          enter = a;
+          is = refl;
+          own_is = ap (λ (l : List ValType). k.key_own ++ l) are;
+          computed = k.computed;
+          fields_are = k.key_is;
+          groups = subst (λ (n : ℕ). Groups (directory g.table) (key_fields g fields) (aggregates_of g fields) n a) k.free_is (subst (λ (t : ℕ). Groups t (key_fields g fields) (aggregates_of g fields) free a) k.table_is groups);
+        }
+    put_here places.OneGroup are updates = record { plain = seq (items_block k.items) a; grouped = made; is = refl }
+      where
+        made : IsOneGroup fields known (free_of old) g (seq (items_block k.items) a) (k.key_own ++ types)
+        made = record {
+          items = k.items;
+          items_own = k.key_own;
+          enter = a;
+          is = refl;
+          own_is = ap (λ (l : List ValType). k.key_own ++ l) are;
+          computed = k.computed;
+          fields_are = k.key_is;
+          updates = subst (λ (n : ℕ). UpdatesAreas (directory g.table) 0 n (over_fields g.functions fields) a) k.free_is (subst (λ (t : ℕ). UpdatesAreas t 0 free (over_fields g.functions fields) a) k.table_is updates);
+        }
 
-  pub group_kinds : kinds_of (joins.sources_of fields) ≡ map kind_of g.values
-  group_kinds =
-      ap kinds_of (sym (fields_are h.items values fields h.outs_are are)) ∙ (kinds_moved h.items ∙ items_kinds known (free_of old) g.values h.items h.own h.computed)
-
-  -- ---- the block
-  pub group_emits : (guard : Option ℕ) (now new : Emitter) (table free : ℕ) (a : Statement) → table ≡ directory g.table → free ≡ free_of mid → now.first ≡ mid.first → now.block.code.items ≡ mid.block.code.items → now.own.items ≡ mid.own.items ++ group_types →
-      new.first ≡ now.first → new.own.items ≡ now.own.items → new.block.code.items ≡ now.block.code.items ++ steps_of (guarded_by guard a) → Groups table (key_fields g fields) (aggregates_of g fields) free a → EmitsPut places.Table guard fields known g old new
-  group_emits guard now new table free a table_is free_is first code own first' own' code' groups = record {
-    first_is = first' ∙ (first ∙ h.first_is);
-    statement = seq (items_block h.items) (guarded_by guard a);
-    own = h.own ++ group_types;
-    code_is = two old.block.code.items mid.block.code.items new.block.code.items (steps_of (items_block h.items)) (steps_of (guarded_by guard a)) h.code_is (code' ∙ ap (λ (l : List LowStep). l ++ steps_of (guarded_by guard a)) code);
-    own_is = own' ∙ two old.own.items mid.own.items now.own.items h.own group_types h.own_is own;
-    put = record { plain = seq (items_block h.items) a; grouped = made; is = refl };
-  }
-    where
-      placed : free ≡ free_of old + length h.own
-      placed = free_is ∙ items_long known g.values old mid values h
-
-      made : IsGrouped fields known (free_of old) g (seq (items_block h.items) a) (h.own ++ group_types)
-      made = record {
-        items = h.items;
-        items_own = h.own;
-        enter = a;
-        is = refl;
-        own_is = refl;
-        computed = h.computed;
-        fields_are = fields_are h.items values fields h.outs_are are;
-        groups = subst (λ (n : ℕ). Groups (directory g.table) (key_fields g fields) (aggregates_of g fields) n a) placed
-            (subst (λ (t : ℕ). Groups t (key_fields g fields) (aggregates_of g fields) free a) table_is groups);
-      }
-
-  -- the same of the one group of all rows
-  pub one_emits : (guard : Option ℕ) (now new : Emitter) (table free : ℕ) (a : Statement) → table ≡ directory g.table → free ≡ free_of mid → now.first ≡ mid.first → now.block.code.items ≡ mid.block.code.items → now.own.items ≡ mid.own.items ++ area_types →
-      new.first ≡ now.first → new.own.items ≡ now.own.items → new.block.code.items ≡ now.block.code.items ++ steps_of (guarded_by guard a) → UpdatesAreas table 0 free (over_fields g.functions fields) a → EmitsPut places.OneGroup guard fields known g old new
-  one_emits guard now new table free a table_is free_is first code own first' own' code' updates = record {
-    first_is = first' ∙ (first ∙ h.first_is);
-    statement = seq (items_block h.items) (guarded_by guard a);
-    own = h.own ++ area_types;
-    code_is = two old.block.code.items mid.block.code.items new.block.code.items (steps_of (items_block h.items)) (steps_of (guarded_by guard a)) h.code_is (code' ∙ ap (λ (l : List LowStep). l ++ steps_of (guarded_by guard a)) code);
-    own_is = own' ∙ two old.own.items mid.own.items now.own.items h.own area_types h.own_is own;
-    put = record { plain = seq (items_block h.items) a; grouped = made; is = refl };
-  }
-    where
-      placed : free ≡ free_of old + length h.own
-      placed = free_is ∙ items_long known g.values old mid values h
-
-      made : IsOneGroup fields known (free_of old) g (seq (items_block h.items) a) (h.own ++ area_types)
-      made = record {
-        items = h.items;
-        items_own = h.own;
-        enter = a;
-        is = refl;
-        own_is = refl;
-        computed = h.computed;
-        fields_are = fields_are h.items values fields h.outs_are are;
-        updates = subst (λ (n : ℕ). UpdatesAreas (directory g.table) 0 n (over_fields g.functions fields) a) placed (subst (λ (t : ℕ). UpdatesAreas t 0 free (over_fields g.functions fields) a) table_is updates);
-      }
+    pub put_emits : (place : Place) → types ≡ put_types place → Enters place table free g fields a → EmitsTo (λ ks n b more. IsPut place guard fields ks n g b more) known [] old new
+    put_emits place are enters = record {
+      first_is = first ∙ k.first_is;
+      statement = seq (items_block k.items) (guarded_by guard a);
+      own = k.key_own ++ types;
+      code_is = two old.block.code.items mid.block.code.items new.block.code.items (steps_of (items_block k.items)) (steps_of (guarded_by guard a)) k.code_is code;
+      own_is = own ∙ k.own_is;
+      carried = put_here place are enters;
+    }
 
 -- ---- how long it is
 areas_short : (e at g : ℕ) (aggregates : List Aggregate) (a : Statement) → UpdatesAreas e at g aggregates a → size a ≤ 100 * length aggregates
@@ -126,33 +101,23 @@ guarded_short : (guard : Option ℕ) (a : Statement) → size (guarded_by guard 
 guarded_short None a = omega arith
 guarded_short (Some z) a = let whole : size (guarded_block z a) ≡ size a + 7 = omega arith in omega (arith, whole)
 
-pub group_short : (guard : Option ℕ) (nodes many before : ℕ) (g : Group) (mid now new : Emitter) (fields : List Field) (table free : ℕ) (a : Statement) → extent mid ≤ before + 400 * nodes → now.block.code.items ≡ mid.block.code.items → now.own.items ≡ mid.own.items ++ group_types →
-    new.own.items ≡ now.own.items → new.block.code.items ≡ now.block.code.items ++ steps_of (guarded_by guard a) → Groups table (key_fields g fields) (aggregates_of g fields) free a → many ≡ g.columns + length g.functions → extent new ≤ before + (400 * nodes + 376 * many + 200)
-group_short guard nodes many before g mid now new fields table free a short code own own' code' groups counted =
-    let all = ap (λ (l : List LowStep). length l) code' ∙ length-append now.block.code.items (steps_of (guarded_by guard a)) in
-    let same = ap (λ (l : List LowStep). length l) code in
-    let declared = ap (λ (l : List ValType). length l) own ∙ length-append mid.own.items group_types in
-    let locals = ap (λ (l : List ValType). length l) own' in
-    let steps = steps_twice (guarded_by guard a) in
-    let more = guarded_short guard a in
-    let sized = entered_short table (key_fields g fields) (aggregates_of g fields) free a groups in
+entered_within : (place : Place) (d free : ℕ) (g : Group) (fields : List Field) (a : Statement) → Enters place d free g fields a → size a ≤ 80 + 188 * (g.columns + length g.functions)
+entered_within places.Table d free g fields a groups =
+    let sized = entered_short d (key_fields g fields) (aggregates_of g fields) free a groups in
     let keyed = take_few g.columns fields in
     let functions = over_few g.functions (drop g.columns fields) in
-    omega (arith, short, all, same, declared, locals, steps, more, sized, keyed, functions, counted)
+    omega (arith, sized, keyed, functions)
+entered_within places.OneGroup d free g fields a updates =
+    let sized = areas_short d 0 free (over_fields g.functions fields) a updates in
+    let functions = over_few g.functions fields in
+    omega (arith, sized, functions)
 
-pub one_short : (guard : Option ℕ) (nodes many before : ℕ) (g : Group) (mid now new : Emitter) (fields : List Field) (table free : ℕ) (a : Statement) → extent mid ≤ before + 400 * nodes → now.block.code.items ≡ mid.block.code.items → now.own.items ≡ mid.own.items ++ area_types →
-    new.own.items ≡ now.own.items → new.block.code.items ≡ now.block.code.items ++ steps_of (guarded_by guard a) → UpdatesAreas table 0 free (over_fields g.functions fields) a → many ≡ g.columns + length g.functions → extent new ≤ before + (400 * nodes + 376 * many + 200)
-one_short guard nodes many before g mid now new fields table free a short code own own' code' updates counted =
-    let all = ap (λ (l : List LowStep). length l) code' ∙ length-append now.block.code.items (steps_of (guarded_by guard a)) in
-    let same = ap (λ (l : List LowStep). length l) code in
-    let declared = ap (λ (l : List ValType). length l) own ∙ length-append mid.own.items area_types in
-    let locals = ap (λ (l : List ValType). length l) own' in
+pub put_short : (guard : Option ℕ) (mid new : Emitter) (a : Statement) → new.own.items ≡ mid.own.items → new.block.code.items ≡ mid.block.code.items ++ steps_of (guarded_by guard a) → (nodes many before : ℕ) (place : Place) (d free : ℕ) (g : Group) (fields : List Field) → extent mid ≤ before + 400 * nodes + 24 →
+    Enters place d free g fields a → many ≡ g.columns + length g.functions → extent new ≤ before + (400 * nodes + 376 * many + 200)
+put_short guard mid new a own code nodes many before place d free g fields short enters counted =
+    let all = ap (λ (l : List LowStep). length l) code ∙ length-append mid.block.code.items (steps_of (guarded_by guard a)) in
+    let locals = ap (λ (l : List ValType). length l) own in
     let steps = steps_twice (guarded_by guard a) in
     let more = guarded_short guard a in
-    let sized = areas_short table 0 free (over_fields g.functions fields) a updates in
-    let functions = over_few g.functions fields in
-    omega (arith, short, all, same, declared, locals, steps, more, sized, functions, counted)
-
--- its locals begin behind where there were
-pub items_behind : (known : List Known) (g : Group) (old mid : Emitter) (values : List Operand) → EmitsItems known g.values old mid values → free_of old ≤ free_of mid
-items_behind known g old mid values h = let long = items_long known g.values old mid values h in omega (arith, long)
+    let sized = entered_within place d free g fields a enters in
+    omega (arith, short, all, locals, steps, more, sized, counted)

@@ -1,11 +1,11 @@
 -- The block of a row that goes into groups is typed, and that of any row, whatever is innermost.
-use Rattle.std.proofs.Common.{◌≡◌, ℕ, ◌+◌, Option, Some, List, [], ◌∷◌, ◌++◌, drop, length, map, take, slice_get, sym, ap, ◌∙◌, subst, arith}
+use Rattle.std.proofs.Common.{◌≡◌, ℕ, ◌+◌, Option, Some, List, ◌++◌, drop, length, map, take, slice_get, sym, ap, ◌∙◌, subst, arith}
 use Rattle.std.specs.List.{AllByRecursion}
 use Rattle.qw_types.specs.declared.kind.Kind.{Kind}
 use Rattle.qw_module.specs.declared.instruction.ValType.{ValType}
 use Rattle.qw_module.specs.declared.instruction.ValType.TheVariants.{I32}
 use Rattle.qw_scalar.specs.Typing.{kind_of}
-use Rattle.qw_low.specs.Syntax.{Statement, seq}
+use Rattle.qw_low.specs.Syntax.{Statement}
 use Rattle.qw_low.specs.Typing.{IsTyped}
 use Rattle.qw_expr.specs.Computes.{Known, AreDeclared}
 use Rattle.qw_read.specs.Reading.{known_of}
@@ -16,13 +16,12 @@ use Rattle.qw_table.specs.Keys as keys
 use Rattle.qw_table.specs.declared.key.Field.{Field}
 use Rattle.qw_group.specs.Groups.{group_types}
 use Rattle.qw_group.proofs.GroupClauses.{groups_typed}
-use Rattle.qw_physical.specs.Physical.{Operator, filter, probe}
+use Rattle.qw_physical.specs.Physical.{Operator}
 use Rattle.qw_operator.specs.Carries.{behind_filter, directory, first_filter}
-use Rattle.qw_operator.specs.Emitted.{last_end}
 use Rattle.qw_operator.proofs.CarriedFeeds.{items_many, moved_many, sources_many}
-use Rattle.qw_operator.proofs.CarriedTyped.{AreLed, IsReaderDeclared, IsSourceDeclared, decided_typed, fields_declared, filtered_typed, items_typed, led_behind, looked_up_typed, outs_declared, part_typed, taken_declared}
+use Rattle.qw_operator.proofs.CarriedTyped.{AreLed, IsReaderDeclared, IsSourceDeclared, fields_declared, items_typed, led_behind, outs_declared, read_row_typed, taken_declared}
 use Rattle.qw_operator.proofs.Promised.{AreOwn, first_own_types, items_kinds, kinds_moved, rest_own_types}
-use Rattle.qw_group_sink.specs.Carrying.{IsCarriedTo, IsRowTo}
+use Rattle.qw_group_sink.specs.Carrying.{IsRowTo}
 use Rattle.qw_group_sink.specs.Grouping.{CanGroup, Group, IsGrouped, TakeKinds, over_fields}
 use Rattle.qw_group_sink.proofs.FieldParts.{all_dropped, arguments_declared, kinds_dropped, over_few, take_few}
 
@@ -53,24 +52,12 @@ module _ (types : List ValType) (free_is : slice_get types 1 ≡ Some I32) (left
             (rest_own_types types next own is.items_own group_types is.own_is own_types),
       )
 
-  -- ---- operators, and a row of the scan, where what is innermost is typed
+  -- ---- a row of the scan, where what is innermost is typed
   module _ (End : List Known → (next : ℕ) → Statement → List ValType → Type 0) (end_typed : (known : List Known) (next : ℕ) (a : Statement) (own : List ValType) → AreDeclared types known → AreOwn types next own → End known next a own → IsTyped types a) where
-    pub carried_to_typed : (operators : List Operator) (known : List Known) (next : ℕ) (a : Statement) (own : List ValType) → AreDeclared types known → AreOwn types next own → AreLed types operators → IsCarriedTo End known next operators a own → IsTyped types a
-    carried_to_typed [] known next a own declared own_types led h = end_typed known next a own declared own_types h
-    carried_to_typed (filter cs ∷ operators) known next a own declared own_types led h =
-        filtered_typed types known next cs (λ after b more. IsCarriedTo End known after operators b more) a own declared own_types h (λ after b more more_types rest. carried_to_typed operators known after b more declared more_types led rest)
-    carried_to_typed (probe p ∷ operators) known next a own declared own_types led h =
-        looked_up_typed types known next p (λ held after b more. IsCarriedTo End held after operators b more) a own declared own_types led.0 h
-        (λ held after b more held_declared more_types rest. carried_to_typed operators held after b more held_declared more_types led.1 rest)
-
     pub row_to_typed : (literals : List Known) (readers : List Reader) (next : ℕ) (operators : List Operator) (a : Statement) (own : List ValType) → AreDeclared types (literals ++ map known_of readers) → AllByRecursion (IsReaderDeclared types) readers → AreOwn types next own → AreLed types operators →
         IsRowTo End literals readers next operators a own → IsTyped types a
     row_to_typed literals readers next operators a own declared readers_declared own_types led h =
-        subst (IsTyped types) (sym h.is)
-        (decided_typed types literals readers declared readers_declared next 0 h.ends (first_filter operators) h.tests h.tests_own (seq h.reads h.rest) (first_own_types types next own h.tests_own h.rest_own h.own_is own_types) h.decided (
-          part_typed types literals readers declared readers_declared (last_end 0 h.ends) (length readers) h.reads h.reading,
-          carried_to_typed (behind_filter operators) (literals ++ map known_of readers) (next + length h.tests_own) h.rest h.rest_own declared (rest_own_types types next own h.tests_own h.rest_own h.own_is own_types) (led_behind types free_is left_is operators led) h.carried,
-        ))
+        read_row_typed types free_is left_is End end_typed literals readers next (first_filter operators) (behind_filter operators) a own declared readers_declared own_types (led_behind types free_is left_is operators led) h
 
   -- ---- a row that goes into groups
   pub row_grouped_typed : (fields : List Field) (g : Group) → CanGroup g → slice_get types (directory g.table) ≡ Some I32 → (literals : List Known) (readers : List Reader) (next : ℕ) (operators : List Operator) (a : Statement) (own : List ValType) → AreDeclared types (literals ++ map known_of readers) →

@@ -22,7 +22,7 @@ use Rattle.qw_operator.proofs.Filters.{Runs}
 use Rattle.qw_operator.proofs.Stood.{Stood, built_of}
 use Rattle.qw_group_sink.specs.Carrying.{pipeline_cost_to}
 use Rattle.qw_group_sink.specs.Grouping.{CanGroup, Group, IsGrouped, aggregates_of, key_fields, turn_of}
-use Rattle.qw_group_sink.proofs.CarriedTo.{FeedsEnd}
+use Rattle.qw_operator.proofs.OperatorsFeed.{FeedsEnd}
 use Rattle.qw_group_sink.proofs.GroupSunk.{group_sunk, grouping_kept, grouping_sink}
 use Rattle.qw_group_sink.proofs.PipelineTo.{ScannedTo, pipeline_to_feeds}
 
@@ -53,8 +53,8 @@ module _ (c : Cells) (stoods : List Stood) (base : ℕ) (high : 5 + length stood
   turn = turn_of g entries chosen
 
   -- what the block of one row feeds
-  pub row_grouped : FeedsEnd c stoods base grouped most fuel many types End g.values turn
-  row_grouped N next known row a own s some fueled low room within declared own_types is at kinds units here =
+  pub row_grouped : FeedsEnd c stoods base grouped most fuel many types End (select g.values) turn
+  row_grouped N next known row a own s some fueled low room within declared own_types is at kinds few units here =
       group_sunk c stoods base most fuel many types g can fields k o u before entries chosen May beginnings low_d small few_rows chosen_rows enough met grouped_runs (built_of stoods) N next known row a own s some fueled low room within declared own_types is at kinds units here
 
   -- a whole pipeline, which would make a result of the same values

@@ -16,6 +16,7 @@ use Rattle.qw_read.specs.declared.reader.Reader.{Reader}
 use Rattle.qw_feed.specs.Feeds.{Any, Sink as FlowSink, FeedsTo}
 use Rattle.qw_feed.specs.Frames.{pos, Below, But}
 use Rattle.qw_feed.specs.Scans.{rows_block}
+use Rattle.qw_feed.specs.Room.{HasRoom}
 use Rattle.qw_table.specs.Tables.{in_slot}
 use Rattle.qw_table.specs.declared.key.Field.{Field}
 use Rattle.qw_group.specs.Groups.{AreChosenWithin, group_size, group_types}
@@ -30,11 +31,25 @@ use Rattle.qw_operator.proofs.Stood.{Stood, built_of}
 use Rattle.qw_group_sink.specs.Carrying.{pipeline_cost_to}
 use Rattle.qw_group_sink.specs.Grouping.{CanGroup, Group, aggregates_of, key_fields, turn_of}
 use Rattle.qw_group_sink.specs.Guarded.{IsGroupedWithin}
-use Rattle.qw_group_sink.proofs.CarriedTo.{FeedsEnd}
+use Rattle.qw_operator.proofs.OperatorsFeed.{FeedsEnd}
 use Rattle.qw_group_sink.proofs.GroupedFeeds.{grouped, grouped_runs}
 use Rattle.qw_group_sink.proofs.GroupSunk.{HasRows, groups_later, row_entered}
 use Rattle.qw_group_sink.proofs.PipelineTo.{ScannedTo, pipeline_to_feeds}
 use Rattle.qw_group_sink.proofs.RowCounted.{enter_spared}
+
+-- room knows nothing of a local behind its own
+pub room_put : (part offset z : ℕ) (v : Value) (s : LowState) → 3 ≤ z → HasRoom part offset s → HasRoom part offset (record s { locals = slice_set s.locals z v })
+room_put part offset z v s high h = record {
+  last = h.last;
+  pages = h.pages;
+  within = h.within;
+  free = slice_get-set_other s.locals z 1 v (λ e. omega (arith, e, high)) ∙ h.free;
+  left = slice_get-set_other s.locals z 2 v (λ e. omega (arith, e, high)) ∙ h.left;
+  zeros = h.zeros;
+  owned = h.owned;
+  limited = h.limited;
+  few = h.few;
+}
 
 -- a table of groups knows nothing of a local that is neither free space's nor leads to it
 groups_put : (c : Cells) (s : LowState) (key : List Field) (aggregates : List Aggregate) (k o d u before z : ℕ) (v : Value) (rows : List (List Val)) → 3 ≤ z → z < d → HasRows c key aggregates k o d u before rows s s →
@@ -43,17 +58,7 @@ groups_put c s key aggregates k o d u before z v rows high low h =
     groups_later c s (record s { locals = slice_set s.locals z v }) key aggregates k o d u before rows (record { columns = refl; own = λ j size is. is }) (record {
       part = h.part;
       offset = h.offset;
-      room = record {
-        last = h.room.last;
-        pages = h.room.pages;
-        within = h.room.within;
-        free = slice_get-set_other s.locals z 1 v (λ e. omega (arith, e, high)) ∙ h.room.free;
-        left = slice_get-set_other s.locals z 2 v (λ e. omega (arith, e, high)) ∙ h.room.left;
-        zeros = h.room.zeros;
-        owned = h.room.owned;
-        limited = h.room.limited;
-        few = h.room.few;
-      };
+      room = room_put h.part h.offset z v s high h.room;
       at = slice_get-set_other s.locals z d v (λ e. omega (arith, e, low)) ∙ h.at;
       chains = h.chains;
       directory = h.directory;
@@ -100,8 +105,8 @@ module _ (c : Cells) (stoods : List Stood) (base : ℕ) (high : 5 + length stood
   guarded_turn = turn_of g entries chosen
 
   -- what the block of one row feeds
-  pub row_guarded : FeedsEnd c stoods base first_grouped most fuel many types GuardedEnd g.values guarded_turn
-  row_guarded N next known row a own s some fueled low room within declared own_types h at kinds units here =
+  pub row_guarded : FeedsEnd c stoods base first_grouped most fuel many types GuardedEnd (select g.values) guarded_turn
+  row_guarded N next known row a own s some fueled low room within declared own_types h at kinds few units here =
       let is = h.grouped in
       let five = base_high c stoods base all all_runs in
       let own_many : length own ≡ length is.items_own + 24 = ap (λ (l : List ValType). length l) is.own_is ∙ length-append is.items_own group_types in

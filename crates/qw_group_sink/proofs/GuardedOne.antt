@@ -27,7 +27,8 @@ use Rattle.qw_operator.proofs.Stood.{Stood, built_of}
 use Rattle.qw_group_sink.specs.Carrying.{pipeline_cost_to}
 use Rattle.qw_group_sink.specs.Grouping.{CanGroup, Group, over_fields}
 use Rattle.qw_group_sink.specs.Guarded.{IsOneGroupWithin}
-use Rattle.qw_group_sink.proofs.CarriedTo.{FeedsEnd}
+use Rattle.qw_operator.proofs.OperatorsFeed.{FeedsEnd}
+use Rattle.qw_group_sink.proofs.GuardedFeeds.{room_put}
 use Rattle.qw_group_sink.proofs.OneFeeds.{HasOne, one_entered, one_later, taken, taken_runs}
 use Rattle.qw_group_sink.proofs.PipelineTo.{ScannedTo, pipeline_to_feeds}
 use Rattle.qw_group_sink.proofs.RowCounted.{one_enter_spared}
@@ -39,17 +40,7 @@ one_put c s aggregates k o e u budget z v rows high low h =
     one_later c s (record s { locals = slice_set s.locals z v }) aggregates k o e u budget rows (record { columns = refl; own = λ j size is. is }) (record {
       part = h.part;
       offset = h.offset;
-      room = record {
-        last = h.room.last;
-        pages = h.room.pages;
-        within = h.room.within;
-        free = slice_get-set_other s.locals z 1 v (λ i. omega (arith, i, high)) ∙ h.room.free;
-        left = slice_get-set_other s.locals z 2 v (λ i. omega (arith, i, high)) ∙ h.room.left;
-        zeros = h.room.zeros;
-        owned = h.room.owned;
-        limited = h.room.limited;
-        few = h.room.few;
-      };
+      room = room_put h.part h.offset z v s high h.room;
       at = slice_get-set_other s.locals z e v (λ i. omega (arith, i, low)) ∙ h.at;
       sized = h.sized;
       inside = h.inside;
@@ -86,8 +77,8 @@ module _ (c : Cells) (stoods : List Stood) (base : ℕ) (high : 5 + length stood
   GuardedEnd known next a own = IsOneGroupWithin (Some z) fields known next g a own
 
   -- what the block of one row feeds
-  pub row_first_taken : FeedsEnd c stoods base first_taken most fuel many types GuardedEnd g.values chosen
-  row_first_taken N next known row a own s some fueled low room within declared own_types h at kinds units here =
+  pub row_first_taken : FeedsEnd c stoods base first_taken most fuel many types GuardedEnd (select g.values) chosen
+  row_first_taken N next known row a own s some fueled low room within declared own_types h at kinds few units here =
       let is = h.grouped in
       let five = base_high c stoods base all all_runs in
       let own_many : length own ≡ length is.items_own + 9 = ap (λ (l : List ValType). length l) is.own_is ∙ length-append is.items_own area_types in

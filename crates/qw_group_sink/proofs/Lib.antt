@@ -1,14 +1,11 @@
 pub mod FieldParts
 pub mod GroupSunk
-pub mod CarriedTo
-pub mod RowTo
 pub mod PipelineTo
 pub mod GroupedFeeds
 pub mod GroupTyped
 pub mod OneFeeds
 pub mod OneTyped
 pub mod GroupEmitted
-pub mod CarriedEmitted
 pub mod PlainRows
 pub mod Redeclared
 pub mod RowCounted

@@ -43,7 +43,7 @@ use Rattle.qw_operator.proofs.Stood.{Stood, built_of}
 use Rattle.qw_group_sink.specs.Carrying.{pipeline_cost_to}
 use Rattle.qw_group_sink.specs.Grouping.{CanGroup, Group, TakeKinds, over_fields}
 use Rattle.qw_group_sink.specs.OneGroup.{IsOneGroup}
-use Rattle.qw_group_sink.proofs.CarriedTo.{FeedsEnd}
+use Rattle.qw_operator.proofs.OperatorsFeed.{FeedsEnd}
 use Rattle.qw_group_sink.proofs.FieldParts.{arguments_use, chosen_over, given, over_few}
 use Rattle.qw_group_sink.proofs.PipelineTo.{ScannedTo, pipeline_to_feeds}
 
@@ -147,8 +147,8 @@ module _ (c : Cells) (stoods : List Stood) (base : ℕ) (high : 5 + length stood
       (omega (arith, five_kept, long, room, own_many)))
 
   -- what the block of one row feeds
-  pub row_taken : FeedsEnd c stoods base taken most fuel many types End g.values chosen
-  row_taken N next known row a own s some fueled low room within declared own_types is at kinds units here =
+  pub row_taken : FeedsEnd c stoods base taken most fuel many types End (select g.values) chosen
+  row_taken N next known row a own s some fueled low room within declared own_types is at kinds few units here =
       let own_many : length own ≡ length is.items_own + 9 = ap (λ (l : List ValType). length l) is.own_is ∙ length-append is.items_own area_types in
       let item_types : AreOwn types next is.items_own = first_own_types types next own is.items_own area_types is.own_is own_types in
       subst (λ (b : Statement). FeedsTo taken most fuel N (Below next) Any (fed (built_of stoods) [] (select g.values) row) b s) (sym is.is)

@@ -16,8 +16,8 @@ use Rattle.qw_table.specs.Outer.{OuterProbes, goes_on, outer_choice, outer_front
 use Rattle.qw_table.specs.Tables.{probe_block}
 use Rattle.qw_table.specs.declared.key.Field.{Field}
 use Rattle.qw_physical.specs.Physical.{Operator, Probe, filter, probe}
-use Rattle.qw_operator.specs.Carries.{IsFiltered, IsLookedUp, IsOuterProbed, IsProbed, behind_filter, clear_block, directory, known_entry}
-use Rattle.qw_group_sink.specs.Carrying.{IsCarriedTo, IsRowTo}
+use Rattle.qw_operator.specs.Carries.{IsCarriedTo, IsFiltered, IsLookedUp, IsOuterProbed, IsProbed, behind_filter, clear_block, directory, known_entry}
+use Rattle.qw_group_sink.specs.Carrying.{IsRowTo}
 
 module _ (z : ℕ) where
   -- where the one block spares the local, the other counts down

@@ -9,7 +9,7 @@ use Rattle.qw_module.specs.declared.instruction.ValType.{ValType}
 use Rattle.qw_module.specs.declared.instruction.ValType.TheVariants.{I32, I64}
 use Rattle.qw_low.specs.Syntax.{Statement}
 use Rattle.qw_low.specs.Typing.{IsTyped}
-use Rattle.qw_feed.specs.Stages.{Among, items_block}
+use Rattle.qw_feed.specs.Stages.{items_block}
 use Rattle.qw_feed.specs.Scans.{rows_block}
 use Rattle.qw_limit.specs.Counting.{CountsDown, Spares}
 use Rattle.qw_limit.proofs.CountedBlocks.{rows_count, spares_counts}
@@ -24,7 +24,7 @@ use Rattle.qw_physical.specs.Physical.{Operator}
 use Rattle.qw_operator.specs.Carries.{directory}
 use Rattle.qw_operator.proofs.CarriedTyped.{AreLed, IsReaderDeclared}
 use Rattle.qw_operator.proofs.Fronts.{all_more}
-use Rattle.qw_operator.proofs.PipelineFeeds.{Between, Laid}
+use Rattle.qw_operator.proofs.PipelineFeeds.{Laid, laid_within}
 use Rattle.qw_operator.proofs.Promised.{AreOwn}
 use Rattle.qw_operator.proofs.Seen.{AreWithin}
 use Rattle.qw_group_sink.specs.Carrying.{IsRowTo}
@@ -33,7 +33,6 @@ use Rattle.qw_group_sink.specs.Guarded.{IsGroupedWithin, IsOneGroupWithin}
 use Rattle.qw_group_sink.specs.OneGroup.{IsOneGroup}
 use Rattle.qw_group_sink.proofs.GroupTyped.{grouped_typed, row_to_typed}
 use Rattle.qw_group_sink.proofs.OneTyped.{one_typed}
-use Rattle.qw_group_sink.proofs.PipelineTo.{uses_more}
 use Rattle.qw_group_sink.proofs.PlainRows.{Follows, row_plain}
 use Rattle.qw_group_sink.proofs.Redeclared.{known_again, led_again, own_again, readers_again, same_other}
 
@@ -68,9 +67,7 @@ module _ (types : List ValType) (free_is : slice_get types 1 ≡ Some I32) (left
   -- ---- a row of the scan, and the scan, whatever is innermost
   module _ (literals : List Known) (readers : List Reader) (base left end low next : ℕ) (five : 5 ≤ base) (laid : Laid literals readers base left end low next) (declared : AreDeclared types (literals ++ map known_of readers)) (readers_declared : AllByRecursion (IsReaderDeclared types) readers) where
     literals_within : AreWithin low literals
-    literals_within =
-        let order = laid.counters in
-        uses_more (Between end low) (Among low) literals (λ i between. (omega (arith, between.0, order.0, order.1, five), between.1)) laid.within
+    literals_within = laid_within literals readers base left end low next laid five
 
     narrow_known : AreDeclared narrow (literals ++ map known_of readers)
     narrow_known =

@@ -8,8 +8,8 @@ use Rattle.qw_read.specs.declared.reader.Reader.{Reader}
 use Rattle.qw_scalar.specs.Expression.{Condition}
 use Rattle.qw_table.specs.declared.key.Field.{Field}
 use Rattle.qw_physical.specs.Physical.{Operator, Probe, filter, probe}
-use Rattle.qw_operator.specs.Carries.{IsFiltered, IsLookedUp, IsOuterProbed, IsProbed}
-use Rattle.qw_group_sink.specs.Carrying.{EmitsRowTo, EmitsTo, IsCarriedTo}
+use Rattle.qw_operator.specs.Carries.{EmitsTo, IsCarriedTo, IsFiltered, IsLookedUp, IsOuterProbed, IsProbed}
+use Rattle.qw_group_sink.specs.Carrying.{EmitsRowTo}
 use Rattle.qw_group_sink.specs.Grouping.{Group, IsGrouped}
 use Rattle.qw_group_sink.specs.Guarded.{IsGroupedWithin, IsOneGroupWithin}
 use Rattle.qw_group_sink.specs.OneGroup.{IsOneGroup}

@@ -1,14 +1,11 @@
 -- What is emitted where the rows of a pipeline go into a table of groups that takes no more of them than a local counts down from: their values are all
 -- evaluated, and what puts a row into its group is guarded.
-use Rattle.std.specs.Prelude.{◌≡◌, ℕ, ◌++◌, Option, Some, None, List}
+use Rattle.std.specs.Prelude.{◌≡◌, ℕ, Option, Some, None, List}
 use Rattle.qw_module.specs.declared.instruction.ValType.{ValType}
-use Rattle.qw_low.specs.Steps.{steps_of}
 use Rattle.qw_low.specs.Syntax.{Statement, seq}
 use Rattle.qw_feed.specs.Stages.{items_block}
 use Rattle.qw_limit.specs.Counting.{guarded_block}
 use Rattle.qw_expr.specs.Computes.{Known}
-use Rattle.qw_expr.specs.Emits.{free_of}
-use Rattle.qw_expr.specs.declared.emitter.Emitter.{Emitter}
 use Rattle.qw_table.specs.declared.key.Field.{Field}
 use Rattle.qw_group_sink.specs.Grouping.{Group, IsGrouped}
 use Rattle.qw_group_sink.specs.OneGroup.{IsOneGroup}
@@ -36,12 +33,3 @@ pub record IsOneGroupWithin (guard : Option ℕ) (fields : List Field) (known : 
 abbrev pub IsPut : Place → (guard : Option ℕ) → (fields : List Field) → (known : List Known) → (next : ℕ) → Group → Statement → List ValType → Type 0
 IsPut places.Table guard fields known next g a own = IsGroupedWithin guard fields known next g a own
 IsPut places.OneGroup guard fields known next g a own = IsOneGroupWithin guard fields known next g a own
-
--- from one state of an emitter to another such a block was added, with the types of its own locals
-pub record EmitsPut (place : Place) (guard : Option ℕ) (fields : List Field) (known : List Known) (g : Group) (old new : Emitter) : Type 0 where
-  pub first_is : new.first ≡ old.first
-  pub statement : Statement
-  pub own : List ValType
-  pub code_is : new.block.code.items ≡ old.block.code.items ++ steps_of statement
-  pub own_is : new.own.items ≡ old.own.items ++ own
-  pub put : IsPut place guard fields known (free_of old) g statement own

@@ -1,1 +1,1 @@
-pub mod RowsTo
+pub mod Entering

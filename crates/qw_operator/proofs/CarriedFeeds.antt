@@ -137,6 +137,33 @@ pub met_units : (costs : List Val → ℕ) (p : Probe) (row key entry : List Val
 met_units costs p row key entry is =
     ap (λ (b : Bool). text_octets key + (if b then units_of_all p.on (at_row (pair_of p row entry)) + where_passed (passes p.on (at_row (pair_of p row entry))) (costs (pair_of p row entry)) else 0)) is
 
+-- ---- a table that is looked up by the values of a key
+abbrev pub kept_kinds : Probe → List (Option Kind)
+kept_kinds p = map (λ (d : ReadColumn). let k : Option Kind = Some (type_kind d.ty) in k) p.kept
+
+pub record KeyedTable (c : Cells) (p : Probe) (st : Stood) (key : List Field) (t : LowState) : Type 0 where
+  pub key_many : length key ≡ length p.key
+  pub fields_many : st.fields ≡ length key
+  pub kinds_there : kinds_of (sources_of st.cells) ≡ kinds_of (sources_of key) ++ kept_kinds p
+  pub placed : (j : ℕ) → j < 1024 → ArePlaced (keyed (length p.key)) st.chains j
+  pub table_there : IsTable (HasJoinEntry (StandsIn c t) (kinds_of (sources_of st.cells)) (length key)) (keyed (length key)) (entry_size 0 (length st.cells) 0) st.part st.offset st.front st.chains st.entries t.cells t.own
+
+pub keyed_table : (c : Cells) (p : Probe) (known : List Known) (next : ℕ) (items : List Item) (own : List ValType) (key : List Field) → AreComputed known next p.key items own → outs_of (all_moved items) ≡ sources_of key → (st : Stood) → Serves p st → (t : LowState) → StandsTable c p.table st t → KeyedTable c p st key t
+keyed_table c p known next items own key computed key_is st serves t stood = record {
+  key_many = many;
+  fields_many = serves.fields ∙ sym many;
+  kinds_there = serves.kinds ∙ ap (λ (ks : List (Option Kind)). ks ++ kept_kinds p) (sym kinds);
+  placed = subst (λ (n : ℕ). (j : ℕ) → j < 1024 → ArePlaced (keyed n) st.chains j) serves.fields
+      (table_placed (EntryOf c t st.cells st.fields) (keyed st.fields) (entry_size 0 (length st.cells) 0) st.part st.offset st.front st.chains st.entries t.cells t.own stood.table);
+  table_there = subst (λ (n : ℕ). IsTable (HasJoinEntry (StandsIn c t) (kinds_of (sources_of st.cells)) n) (keyed n) (entry_size 0 (length st.cells) 0) st.part st.offset st.front st.chains st.entries t.cells t.own) (serves.fields ∙ sym many) stood.table;
+}
+  where
+    many : length key ≡ length p.key
+    many = sym (sources_many key) ∙ (ap (λ (os : List Source). length os) (sym key_is) ∙ (moved_many items ∙ items_many known next p.key items own computed))
+
+    kinds : kinds_of (sources_of key) ≡ map kind_of p.key
+    kinds = ap kinds_of (sym key_is) ∙ (kinds_moved items ∙ items_kinds known next p.key items own computed)
+
 module _ (c : Cells) (stoods : List Stood) (base : ℕ) (sink : FlowSink) (runs : Runs c stoods base sink) (most fuel many : ℕ) (types : List ValType) where
   abbrev built : List (List (List Val))
   built = built_of stoods
@@ -308,30 +335,11 @@ module _ (c : Cells) (stoods : List Stood) (base : ℕ) (sink : FlowSink) (runs 
       abbrev fields : ℕ
       fields = length h.key
 
-      key_many : length h.key ≡ length p.key
-      key_many = sym (sources_many h.key) ∙ (ap (λ (os : List Source). length os) (sym h.key_is) ∙ (moved_many h.items ∙ items_many known next p.key h.items h.key_own h.computed))
-
-      fields_many : st.fields ≡ length h.key
-      fields_many = serves.fields ∙ sym key_many
-
-      key_kinds : kinds_of (sources_of h.key) ≡ map kind_of p.key
-      key_kinds = ap kinds_of (sym h.key_is) ∙ (kinds_moved h.items ∙ items_kinds known next p.key h.items h.key_own h.computed)
-
-      abbrev kept_kinds : List (Option Kind)
-      kept_kinds = map (λ (d : ReadColumn). let k : Option Kind = Some (type_kind d.ty) in k) p.kept
-
-      kinds_there : kinds_of (sources_of st.cells) ≡ kinds_of (sources_of h.key) ++ kept_kinds
-      kinds_there = serves.kinds ∙ ap (λ (ks : List (Option Kind)). ks ++ kept_kinds) (sym key_kinds)
-
       stood : StandsTable c p.table st t
       stood = here.stand p.table st there
 
-      placed : (j : ℕ) → j < 1024 → ArePlaced (keyed (length p.key)) st.chains j
-      placed = subst (λ (n : ℕ). (j : ℕ) → j < 1024 → ArePlaced (keyed n) st.chains j) serves.fields
-          (table_placed (EntryOf c t st.cells st.fields) (keyed st.fields) (entry_size 0 (length st.cells) 0) st.part st.offset st.front st.chains st.entries t.cells t.own stood.table)
-
-      table_there : IsTable (HasJoinEntry (StandsIn c t) (kinds_of (sources_of st.cells)) fields) (keyed fields) (entry_size 0 (length st.cells) 0) st.part st.offset st.front st.chains st.entries t.cells t.own
-      table_there = subst (λ (n : ℕ). IsTable (HasJoinEntry (StandsIn c t) (kinds_of (sources_of st.cells)) n) (keyed n) (entry_size 0 (length st.cells) 0) st.part st.offset st.front st.chains st.entries t.cells t.own) fields_many stood.table
+      found : KeyedTable c p st h.key t
+      found = keyed_table c p known next h.items h.key_own h.key h.computed h.key_is st serves t stood
 
       pub looked_up : (N : ℕ) → N ≤ fuel → 1 + (text_octets key + spend (λ (e : Row). units_met e.values) es) ≤ N → AllSupply (StandsIn c t) t.locals (sources_of h.key) key → AllUse (Among free) (sources_of h.key) →
           FeedsTo sink most fuel N (Below next) Any (where_values (flow_over (met feed p row key) (get_or built p.table [])) key) h.look_up t
@@ -339,20 +347,20 @@ module _ (c : Cells) (stoods : List Stood) (base : ℕ) (sink : FlowSink) (runs 
           let long = here.long in
           let high = runs.high in
           let inside = slice_get_within stoods p.table st there in
-          subst (λ (f : Flow (List Val)). FeedsTo sink most fuel N (Below next) Any (where_values f key) h.look_up t) (sym (slot_met p row key stoods st there placed feed fields key_many))
+          subst (λ (f : Flow (List Val)). FeedsTo sink most fuel N (Below next) Any (where_values f key) h.look_up t) (sym (slot_met p row key stoods st there found.placed feed fields found.key_many))
           (feeds_less sink most fuel N (Below free) (Below next) Any (where_values (flow_over (where_equal fields inner key) es) key) h.look_up t (λ i old. below-less next free i (omega arith) old)
-          (lookup_feeds (StandsIn c t) st.cells h.key kept_kinds kinds_there sink most fuel free (Below free) (Below first_cell) (λ i among. inr among) (old_low c stoods base sink runs free (omega (arith, low))) (λ i old. below-less free first_cell i (omega arith) old)
+          (lookup_feeds (StandsIn c t) st.cells h.key (kept_kinds p) found.kinds_there sink most fuel free (Below free) (Below first_cell) (λ i among. inr among) (old_low c stoods base sink runs free (omega (arith, low))) (λ i old. below-less free first_cell i (omega arith) old)
           (inr (omega (arith, five), omega arith)) (λ rows x y kept. runs.kept free rows x y (omega (arith, low)) kept) (seq h.reads h.rest) inner units_met
           st.part st.offset st.front st.chains st.entries key t (runs.tables_spared p.table st there)
           (λ w keeps q at octets text. stands_more c w q at octets (less_keeps c (Below free) sink.Spared t w runs.seen_spared keeps here.less) (stands_later c t w q at octets (longer_keeps (Below free) sink.Spared t w keeps) text))
-          (λ entry. omega arith) (omega (arith, bound, enough)) uses supplied table_there
+          (λ entry. omega arith) (omega (arith, bound, enough)) uses supplied found.table_there
           (λ e done left w at leads keeps has same.
           let all = spend_has (λ (d : Row). units_met d.values) done e left in
           let within_all : units_met e.values ≤ spend (λ (d : Row). units_met d.values) es = subst (λ (l : List Row). units_met e.values ≤ spend (λ (d : Row). units_met d.values) l) (sym at) all in
           met_feeds e w
           (one_of (λ (d : Row). AreStored p.kept (drop (length p.key) d.values)) done e left (subst (AllByRecursion (λ (d : Row). AreStored p.kept (drop (length p.key) d.values))) at (serves.stored (slot key) (slot-low key))))
-          leads keeps (subst (λ (n : ℕ). HasJoinEntry (StandsIn c t) (kinds_of (sources_of st.cells)) n w.cells e.part e.offset e.values) (sym fields_many) has)
-          (subst (λ (n : ℕ). is_same_row key (take n e.values) ≡ true) key_many same) (omega (arith, within_all, bound, enough)))
+          leads keeps (subst (λ (n : ℕ). HasJoinEntry (StandsIn c t) (kinds_of (sources_of st.cells)) n w.cells e.part e.offset e.values) (sym found.fields_many) has)
+          (subst (λ (n : ℕ). is_same_row key (take n e.values) ≡ true) found.key_many same) (omega (arith, within_all, bound, enough)))
           (directory p.table) h.look_up h.probes N (omega (arith, inside, high, low)) stood.at bound enough (omega (arith, room, own_many, long))))
 
     pub probed_feeds : (s : LowState) → Here c stoods many known row s →
@@ -369,7 +377,7 @@ module _ (c : Cells) (stoods : List Stood) (base : ℕ) (sink : FlowSink) (runs 
         (λ key t come kept supplied.
         let now : Here c stoods many known row t = here_kept c stoods base sink runs many next known row s t low within kept here in
         let same = value_units (values_of p.key (at_row row)) spent key come in
-        let of_chain = slot_spent p row key stoods st there (placed key t now) (met_cost costs p row key) in
+        let of_chain = slot_spent p row key stoods st there (let at = found key t now in at.placed) (met_cost costs p row key) in
         looked_up key t now N enough (omega (arith, same, of_chain))
         (subst (λ (os : List Source). AllSupply (StandsIn c t) t.locals os key) h.key_is
         (supply_map (StandsIn c s) (StandsIn c t) t.locals (outs_of (all_moved h.items)) key (λ q at octets. stands_later c s t q at octets (longer_kept next s t kept)) supplied))

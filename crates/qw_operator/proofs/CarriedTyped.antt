@@ -34,7 +34,7 @@ use Rattle.qw_table.proofs.OuterTyped.{outer_typed}
 use Rattle.qw_physical.specs.Courses.{column_of}
 use Rattle.qw_physical.specs.Physical.{Operator, Probe, Sink, build, filter, probe, select}
 use Rattle.qw_physical.specs.declared.pipeline.ReadColumn.{ReadColumn}
-use Rattle.qw_operator.specs.Carries.{IsCarried, IsFiltered, IsGuardedRow, IsLookedUp, IsOuterProbed, IsProbed, IsReadRow, IsRow, IsSunk, ReadsEntry, all_moved, behind_filter, clear_block, directory, entry_types, first_filter, known_entry, moved}
+use Rattle.qw_operator.specs.Carries.{IsCarriedTo, IsFiltered, IsGuardedRow, IsLookedUp, IsOuterProbed, IsProbed, IsReadRow, IsRow, IsSunk, ReadsEntry, all_moved, behind_filter, clear_block, directory, entry_types, first_filter, known_entry, moved}
 use Rattle.qw_operator.specs.Emitted.{AreComputed, AreDecided, ReadsPart, known_after, last_end}
 use Rattle.qw_operator.specs.Guarded.{picked, sure_where}
 use Rattle.qw_operator.specs.Takes.{CanSink}
@@ -43,6 +43,7 @@ use Rattle.qw_operator.proofs.EntryReads.{cell_three, entry_declared, entry_many
 use Rattle.qw_leaves.proofs.LeafLists.{all_back, all_front}
 use Rattle.qw_operator.proofs.Promised.{AreOwn, first_own_types, rest_own_types}
 use Rattle.qw_operator.proofs.Fronts.{all_more, all_take}
+use Rattle.qw_operator.proofs.RowFeeds.{behind_first}
 use Rattle.qw_operator.proofs.StrictLemmas.{all_picked}
 
 -- ---- premises
@@ -307,7 +308,7 @@ module _ (types : List ValType) where
           (room_typed n small, (sources_typed (sources_of cells) 24 cells_are, entered_typed n d (free + 3) (free + 4) small d_is (own 3 I32 refl) (own 4 I32 refl))),
         ))
 
-    sunk_typed : (snk : Sink) (known : List Known) (next : ℕ) (a : Statement) (own : List ValType) → AreDeclared types known → AreOwn types next own → IsLed types snk → CanSink snk → IsSunk known next snk a own → IsTyped types a
+    sunk_typed : (snk : Sink) (known : List Known) (next : ℕ) (a : Statement) (own : List ValType) → AreDeclared types known → AreOwn types next own → IsLed types snk → CanSink snk → IsSunk snk known next a own → IsTyped types a
     sunk_typed (build b) known next a own declared own_types led can h =
         let values : List Expression = b.key ++ map column_of b.kept in
         let item_types = first_own_types types next own h.items_own build_types h.own_is own_types in
@@ -326,28 +327,32 @@ module _ (types : List ValType) where
           pushed_typed (8 + 16 * length items) (cells_block 8 (outs_of h.made)) (omega (arith, can)) led.0 led.1 (sources_typed (outs_of h.made) 8 (plain_outs known next items h.made own declared own_types h.computed)),
         )
 
-    -- ---- all operators, and a row of the scan
-    pub carried_typed : (operators : List Operator) (snk : Sink) (known : List Known) (next : ℕ) (a : Statement) (own : List ValType) → AreDeclared types known → AreOwn types next own → AreLed types operators → IsLed types snk → CanSink snk → IsCarried known next operators snk a own → IsTyped types a
-    carried_typed [] snk known next a own declared own_types led sink_led can h = sunk_typed snk known next a own declared own_types sink_led can h
-    carried_typed (filter cs ∷ operators) snk known next a own declared own_types led sink_led can h =
-        filtered_typed known next cs (λ after b more. IsCarried known after operators snk b more) a own declared own_types h (λ after b more more_types rest. carried_typed operators snk known after b more declared more_types led sink_led can rest)
-    carried_typed (probe p ∷ operators) snk known next a own declared own_types led sink_led can h =
-        looked_up_typed known next p (λ held after b more. IsCarried held after operators snk b more) a own declared own_types led.0 h
-        (λ held after b more held_declared more_types rest. carried_typed operators snk held after b more held_declared more_types led.1 sink_led can rest)
-
+    -- ---- all operators, and a row of the scan, where what is innermost is typed
     pub led_behind : (operators : List Operator) → AreLed types operators → AreLed types (behind_filter operators)
-    led_behind [] led = led
-    led_behind (filter cs ∷ operators) led = led
-    led_behind (probe p ∷ operators) led = led
+    led_behind operators led = behind_first (AreLed types) (λ cs os rest. rest) operators led
 
-    read_row_typed : (literals : List Known) (readers : List Reader) (next : ℕ) (cs : List Condition) (operators : List Operator) (snk : Sink) (a : Statement) (own : List ValType) → AreDeclared types (literals ++ map known_of readers) → AllByRecursion (IsReaderDeclared types) readers → AreOwn types next own →
-        AreLed types operators → IsLed types snk → CanSink snk → IsReadRow literals readers next cs operators snk a own → IsTyped types a
-    read_row_typed literals readers next cs operators snk a own declared readers_declared own_types led sink_led can h =
-        subst (IsTyped types) (sym h.is)
-        (decided_typed literals readers declared readers_declared next 0 h.ends cs h.tests h.tests_own (seq h.reads h.rest) (first_own_types types next own h.tests_own h.rest_own h.own_is own_types) h.decided (
-          part_typed literals readers declared readers_declared (last_end 0 h.ends) (length readers) h.reads h.reading,
-          carried_typed operators snk (literals ++ map known_of readers) (next + length h.tests_own) h.rest h.rest_own declared (rest_own_types types next own h.tests_own h.rest_own h.own_is own_types) led sink_led can h.carried,
-        ))
+    module _ (End : List Known → (next : ℕ) → Statement → List ValType → Type 0) (end_typed : (known : List Known) (next : ℕ) (a : Statement) (own : List ValType) → AreDeclared types known → AreOwn types next own → End known next a own → IsTyped types a) where
+      pub carried_to_typed : (operators : List Operator) (known : List Known) (next : ℕ) (a : Statement) (own : List ValType) → AreDeclared types known → AreOwn types next own → AreLed types operators → IsCarriedTo End known next operators a own → IsTyped types a
+      carried_to_typed [] known next a own declared own_types led h = end_typed known next a own declared own_types h
+      carried_to_typed (filter cs ∷ operators) known next a own declared own_types led h =
+          filtered_typed known next cs (λ after b more. IsCarriedTo End known after operators b more) a own declared own_types h (λ after b more more_types rest. carried_to_typed operators known after b more declared more_types led rest)
+      carried_to_typed (probe p ∷ operators) known next a own declared own_types led h =
+          looked_up_typed known next p (λ held after b more. IsCarriedTo End held after operators b more) a own declared own_types led.0 h
+          (λ held after b more held_declared more_types rest. carried_to_typed operators held after b more held_declared more_types led.1 rest)
+
+      pub read_row_typed : (literals : List Known) (readers : List Reader) (next : ℕ) (cs : List Condition) (operators : List Operator) (a : Statement) (own : List ValType) → AreDeclared types (literals ++ map known_of readers) → AllByRecursion (IsReaderDeclared types) readers → AreOwn types next own →
+          AreLed types operators → IsReadRow End literals readers next cs operators a own → IsTyped types a
+      read_row_typed literals readers next cs operators a own declared readers_declared own_types led h =
+          subst (IsTyped types) (sym h.is)
+          (decided_typed literals readers declared readers_declared next 0 h.ends cs h.tests h.tests_own (seq h.reads h.rest) (first_own_types types next own h.tests_own h.rest_own h.own_is own_types) h.decided (
+            part_typed literals readers declared readers_declared (last_end 0 h.ends) (length readers) h.reads h.reading,
+            carried_to_typed operators (literals ++ map known_of readers) (next + length h.tests_own) h.rest h.rest_own declared (rest_own_types types next own h.tests_own h.rest_own h.own_is own_types) led h.carried,
+          ))
+
+    -- ---- where a sink is innermost
+    pub carried_typed : (operators : List Operator) (snk : Sink) (known : List Known) (next : ℕ) (a : Statement) (own : List ValType) → AreDeclared types known → AreOwn types next own → AreLed types operators → IsLed types snk → CanSink snk → IsCarriedTo (IsSunk snk) known next operators a own → IsTyped types a
+    carried_typed operators snk known next a own declared own_types led sink_led can h =
+        carried_to_typed (IsSunk snk) (λ ks n b more is_known are_own sunk. sunk_typed snk ks n b more is_known are_own sink_led can sunk) operators known next a own declared own_types led h
 
     -- behind a test of null bits
     reader_sure_declared : (f : Reader → Bool) (r : Reader) → IsReaderDeclared types r → IsReaderDeclared types (sure_where f r)
@@ -379,7 +384,7 @@ module _ (types : List ValType) where
           test.0,
           (
             test.1,
-            read_row_typed literals sure (next + length (test_types tested)) cs operators snk h.inner h.inner_own known sure_types (rest_own_types types next own (test_types tested) h.inner_own h.own_is own_types) led sink_led can h.within,
+            read_row_typed (IsSunk snk) (λ ks n b more is_known are_own sunk. sunk_typed snk ks n b more is_known are_own sink_led can sunk) literals sure (next + length (test_types tested)) cs operators h.inner h.inner_own known sure_types (rest_own_types types next own (test_types tested) h.inner_own h.own_is own_types) led h.within,
             tt,
           ),
         )
@@ -387,6 +392,6 @@ module _ (types : List ValType) where
     pub row_typed : (literals : List Known) (readers : List Reader) (next : ℕ) (operators : List Operator) (snk : Sink) (a : Statement) (own : List ValType) → AreDeclared types (literals ++ map known_of readers) → AllByRecursion (IsReaderDeclared types) readers → AreOwn types next own →
         AreLed types operators → IsLed types snk → CanSink snk → IsRow literals readers next operators snk a own → IsTyped types a
     row_typed literals readers next operators snk a own declared readers_declared own_types led sink_led can (inl h) =
-        read_row_typed literals readers next (first_filter operators) (behind_filter operators) snk a own declared readers_declared own_types (led_behind operators led) sink_led can h
+        read_row_typed (IsSunk snk) (λ ks n b more is_known are_own sunk. sunk_typed snk ks n b more is_known are_own sink_led can sunk) literals readers next (first_filter operators) (behind_filter operators) a own declared readers_declared own_types (led_behind operators led) h
     row_typed literals readers next operators snk a own declared readers_declared own_types led sink_led can (inr h) =
         guarded_row_typed literals readers next (first_filter operators) (behind_filter operators) snk a own declared readers_declared own_types (led_behind operators led) sink_led can h

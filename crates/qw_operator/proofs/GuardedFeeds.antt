@@ -10,12 +10,11 @@ use Rattle.qw_types.specs.declared.value.Val.{Val}
 use Rattle.qw_map.proofs.AreaLemmas.{all-append}
 use Rattle.qw_module.specs.Numbers.{truth}
 use Rattle.qw_module.specs.declared.instruction.ValType.{ValType}
-use Rattle.qw_meaning.specs.Flow.{Flow, values_of}
+use Rattle.qw_meaning.specs.Flow.{Flow}
 use Rattle.qw_scalar.specs.Columns.{HasColumns}
 use Rattle.qw_scalar.specs.Conjuncts.{passes}
 use Rattle.qw_scalar.specs.Evaluation.{at_row, cell_of, chosen, truth_of}
 use Rattle.qw_scalar.specs.Expression.{Condition, Expression}
-use Rattle.qw_scalar.specs.Typing.{HasKind}
 use Rattle.qw_low.specs.Syntax.{Statement}
 use Rattle.qw_low.specs.State.{Cells, Number, LowState}
 use Rattle.qw_low.specs.Meaning.{meaning, value}
@@ -43,20 +42,21 @@ use Rattle.qw_feed.specs.Frames.{Below}
 use Rattle.qw_feed.specs.Stages.{Among, Test, all_true, tests_block, truth_word}
 use Rattle.qw_feed.proofs.Frames.{Never, below-less}
 use Rattle.qw_feed.proofs.InnerFeeds.{tests_feed}
-use Rattle.qw_table.specs.Keys.{text_octets}
-use Rattle.qw_physical.specs.Courses.{cost, fed, sink_key, sink_values}
+use Rattle.qw_physical.specs.Courses.{fed, sink_values}
 use Rattle.qw_physical.specs.Physical.{Operator, Sink, filter, probe}
 use Rattle.qw_physical.specs.declared.pipeline.ReadColumn.{ReadColumn}
 use Rattle.qw_operator.specs.Carries.{IsGuardedRow, IsRow, IsSunk, behind_filter, first_filter}
+use Rattle.qw_operator.specs.Costs.{cost_to}
 use Rattle.qw_operator.specs.Guarded.{picked, sure_where}
-use Rattle.qw_operator.specs.Takes.{CanCarry, CanSink, anywhere}
+use Rattle.qw_operator.specs.Takes.{CanCarry, anywhere}
 use Rattle.qw_operator.proofs.ColumnReads.{At, at_kept, cells_wider, low_next, there_more}
-use Rattle.qw_operator.proofs.Filters.{Runs, Here, old_low}
+use Rattle.qw_operator.proofs.Filters.{Runs, old_low}
 use Rattle.qw_operator.proofs.Fronts.{all_more}
 use Rattle.qw_operator.proofs.KnownLeaves.{AreFit, Fits}
 use Rattle.qw_operator.proofs.Knowing.{carry_over}
+use Rattle.qw_operator.proofs.OperatorsFeed.{FeedsEnd, sink_turn}
 use Rattle.qw_operator.proofs.PairRows.{AreApart, AreNew, IsNullAt}
-use Rattle.qw_operator.proofs.Promised.{AreOwn, IsItemAt, rest_own_types}
+use Rattle.qw_operator.proofs.Promised.{AreOwn, rest_own_types}
 use Rattle.qw_operator.proofs.RowFeeds.{fed_first, read_row_feeds}
 use Rattle.qw_operator.proofs.Seen.{AreWithin, within_wider}
 use Rattle.qw_operator.proofs.Served.{AreServed}
@@ -177,15 +177,16 @@ rejected : (first : Condition) (others : List Condition) (row : List Val) → tr
 rejected first others row is = ap (λ (r : Result Truth Code). r >>= (λ t. chosen t (passes others (at_row row)) (let no : Result Bool Code = Ok Bool.false in no))) is
 
 module _ (c : Cells) (stoods : List Stood) (base : ℕ) (sink : FlowSink) (runs : Runs c stoods base sink) (most fuel many : ℕ) (types : List ValType) (snk : Sink)
-    (sunk : (N next : ℕ) (known : List Known) (row : List Val) (a : Statement) (own : List ValType) (s : LowState) → 1 ≤ N → N ≤ fuel → base ≤ next → next + length own ≤ many → AreWithin next known → AreDeclared types known → AreOwn types next own → IsSunk known next snk a own →
-    AllByRecursion (IsItemAt N row) (sink_values snk) → AllByRecursion HasKind (sink_values snk) → CanSink snk → ((vs : List Val) → values_of (sink_values snk) (at_row row) ≡ Ok vs → 1 + text_octets (sink_key snk vs) ≤ N) → Here c stoods many known row s →
-    FeedsTo sink most fuel N (Below next) Any (fed (built_of stoods) [] snk row) a s)
+    (sunk : FeedsEnd c stoods base sink most fuel many types (IsSunk snk) snk (sink_turn snk))
     (count : ℕ) (literals : List Known) (readers : List Reader) (low next : ℕ) (operators : List Operator) (a : Statement) (own : List ValType) where
   abbrev known : List Known
   known = literals ++ map known_of readers
 
   abbrev built : List (List (List Val))
   built = built_of stoods
+
+  abbrev units : List Val → ℕ
+  units row = cost_to (sink_values snk) (sink_turn snk) built operators row
 
   module _ (h : IsGuardedRow literals readers next (first_filter operators) (behind_filter operators) snk a own) (base_low : base ≤ low) (room : next + length own ≤ many)
       (cells : AreCellsIn low next readers) (within : AreWithin low literals) (readers_within : AreWithin next (map known_of readers)) (declared : AreDeclared types known) (own_types : AreOwn types next own)
@@ -247,7 +248,7 @@ module _ (c : Cells) (stoods : List Stood) (base : ℕ) (sink : FlowSink) (runs 
         octet_many (r ∷ rs) = let rest = octet_many rs in omega (arith, rest)
 
     -- within the test
-    fed_within : b ≡ false → (s : LowState) → IsAt s → 1 + cost built operators snk row ≤ fuel → FeedsTo sink most fuel (1 + cost built operators snk row) (Below low) Any (fed built operators snk row) h.inner s
+    fed_within : b ≡ false → (s : LowState) → IsAt s → 1 + units row ≤ fuel → FeedsTo sink most fuel (1 + units row) (Below low) Any (fed built operators snk row) h.inner s
     fed_within none s at enough =
         let some : AllByRecursion (λ (r : Reader). f r ≡ true → is_null_at row r ≡ false) readers = picked_back f (λ (r : Reader). is_null_at row r ≡ false) readers (null_none row tested none) in
         let sure_cells_after : AreCellsIn low after sure = cells_wider low next after sure (omega arith) (sure_cells f low next readers cells) in
@@ -255,7 +256,7 @@ module _ (c : Cells) (stoods : List Stood) (base : ℕ) (sink : FlowSink) (runs 
         let sure_declared : AreDeclared types (literals ++ map known_of sure) =
         all-append (λ (k : Known). DeclaresValue types k.operand) literals (map known_of sure) (all_front (λ (k : Known). DeclaresValue types k.operand) literals (map known_of readers) declared)
         (sure_values f types readers (all_back (λ (k : Known). DeclaresValue types k.operand) literals (map known_of readers) declared)) in
-        read_row_feeds c stoods base sink runs most fuel many types snk sunk count literals sure low after operators h.inner h.inner_own h.within base_low room_after sure_cells_after within sure_within_after sure_declared
+        read_row_feeds c stoods base sink runs most fuel many types (IsSunk snk) snk (sink_turn snk) sunk count literals sure low after operators h.inner h.inner_own h.within base_low room_after sure_cells_after within sure_within_after sure_declared
         (rest_own_types types next own locals h.inner_own h.own_is own_types) (can_sure f literals readers operators snk can) (apart_sure f [] literals readers operators apart) served row
         (names_sure f (HasLeaves (Fits row)) [] literals readers fit) nulls s
         (record {
@@ -267,9 +268,9 @@ module _ (c : Cells) (stoods : List Stood) (base : ℕ) (sink : FlowSink) (runs 
         })
         enough
 
-    guarded_feeds : (s : LowState) → IsAt s → 1 + cost built operators snk row ≤ fuel → FeedsTo sink most fuel (1 + cost built operators snk row) (Below low) Any (fed built operators snk row) a s
+    guarded_feeds : (s : LowState) → IsAt s → 1 + units row ≤ fuel → FeedsTo sink most fuel (1 + units row) (Below low) Any (fed built operators snk row) a s
     guarded_feeds s at enough =
-        let N : ℕ = 1 + cost built operators snk row in
+        let N : ℕ = 1 + units row in
         let flow : Flow (List Val) = fed built operators snk row in
         let test : Test = record { out = h.out; block = h.guard } in
         let some : 1 ≤ N = omega arith in
@@ -280,8 +281,8 @@ module _ (c : Cells) (stoods : List Stood) (base : ℕ) (sink : FlowSink) (runs 
         (λ t kept now long is. fed_within (passed b is) t now enough)
         (λ t kept is. tt)))
       where
-        left : (t : LowState) → Ends (size h.guard * (1 + cost built operators snk row)) (λ u. Kept next t u × IsAt u × (value u h.out ≡ Some (Number (truth_word (told b))))) Never (λ code. ⊥) (meaning most fuel h.guard t) →
-            Ends (size h.guard * (1 + cost built operators snk row)) (λ u. Kept next t u × IsAt u × (value u h.out ≡ Some (Number (truth_word (told b))))) Never (λ code. Raises (let r : Result Truth Code = Ok (told b) in r) code) (meaning most fuel h.guard t)
+        left : (t : LowState) → Ends (size h.guard * (1 + units row)) (λ u. Kept next t u × IsAt u × (value u h.out ≡ Some (Number (truth_word (told b))))) Never (λ code. ⊥) (meaning most fuel h.guard t) →
+            Ends (size h.guard * (1 + units row)) (λ u. Kept next t u × IsAt u × (value u h.out ≡ Some (Number (truth_word (told b))))) Never (λ code. Raises (let r : Result Truth Code = Ok (told b) in r) code) (meaning most fuel h.guard t)
         left t ends = ends
 
         passed : (d : Bool) → all_true (Ok (told d) ∷ []) ≡ Ok true → d ≡ false
@@ -303,10 +304,10 @@ module _ (c : Cells) (stoods : List Stood) (base : ℕ) (sink : FlowSink) (runs 
     pub many_next : next ≤ many
     many_next = omega (arith, room)
 
-    pub row_feeds : At c stoods base sink runs most fuel many count literals readers row low next base_low many_next cells within readers_within 0 s → 1 + cost built operators snk row ≤ fuel →
-        FeedsTo sink most fuel (1 + cost built operators snk row) (Below low) Any (fed built operators snk row) a s
+    pub row_feeds : At c stoods base sink runs most fuel many count literals readers row low next base_low many_next cells within readers_within 0 s → 1 + units row ≤ fuel →
+        FeedsTo sink most fuel (1 + units row) (Below low) Any (fed built operators snk row) a s
     row_feeds at enough = by h
       where
-        by : IsRow literals readers next operators snk a own → FeedsTo sink most fuel (1 + cost built operators snk row) (Below low) Any (fed built operators snk row) a s
-        by (inl read) = read_row_feeds c stoods base sink runs most fuel many types snk sunk count literals readers low next operators a own read base_low room cells within readers_within declared own_types can apart served row fit nulls s (record { here = at.here; there = record { whole = at.there.whole; seen_so = at.there.seen_so } }) enough
+        by : IsRow literals readers next operators snk a own → FeedsTo sink most fuel (1 + units row) (Below low) Any (fed built operators snk row) a s
+        by (inl read) = read_row_feeds c stoods base sink runs most fuel many types (IsSunk snk) snk (sink_turn snk) sunk count literals readers low next operators a own read base_low room cells within readers_within declared own_types can apart served row fit nulls s (record { here = at.here; there = record { whole = at.there.whole; seen_so = at.there.seen_so } }) enough
         by (inr guarded) = guarded_feeds guarded base_low room cells within readers_within declared own_types can apart served row fit nulls s (record { here = at.here; there = record { whole = at.there.whole; seen_so = at.there.seen_so } }) enough

@@ -1,7 +1,6 @@
 -- The reads of the columns that an entry keeps, one after another.
 use Rattle.std.proofs.Common.{◌≡◌, ℕ, ◌+◌, ◌*◌, ◌≤◌, not, List, [], ◌∷◌, ◌++◌, length, refl, sym, ap, ◌∙◌, subst, append_assoc, append-nil, length-append, arith}
 use Rattle.qw_types.specs.Kind.{type_kind}
-use Rattle.qw_types.specs.declared.kind.Kind.TheVariants as kind
 use Rattle.qw_module.specs.declared.instruction.ValType.{ValType}
 use Rattle.qw_low.specs.declared.step.LowStep.{LowStep}
 use Rattle.qw_low.specs.Steps.{steps_of}

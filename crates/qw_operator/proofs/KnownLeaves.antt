@@ -1,6 +1,6 @@
 -- What holds of the leaves of expressions: it holds of an expression's where it holds of all that is known; a row fits what another one fits
 -- that agrees on columns.
-use Rattle.std.proofs.Common.{IsUtf8, List, [], ◌∷◌, inl, inr, sym, subst}
+use Rattle.std.proofs.Common.{◌≡◌, IsUtf8, List, [], ◌∷◌, inl, inr, refl, sym, ap₂, subst}
 use Rattle.std.specs.List.{AllByRecursion}
 use Rattle.qw_types.specs.Kind.{IsOfKind, type_kind}
 use Rattle.qw_types.specs.declared.value.Val.{Val}
@@ -21,46 +21,37 @@ module _ (known : List Known) where
   IsKnown l = Knows known (stands_for l)
 
   mutual
-    pub takes_known : (e : Expression) → HasLeaves IsKnown e → TakesKnown known e
-    takes_known null h = tt
-    takes_known (number v s) h = h
-    takes_known (date d) h = h
-    takes_known (text t) h = h
-    takes_known (column i t) h = h
-    takes_known (arithmetic operator a b) h = (takes_known a h.0, takes_known b h.1)
-    takes_known (negative a) h = takes_known a h
-    takes_known (extract field a) h = takes_known a h
-    takes_known (brought a s) h = takes_known a h
-    takes_known (choice c a b) h = (take_known c h.0, (takes_known a h.1.0, takes_known b h.1.1))
+    takes_are : (e : Expression) → HasLeaves IsKnown e ≡ TakesKnown known e
+    takes_are null = refl
+    takes_are (number v s) = refl
+    takes_are (date d) = refl
+    takes_are (text t) = refl
+    takes_are (column i t) = refl
+    takes_are (arithmetic operator a b) = ap₂ (λ (A B : Type 0). A × B) (takes_are a) (takes_are b)
+    takes_are (negative a) = takes_are a
+    takes_are (extract field a) = takes_are a
+    takes_are (brought a s) = takes_are a
+    takes_are (choice c a b) = ap₂ (λ (A B : Type 0). A × B) (take_are c) (ap₂ (λ (A B : Type 0). A × B) (takes_are a) (takes_are b))
 
-    pub take_known : (c : Condition) → HaveLeaves IsKnown c → TakeKnown known c
-    take_known (comparison op a b) h = (takes_known a h.0, takes_known b h.1)
-    take_known (predicate p a) h = takes_known a h
-    take_known (both c d) h = (take_known c h.0, take_known d h.1)
-    take_known (either c d) h = (take_known c h.0, take_known d h.1)
-    take_known (negation_of c) h = take_known c h
-    take_known (is c t) h = take_known c h
+    take_are : (c : Condition) → HaveLeaves IsKnown c ≡ TakeKnown known c
+    take_are (comparison op a b) = ap₂ (λ (A B : Type 0). A × B) (takes_are a) (takes_are b)
+    take_are (predicate p a) = takes_are a
+    take_are (both c d) = ap₂ (λ (A B : Type 0). A × B) (take_are c) (take_are d)
+    take_are (either c d) = ap₂ (λ (A B : Type 0). A × B) (take_are c) (take_are d)
+    take_are (negation_of c) = take_are c
+    take_are (is c t) = take_are c
 
-  mutual
-    pub known_leaves : (e : Expression) → TakesKnown known e → HasLeaves IsKnown e
-    known_leaves null h = tt
-    known_leaves (number v s) h = h
-    known_leaves (date d) h = h
-    known_leaves (text t) h = h
-    known_leaves (column i t) h = h
-    known_leaves (arithmetic operator a b) h = (known_leaves a h.0, known_leaves b h.1)
-    known_leaves (negative a) h = known_leaves a h
-    known_leaves (extract field a) h = known_leaves a h
-    known_leaves (brought a s) h = known_leaves a h
-    known_leaves (choice c a b) h = (known_conditions c h.0, (known_leaves a h.1.0, known_leaves b h.1.1))
+  pub takes_known : (e : Expression) → HasLeaves IsKnown e → TakesKnown known e
+  takes_known e h = subst (λ (A : Type 0). A) (takes_are e) h
 
-    pub known_conditions : (c : Condition) → TakeKnown known c → HaveLeaves IsKnown c
-    known_conditions (comparison op a b) h = (known_leaves a h.0, known_leaves b h.1)
-    known_conditions (predicate p a) h = known_leaves a h
-    known_conditions (both c d) h = (known_conditions c h.0, known_conditions d h.1)
-    known_conditions (either c d) h = (known_conditions c h.0, known_conditions d h.1)
-    known_conditions (negation_of c) h = known_conditions c h
-    known_conditions (is c t) h = known_conditions c h
+  pub take_known : (c : Condition) → HaveLeaves IsKnown c → TakeKnown known c
+  take_known c h = subst (λ (A : Type 0). A) (take_are c) h
+
+  pub known_leaves : (e : Expression) → TakesKnown known e → HasLeaves IsKnown e
+  known_leaves e h = subst (λ (A : Type 0). A) (sym (takes_are e)) h
+
+  pub known_conditions : (c : Condition) → TakeKnown known c → HaveLeaves IsKnown c
+  known_conditions c h = subst (λ (A : Type 0). A) (sym (take_are c)) h
 
 -- more that is known
 module _ (xs ys : List Known) (over : (e : Expression) → Knows xs e → Knows ys e) where

@@ -23,7 +23,6 @@ pub mod CarriedTyped
 pub mod BuiltServes
 pub mod Carried
 pub mod OuterEmitted
-mod OuterOperators
 pub mod CellSteps
 mod ClearSteps
 pub mod Computed

@@ -4,15 +4,12 @@ use Rattle.std.proofs.Common.{◌≡◌, ◌≢◌, ℕ, ◌+◌, ◌*◌, ◌<�
 use Rattle.std.proofs.lemmas.List.{append-nil, map-append}
 use Rattle.std.proofs.lemmas.Option.{slice_get_within}
 use Rattle.std.specs.List.{AllByRecursion}
-use Rattle.qw_types.specs.Kind.{type_kind}
 use Rattle.qw_types.specs.ValueOrder.{is_same_row}
 use Rattle.qw_types.specs.declared.code.Code.{Code}
-use Rattle.qw_types.specs.declared.kind.Kind.{Kind}
 use Rattle.qw_types.specs.declared.value.Val.{Val}
 use Rattle.qw_types.specs.declared.value.Val.TheVariants as val
 use Rattle.qw_module.specs.declared.instruction.ValType.{ValType}
 use Rattle.qw_layout.specs.Hash.{slot}
-use Rattle.qw_layout.specs.Row.{entry_size}
 use Rattle.qw_map.proofs.AreaLemmas.{all-append}
 use Rattle.qw_map.proofs.TurnFacts.{slice_get-set_same, slice_get-set_other}
 use Rattle.qw_meaning.specs.Flow.{Flow, values_of}
@@ -20,7 +17,6 @@ use Rattle.qw_scalar.specs.Conjuncts.{passes}
 use Rattle.qw_scalar.specs.Evaluation.{value_of, at_row}
 use Rattle.qw_scalar.specs.Expression.{Expression}
 use Rattle.qw_scalar.specs.Columns.{HasColumns}
-use Rattle.qw_scalar.specs.Typing.{kind_of}
 use Rattle.qw_scalar.specs.Units.{units_of_all, units_of_items}
 use Rattle.qw_low.specs.declared.cell.Cell.{Cell}
 use Rattle.qw_low.specs.Syntax.{Statement, seq}
@@ -45,7 +41,7 @@ use Rattle.qw_feed.proofs.Frames.{Never, Kept-less, below-less}
 use Rattle.qw_table.specs.Joins.{HasJoinEntry, keyed, sources_of, where_equal, where_values}
 use Rattle.qw_table.specs.Keys.{text_octets}
 use Rattle.qw_table.specs.Outer.{Tried, goes_on, or_alone, outer_types, stands_alone}
-use Rattle.qw_table.specs.Tables.{IsTable, in_slot, values_of as row_values}
+use Rattle.qw_table.specs.Tables.{in_slot, values_of as row_values}
 use Rattle.qw_table.proofs.JoinFeeds.{slot-low}
 use Rattle.qw_table.proofs.OuterFeeds.{outer_feeds}
 use Rattle.qw_physical.specs.Courses.{alone_cost, by_values, is_alone, met, met_cost, pair_of, where_passed}
@@ -53,7 +49,7 @@ use Rattle.qw_physical.specs.Physical.{Probe}
 use Rattle.qw_physical.specs.declared.pipeline.ReadColumn.{ReadColumn}
 use Rattle.qw_operator.specs.Carries.{IsOuterProbed, all_moved, clear_block, directory, entry_types, known_entry}
 use Rattle.qw_operator.specs.Takes.{AreSized, IsTestOver, IsValueOver, anywhere}
-use Rattle.qw_operator.proofs.CarriedFeeds.{have_kinds, items_at, items_many, met_units, moved_many, one_of, passed_units, sources_many, supply_map, tests_at, value_units, values_feed}
+use Rattle.qw_operator.proofs.CarriedFeeds.{KeyedTable, have_kinds, items_at, kept_kinds, keyed_table, met_units, one_of, passed_units, supply_map, tests_at, value_units, values_feed}
 use Rattle.qw_operator.proofs.EntryReads.{cells_behind, entry_declared, entry_many, entry_told, entry_within, reads_end}
 use Rattle.qw_operator.proofs.Filters.{Runs, Here, base_high, conjuncts_then, here_keeps, here_kept, keeps_kept, old_low, stand_keeps}
 use Rattle.qw_leaves.specs.Leaves.{HasLeaves}
@@ -62,10 +58,10 @@ use Rattle.qw_operator.proofs.KnownLeaves.{AreFit, Fits}
 use Rattle.qw_operator.proofs.LookupFeeds.{spend_has}
 use Rattle.qw_operator.proofs.NullEntries.{clear_ends, null_fit}
 use Rattle.qw_operator.proofs.PairRows.{AreAt, AreDistinct, AreNew, AreStored, kept_fit, pair_at, pair_fits, pair_held, same_told}
-use Rattle.qw_operator.proofs.Promised.{AreHigh, AreOwn, first_own_types, items_high, items_kinds, items_use, kinds_moved, rest_own_types}
+use Rattle.qw_operator.proofs.Promised.{AreHigh, AreOwn, first_own_types, items_high, items_use, rest_own_types}
 use Rattle.qw_operator.proofs.Seen.{AreWithin, StandsIn, held_later, less_keeps, longer_keeps, longer_kept, stands_later, stands_more, within_wider}
-use Rattle.qw_operator.proofs.Served.{Serves, slot_alone, slot_met, slot_spent, table_placed}
-use Rattle.qw_operator.proofs.Stood.{Stood, ArePlaced, StandsTable, EntryOf, built_of, entry_later}
+use Rattle.qw_operator.proofs.Served.{Serves, slot_alone, slot_met, slot_spent}
+use Rattle.qw_operator.proofs.Stood.{Stood, StandsTable, EntryOf, built_of, entry_later}
 
 -- ---- locals that are used
 uses_map : (P Q : ℕ → Type 0) (c : Cell) → ((i : ℕ) → P i → Q i) → Uses P c → Uses Q c
@@ -327,30 +323,11 @@ module _ (c : Cells) (stoods : List Stood) (base : ℕ) (sink : FlowSink) (runs 
       abbrev fields : ℕ
       fields = length h.key
 
-      key_many : length h.key ≡ length p.key
-      key_many = sym (sources_many h.key) ∙ (ap (λ (os : List Source). length os) (sym h.key_is) ∙ (moved_many h.items ∙ items_many known next p.key h.items h.key_own h.computed))
-
-      fields_many : st.fields ≡ length h.key
-      fields_many = serves.fields ∙ sym key_many
-
-      key_kinds : kinds_of (sources_of h.key) ≡ map kind_of p.key
-      key_kinds = ap kinds_of (sym h.key_is) ∙ (kinds_moved h.items ∙ items_kinds known next p.key h.items h.key_own h.computed)
-
-      abbrev kept_kinds : List (Option Kind)
-      kept_kinds = map (λ (d : ReadColumn). let k : Option Kind = Some (type_kind d.ty) in k) p.kept
-
-      kinds_there : kinds_of (sources_of st.cells) ≡ kinds_of (sources_of h.key) ++ kept_kinds
-      kinds_there = serves.kinds ∙ ap (λ (ks : List (Option Kind)). ks ++ kept_kinds) (sym key_kinds)
-
       stood : StandsTable c p.table st t
       stood = here.stand p.table st there
 
-      placed : (j : ℕ) → j < 1024 → ArePlaced (keyed (length p.key)) st.chains j
-      placed = subst (λ (n : ℕ). (j : ℕ) → j < 1024 → ArePlaced (keyed n) st.chains j) serves.fields
-          (table_placed (EntryOf c t st.cells st.fields) (keyed st.fields) (entry_size 0 (length st.cells) 0) st.part st.offset st.front st.chains st.entries t.cells t.own stood.table)
-
-      table_there : IsTable (HasJoinEntry (StandsIn c t) (kinds_of (sources_of st.cells)) fields) (keyed fields) (entry_size 0 (length st.cells) 0) st.part st.offset st.front st.chains st.entries t.cells t.own
-      table_there = subst (λ (n : ℕ). IsTable (HasJoinEntry (StandsIn c t) (kinds_of (sources_of st.cells)) n) (keyed n) (entry_size 0 (length st.cells) 0) st.part st.offset st.front st.chains st.entries t.cells t.own) fields_many stood.table
+      found : KeyedTable c p st h.key t
+      found = keyed_table c p known next h.items h.key_own h.key h.computed h.key_is st serves t stood
 
       stored_at : (e : Row) (done left : List Row) → es ≡ done ++ e ∷ left → AreStored p.kept (drop (length p.key) e.values)
       stored_at e done left at = one_of (λ (d : Row). AreStored p.kept (drop (length p.key) d.values)) done e left (subst (AllByRecursion (λ (d : Row). AreStored p.kept (drop (length p.key) d.values))) at (serves.stored (slot key) (slot-low key)))
@@ -364,7 +341,7 @@ module _ (c : Cells) (stoods : List Stood) (base : ℕ) (sink : FlowSink) (runs 
       alone = stands_alone fields passed key (row_values es)
 
       alone_is : is_alone p row key (get_or built p.table []) ≡ alone
-      alone_is = slot_alone p row key stoods st there placed outer fields key_many
+      alone_is = slot_alone p row key stoods st there found.placed outer fields found.key_many
 
       pub looked_up : (N : ℕ) → N ≤ fuel → 2 + (text_octets key + spend (λ (e : Row). units_met e.values) es + (if alone then costs row else 0)) ≤ N → AllSupply (StandsIn c t) t.locals (sources_of h.key) key → AllUse (Among free) (sources_of h.key) →
           FeedsTo sink most fuel N (Below next) Any (if is_alone p row key (get_or built p.table []) then feed row else where_values (flow_over (met feed p row key) (get_or built p.table [])) key) h.look_up t
@@ -375,22 +352,22 @@ module _ (c : Cells) (stoods : List Stood) (base : ℕ) (sink : FlowSink) (runs 
           let inside = slice_get_within stoods p.table st there in
           let lone : alone ≡ true → 2 + costs row ≤ N = λ is. let all = ap (λ (b : Bool). if b then costs row else 0) is in omega (arith, all, bound) in
           subst (λ (b : Bool). FeedsTo sink most fuel N (Below next) Any (if b then feed row else where_values (flow_over (met feed p row key) (get_or built p.table [])) key) h.look_up t) (sym alone_is)
-          (subst (λ (f : Flow (List Val)). FeedsTo sink most fuel N (Below next) Any (if alone then feed row else where_values f key) h.look_up t) (sym (slot_met p row key stoods st there placed feed fields key_many))
+          (subst (λ (f : Flow (List Val)). FeedsTo sink most fuel N (Below next) Any (if alone then feed row else where_values f key) h.look_up t) (sym (slot_met p row key stoods st there found.placed feed fields found.key_many))
           (feeds_less sink most fuel N (Below free) (Below next) Any (or_alone alone (feed row) (flow_over (where_equal fields (λ v. flow_by (passed v) (where_true (feed (pair_of p row v)))) key) es) key) h.look_up t (λ i old. below-less next free i (omega arith) old)
-          (outer_feeds (StandsIn c t) st.cells h.key kept_kinds kinds_there sink most fuel free (Below free) (Below first_cell) Aside (λ i among. inr among) (old_low c stoods base sink runs free (omega (arith, low))) (λ i old. below-less free first_cell i (omega arith) old)
+          (outer_feeds (StandsIn c t) st.cells h.key (kept_kinds p) found.kinds_there sink most fuel free (Below free) (Below first_cell) Aside (λ i among. inr among) (old_low c stoods base sink runs free (omega (arith, low))) (λ i old. below-less free first_cell i (omega arith) old)
           (λ i from to. inr (omega (arith, five, from), omega (arith, to))) (λ i old other. (old, other)) (λ rows x y kept. runs.kept free rows x y (omega (arith, low)) kept)
           (seq h.reads (tests_block h.tests (goes_on g))) (clear_block first_cell p.kept) h.rest passed (λ v. feed (pair_of p row v)) units_met (feed row) (costs row)
           st.part st.offset st.front st.chains st.entries key t (runs.tables_spared p.table st there)
           (λ w keeps q at octets text. stands_more c w q at octets (less_keeps c (Below free) sink.Spared t w runs.seen_spared keeps here.less) (stands_later c t w q at octets (longer_keeps (Below free) sink.Spared t w keeps) text))
-          (λ entry. omega arith) (omega (arith, bound, enough)) uses supplied table_there
+          (λ entry. omega arith) (omega (arith, bound, enough)) uses supplied found.table_there
           (λ e u. Here c stoods many held (pair_of p row e.values) u) (λ u. Here c stoods many held row u)
           (λ e done left w at leads g_is keeps has same.
           let within_all = spent_at e done left at in
-          try_feeds e (stored_at e done left at) (subst (λ (n : ℕ). is_same_row key (take n e.values) ≡ true) key_many same) (omega (arith, within_all, bound, enough)) w leads g_is keeps
-          (subst (λ (n : ℕ). HasJoinEntry (StandsIn c t) (kinds_of (sources_of st.cells)) n w.cells e.part e.offset e.values) (sym fields_many) has))
+          try_feeds e (stored_at e done left at) (subst (λ (n : ℕ). is_same_row key (take n e.values) ≡ true) found.key_many same) (omega (arith, within_all, bound, enough)) w leads g_is keeps
+          (subst (λ (n : ℕ). HasJoinEntry (StandsIn c t) (kinds_of (sources_of st.cells)) n w.cells e.part e.offset e.values) (sym found.fields_many) has))
           (λ e done left w at keeps same is now.
           let within_all = spent_at e done left at in
-          goes_feeds e (stored_at e done left at) (subst (λ (n : ℕ). is_same_row key (take n e.values) ≡ true) key_many same) (omega (arith, within_all, bound, enough)) w is now)
+          goes_feeds e (stored_at e done left at) (subst (λ (n : ℕ). is_same_row key (take n e.values) ≡ true) found.key_many same) (omega (arith, within_all, bound, enough)) w is now)
           (λ w is keeps. clears (1 + costs row) (omega arith) w keeps)
           (λ w is keeps now. let fits_in = lone is in follows row w reached_row row_fit now (omega (arith, fits_in, enough)) (1 + costs row) (omega arith))
           (directory p.table) h.look_up h.probes N (omega (arith, inside, high, low)) stood.at bound enough (omega (arith, room, own_many, long)))))
@@ -410,7 +387,7 @@ module _ (c : Cells) (stoods : List Stood) (base : ℕ) (sink : FlowSink) (runs 
         (λ key t come kept supplied.
         let now : Here c stoods many known row t = here_kept c stoods base sink runs many next known row s t low within kept here in
         let same = value_units (values_of p.key (at_row row)) spent key come in
-        let of_chain = slot_spent p row key stoods st there (placed key t now) (met_cost costs p row key) in
+        let of_chain = slot_spent p row key stoods st there (let at = found key t now in at.placed) (met_cost costs p row key) in
         let lone : alone_cost costs p row key entries ≡ 1 + (if alone key t now then costs row else 0) =
         ap (λ (b : Bool). if b then 1 + (if is_alone p row key entries then costs row else 0) else 0) outer ∙ ap (λ (b : Bool). 1 + (if b then costs row else 0)) (alone_is key t now) in
         looked_up key t now N enough (omega (arith, same, of_chain, lone))

@@ -1,5 +1,5 @@
--- What a pipeline's scan feeds its sink.
-use Rattle.std.proofs.Common.{◌≡◌, ℕ, zero, suc, ◌+◌, ◌-◌, ◌*◌, ◌^◌, ◌<◌, ◌≤◌, inr, Option, Some, None, List, [], ◌∷◌, ◌++◌, length, map, Ok, slice_get, refl, sym, ap, ◌∙◌, subst, arith}
+-- What a pipeline's scan feeds its sink, whatever the block of a row is.
+use Rattle.std.proofs.Common.{◌≡◌, ℕ, zero, suc, ◌+◌, ◌-◌, ◌*◌, ◌^◌, ◌<◌, ◌≤◌, inr, Option, Some, None, List, [], ◌∷◌, ◌++◌, length, map, slice_get, refl, sym, ap, ◌∙◌, subst, arith}
 use Rattle.std.proofs.lemmas.List.{append-nil}
 use Rattle.std.proofs.lemmas.Option.{same_Some, slice_get_within}
 use Rattle.std.specs.List.{AllByRecursion}
@@ -9,10 +9,8 @@ use Rattle.qw_types.proofs.KindLemmas.{stored_of_kind}
 use Rattle.qw_types.specs.declared.value.Val.{Val}
 use Rattle.qw_module.specs.declared.instruction.ValType.{ValType}
 use Rattle.qw_map.proofs.AreaLemmas.{all-append}
-use Rattle.qw_meaning.specs.Flow.{values_of}
 use Rattle.qw_meaning.specs.From.{entry_flow}
-use Rattle.qw_scalar.specs.Evaluation.{at_row, cell_of}
-use Rattle.qw_scalar.specs.Typing.{HasKind}
+use Rattle.qw_scalar.specs.Evaluation.{cell_of}
 use Rattle.qw_low.specs.Syntax.{Statement}
 use Rattle.qw_low.specs.State.{Column, Value, Number, Cells, LowState}
 use Rattle.qw_low.proofs.LessKnown.{IsLess, seen}
@@ -21,16 +19,15 @@ use Rattle.qw_read.specs.Reading.{AreBases, AreCellsIn, HasBases, IsThere, Stand
 use Rattle.qw_read.specs.declared.reader.Reader.{Reader}
 use Rattle.qw_read.proofs.Elsewhere.{stands_same}
 use Rattle.qw_feed.specs.Cells.{Uses, UsesNull}
-use Rattle.qw_feed.specs.Feeds.{Any, Sink as FlowSink, FeedsTo, spend}
+use Rattle.qw_feed.specs.Feeds.{Any, Sink as FlowSink, FeedsTo, flow_over, spend}
 use Rattle.qw_feed.specs.Frames.{Below, But, Keeps}
 use Rattle.qw_feed.specs.Scans.{rows_block}
 use Rattle.qw_feed.specs.Stages.{Among}
 use Rattle.qw_feed.proofs.ScanFeeds.{scan_feeds}
-use Rattle.qw_table.specs.Keys.{text_octets}
-use Rattle.qw_physical.specs.Courses.{cost, fed, pipeline_cost, pipeline_fed, sink_key, sink_values}
-use Rattle.qw_physical.specs.Physical.{Pipeline}
+use Rattle.qw_physical.specs.Courses.{cost, fed, pipeline_cost, pipeline_fed}
+use Rattle.qw_physical.specs.Physical.{Pipeline, Sink}
 use Rattle.qw_operator.specs.Carries.{IsRow, IsSunk}
-use Rattle.qw_operator.specs.Takes.{CanCarry, CanSink}
+use Rattle.qw_operator.specs.Takes.{CanCarry}
 use Rattle.qw_operator.proofs.ColumnReads.{cells_ahead}
 use Rattle.qw_operator.proofs.Filters.{Runs, Here, base_high}
 use Rattle.qw_leaves.specs.Leaves.{HasLeaves}
@@ -39,7 +36,8 @@ use Rattle.qw_operator.proofs.KnownLeaves.{AreFit, Fits, IsUtf8Value}
 use Rattle.qw_operator.proofs.PairRows.{AreApart, IsNullAt, stored_utf8}
 use Rattle.qw_operator.proofs.Fronts.{all_more}
 use Rattle.qw_leaves.proofs.LeafLists.{all_pairs}
-use Rattle.qw_operator.proofs.Promised.{AreOwn, IsItemAt}
+use Rattle.qw_operator.proofs.Promised.{AreOwn}
+use Rattle.qw_operator.proofs.OperatorsFeed.{FeedsEnd, same_cost, sink_turn}
 use Rattle.qw_operator.proofs.GuardedFeeds.{row_feeds}
 use Rattle.qw_operator.proofs.Seen.{AreWithin, held_later, less_keeps, longer_keeps}
 use Rattle.qw_operator.proofs.Served.{AreServed}
@@ -70,9 +68,9 @@ pub record Stays (c : Cells) (readers : List Reader) (rows : List (List Val)) (s
   pub rows_stand : (i : ℕ) (row : List Val) → slice_get rows i ≡ Some row → AllByRecursion (StandsRow s.cells s.columns i row) readers
 
 -- ---- all that a pipeline's block begins with
-pub record Scanned (c : Cells) (stoods : List Stood) (literals : List Known) (readers : List Reader) (base left end low next many fuel : ℕ) (types : List ValType) (tables : List (List (List Val))) (p : Pipeline) (row : Statement) (own : List ValType) (s : LowState) : Type 0 where
-  pub is_row : IsRow literals readers next p.operators p.sink row own
-  pub can : CanCarry (literals ++ map known_of readers) p.operators p.sink
+pub record ScannedBy (Row : Statement → List ValType → Type 0) (snk : Sink) (units : ℕ) (c : Cells) (stoods : List Stood) (literals : List Known) (readers : List Reader) (base left end low next many fuel : ℕ) (types : List ValType) (tables : List (List (List Val))) (p : Pipeline) (row : Statement) (own : List ValType) (s : LowState) : Type 0 where
+  pub is_row : Row row own
+  pub can : CanCarry (literals ++ map known_of readers) p.operators snk
   pub apart : AreApart (literals ++ map known_of readers) p.operators
   pub served : AreServed stoods p.operators
   pub laid : Laid literals readers base left end low next
@@ -89,7 +87,11 @@ pub record Scanned (c : Cells) (stoods : List Stood) (literals : List Known) (re
   pub end_is : slice_get s.locals end ≡ Some (Number (4 * length (entry_flow tables p.entry p.table).rows))
   pub few : length (entry_flow tables p.entry p.table).rows < 2 ^ 30
   pub long : many ≤ length s.locals
-  pub enough : 1 + pipeline_cost tables (built_of stoods) p ≤ fuel
+  pub enough : 1 + units ≤ fuel
+
+abbrev pub Scanned : (c : Cells) → (stoods : List Stood) → (literals : List Known) → (readers : List Reader) → (base left end low next many fuel : ℕ) → (types : List ValType) → (tables : List (List (List Val))) → (p : Pipeline) → (row : Statement) → (own : List ValType) → (s : LowState) → Type 0
+Scanned c stoods literals readers base left end low next many fuel types tables p row own s =
+    ScannedBy (IsRow literals readers next p.operators p.sink) p.sink (pipeline_cost tables (built_of stoods) p) c stoods literals readers base left end low next many fuel types tables p row own s
 
 -- ---- lists
 one_spent : (u : List Val → ℕ) (rows : List (List Val)) (i : ℕ) (row : List Val) → slice_get rows i ≡ Some row → 1 + u row ≤ spend u rows
@@ -105,7 +107,7 @@ null_more : (P Q : ℕ → Type 0) (null : Option ℕ) → ((i : ℕ) → P i �
 null_more P Q None more uses = tt
 null_more P Q (Some x) more uses = more x uses
 
-uses_more : (P Q : ℕ → Type 0) (known : List Known) → ((i : ℕ) → P i → Q i) → AllByRecursion (λ (k : Known). Uses P k.operand.cell) known → AllByRecursion (λ (k : Known). Uses Q k.operand.cell) known
+pub uses_more : (P Q : ℕ → Type 0) (known : List Known) → ((i : ℕ) → P i → Q i) → AllByRecursion (λ (k : Known). Uses P k.operand.cell) known → AllByRecursion (λ (k : Known). Uses Q k.operand.cell) known
 uses_more P Q known more uses =
     all_more (λ (k : Known). Uses P k.operand.cell) (λ (k : Known). Uses Q k.operand.cell) known (λ k one. (more k.operand.cell.value one.0, more k.operand.cell.length one.1, null_more P Q k.operand.cell.null more one.2)) uses
 
@@ -119,28 +121,25 @@ read_fit cells columns i row (r ∷ readers) stand =
       read_fit cells columns i row readers stand.1,
     )
 
-module _ (c : Cells) (stoods : List Stood) (base : ℕ) (sink : FlowSink) (runs : Runs c stoods base sink) (most fuel many : ℕ) (types : List ValType) (tables : List (List (List Val))) (p : Pipeline)
-    (sunk : (N next : ℕ) (known : List Known) (row : List Val) (a : Statement) (own : List ValType) (s : LowState) → 1 ≤ N → N ≤ fuel → base ≤ next → next + length own ≤ many → AreWithin next known → AreDeclared types known → AreOwn types next own → IsSunk known next p.sink a own →
-    AllByRecursion (IsItemAt N row) (sink_values p.sink) → AllByRecursion HasKind (sink_values p.sink) → CanSink p.sink → ((vs : List Val) → values_of (sink_values p.sink) (at_row row) ≡ Ok vs → 1 + text_octets (sink_key p.sink vs) ≤ N) → Here c stoods many known row s →
-    FeedsTo sink most fuel N (Below next) Any (fed (built_of stoods) [] p.sink row) a s)
-    (literals : List Known) (readers : List Reader) (left end low next : ℕ) (row : Statement) (own : List ValType) (s0 : LowState) (h : Scanned c stoods literals readers base left end low next many fuel types tables p row own s0) where
+-- where a scan's locals are
+module _ (literals : List Known) (readers : List Reader) (base left end low next : ℕ) (laid : Laid literals readers base left end low next) where
+  pub laid_low : base ≤ low
+  laid_low = let order = laid.counters in omega (arith, order.0, order.1, order.2)
+
+  pub laid_within : 5 ≤ base → AreWithin low literals
+  laid_within five = let order = laid.counters in uses_more (Between end low) (Among low) literals (λ i between. (omega (arith, between.0, order.0, order.1, five), between.1)) laid.within
+
+-- the block of a row feeds what the operators make of it, within so many units
+module _ (c : Cells) (stoods : List Stood) (base : ℕ) (sink : FlowSink) (runs : Runs c stoods base sink) (most fuel many : ℕ) (types : List ValType) (tables : List (List (List Val))) (p : Pipeline) (Row : Statement → List ValType → Type 0) (snk : Sink) (units : List Val → ℕ)
+    (literals : List Known) (readers : List Reader) (left end low next : ℕ) (row : Statement) (own : List ValType) (s0 : LowState)
+    (h : ScannedBy Row snk (spend units (entry_flow tables p.entry p.table).rows) c stoods literals readers base left end low next many fuel types tables p row own s0)
+    (each : (r : List Val) (s : LowState) → AreFit r (literals ++ map known_of readers) → IsNullAt r p.operators → Here c stoods many (literals ++ []) r s → AllByRecursion (IsThere low (length (entry_flow tables p.entry p.table).rows) r s) readers →
+    AllByRecursion (IsThere low (length (entry_flow tables p.entry p.table).rows) r (seen c s)) readers → 1 + units r ≤ fuel → FeedsTo sink most fuel (1 + units r) (Below low) Any (fed (built_of stoods) p.operators snk r) row s) where
   abbrev rows : List (List Val)
   rows = (entry_flow tables p.entry p.table).rows
 
   abbrev Old : ℕ → Type 0
   Old = But left (Below low)
-
-  abbrev units : List Val → ℕ
-  units r = cost (built_of stoods) p.operators p.sink r
-
-  pub base_low : base ≤ low
-  base_low = let order = h.laid.counters in omega (arith, order.0, order.1, order.2)
-
-  within : AreWithin low literals
-  within =
-      let order = h.laid.counters in
-      let five = base_high c stoods base sink runs in
-      uses_more (Between end low) (Among low) literals (λ i between. (omega (arith, between.0, order.0, order.1, five), between.1)) h.laid.within
 
   spent : 1 + spend units rows ≤ fuel
   spent = h.enough
@@ -211,32 +210,40 @@ module _ (c : Cells) (stoods : List Stood) (base : ℕ) (sink : FlowSink) (runs 
     fit_now : AreFit r (literals ++ map known_of readers)
     fit_now = all-append (λ (k : Known). HasLeaves (Fits r) k.expression) literals (map known_of readers) (h.fit r) (read_fit s0.cells s0.columns i r readers (h.stays.rows_stand i r there))
 
-    row_fed : FeedsTo sink most fuel (1 + units r) (Below low) Any (fed (built_of stoods) p.operators p.sink r) row s
+    row_fed : FeedsTo sink most fuel (1 + units r) (Below low) Any (fed (built_of stoods) p.operators snk r) row s
     row_fed =
         let one = one_spent units rows i r there in
-        row_feeds c stoods base sink runs most fuel many types p.sink sunk (length rows) literals readers low next p.operators row own h.is_row base_low h.room h.laid.cells within h.laid.readers_within h.declared h.own_types h.can h.apart h.served r fit_now (h.nulls i r there) s
+        each r s fit_now (h.nulls i r there)
         (record {
-          here = record {
-            less = less_keeps c Old sink.Spared s0 s runs.seen_spared keeps h.less;
-            held = subst (λ (ks : List Known). AreHeld ks r (seen c s)) (sym (append-nil literals)) held_now;
-            stand = stand_now;
-            long = let same = keeps.many in let long = h.long in omega (arith, same, long);
-          };
-          there = record {
-            whole = all_there s.cells s keeps.mapped keeps.columns refl;
-            seen_so = all_there c (seen c s) h.stays.mapped keeps.columns refl;
-          };
+          less = less_keeps c Old sink.Spared s0 s runs.seen_spared keeps h.less;
+          held = subst (λ (ks : List Known). AreHeld ks r (seen c s)) (sym (append-nil literals)) held_now;
+          stand = stand_now;
+          long = let same = keeps.many in let long = h.long in omega (arith, same, long);
         })
-        (omega (arith, one, spent))
+        (all_there s.cells s keeps.mapped keeps.columns refl) (all_there c (seen c s) h.stays.mapped keeps.columns refl) (omega (arith, one, spent))
 
-  pub pipeline_feeds : FeedsTo sink most fuel (1 + pipeline_cost tables (built_of stoods) p) (But left (Below low)) Any (pipeline_fed tables (built_of stoods) p) (rows_block left row) s0
-  pipeline_feeds =
+  pub scan_fed : FeedsTo sink most fuel (1 + spend units rows) (But left (Below low)) Any (flow_over (fed (built_of stoods) p.operators snk) rows) (rows_block left row) s0
+  scan_fed =
       let order = h.laid.counters in
       let five = base_high c stoods base sink runs in
       let all = rows_spent units rows in
       let long = h.long in
       let room = h.room in
       let ahead = cells_ahead low next readers h.laid.cells in
-      scan_feeds sink most fuel left (Below low) (inr (omega (arith, order.0, five), omega (arith, order.1, order.2))) (λ taken t u kept. runs.kept left taken t u order.0 kept) rows h.few (fed (built_of stoods) p.operators p.sink) units row s0
+      scan_feeds sink most fuel left (Below low) (inr (omega (arith, order.0, five), omega (arith, order.1, order.2))) (λ taken t u kept. runs.kept left taken t u order.0 kept) rows h.few (fed (built_of stoods) p.operators snk) units row s0
       (λ i r s there keeps left_now. row_fed i r s there keeps left_now)
       (omega (arith, all, spent)) h.left_is (omega (arith, order.1, order.2, ahead, room, long))
+
+-- ---- a pipeline whose rows go to its sink
+pub pipeline_feeds : (c : Cells) (stoods : List Stood) (base : ℕ) (sink : FlowSink) (runs : Runs c stoods base sink) (most fuel many : ℕ) (types : List ValType) (tables : List (List (List Val))) (p : Pipeline) → FeedsEnd c stoods base sink most fuel many types (IsSunk p.sink) p.sink (sink_turn p.sink) →
+    (literals : List Known) (readers : List Reader) (left end low next : ℕ) (row : Statement) (own : List ValType) (s0 : LowState) → Scanned c stoods literals readers base left end low next many fuel types tables p row own s0 →
+    FeedsTo sink most fuel (1 + pipeline_cost tables (built_of stoods) p) (But left (Below low)) Any (pipeline_fed tables (built_of stoods) p) (rows_block left row) s0
+pipeline_feeds c stoods base sink runs most fuel many types tables p sunk literals readers left end low next row own s0 h =
+    let low_base = laid_low literals readers base left end low next h.laid in
+    let within = laid_within literals readers base left end low next h.laid (base_high c stoods base sink runs) in
+    scan_fed c stoods base sink runs most fuel many types tables p (IsRow literals readers next p.operators p.sink) p.sink (cost (built_of stoods) p.operators p.sink) literals readers left end low next row own s0 h
+    (λ r s fit nulls here whole seen_so enough.
+    let same = same_cost (built_of stoods) p.operators p.sink r in
+    subst (λ (n : ℕ). FeedsTo sink most fuel (1 + n) (Below low) Any (fed (built_of stoods) p.operators p.sink r) row s) same
+    (row_feeds c stoods base sink runs most fuel many types p.sink sunk (length (entry_flow tables p.entry p.table).rows) literals readers low next p.operators row own h.is_row low_base h.room h.laid.cells within h.laid.readers_within h.declared h.own_types h.can h.apart h.served r fit nulls s
+    (record { here = here; there = record { whole = whole; seen_so = seen_so } }) (omega (arith, same, enough))))

@@ -1,14 +1,14 @@
--- What the block of a row of the scan feeds: the conjuncts of a first filter are tested while columns are read, and then the operators follow.
-use Rattle.std.proofs.Common.{◌≡◌, ℕ, suc, ◌+◌, ◌*◌, ◌≤◌, Bool, List, [], ◌∷◌, ◌++◌, length, length-append, map, Result, Ok, refl, sym, ap, ◌∙◌, subst, arith}
+-- What the block of a row of the scan feeds, whatever is innermost: the conjuncts of a first filter are tested while columns are read, and then the
+-- operators follow.
+use Rattle.std.proofs.Common.{◌≡◌, ℕ, suc, ◌+◌, ◌*◌, ◌≤◌, Bool, List, [], ◌∷◌, ◌++◌, length, length-append, map, Result, refl, sym, ap, ◌∙◌, subst, arith}
 use Rattle.std.specs.List.{AllByRecursion}
 use Rattle.qw_types.specs.declared.code.Code.{Code}
 use Rattle.qw_types.specs.declared.value.Val.{Val}
 use Rattle.qw_module.specs.declared.instruction.ValType.{ValType}
-use Rattle.qw_meaning.specs.Flow.{Flow, values_of}
+use Rattle.qw_meaning.specs.Flow.{Flow}
 use Rattle.qw_scalar.specs.Conjuncts.{passes}
 use Rattle.qw_scalar.specs.Evaluation.{at_row}
-use Rattle.qw_scalar.specs.Expression.{Condition}
-use Rattle.qw_scalar.specs.Typing.{HasKind}
+use Rattle.qw_scalar.specs.Expression.{Condition, Expression}
 use Rattle.qw_scalar.specs.Units.{units_of_all}
 use Rattle.qw_low.specs.Syntax.{Statement, seq}
 use Rattle.qw_low.specs.State.{Cells, LowState}
@@ -26,19 +26,19 @@ use Rattle.qw_feed.specs.Stages.{Test, tests_block}
 use Rattle.qw_feed.proofs.FeedRules.{feeds_weaker, own_then}
 use Rattle.qw_feed.proofs.Frames.{Never, below-less}
 use Rattle.qw_feed.proofs.InnerFeeds.{tests_feed}
-use Rattle.qw_table.specs.Keys.{text_octets}
-use Rattle.qw_physical.specs.Courses.{cost, fed, sink_key, sink_values, where_passed}
+use Rattle.qw_physical.specs.Courses.{fed, sink_values, where_passed}
 use Rattle.qw_physical.specs.Physical.{Operator, Sink, filter, probe}
-use Rattle.qw_operator.specs.Carries.{IsReadRow, IsSunk, behind_filter, first_filter}
+use Rattle.qw_operator.specs.Carries.{IsReadRow, behind_filter, first_filter}
+use Rattle.qw_operator.specs.Costs.{cost_to}
 use Rattle.qw_operator.specs.Emitted.{AreDecided, known_after, last_end}
-use Rattle.qw_operator.specs.Takes.{CanCarry, CanSink, IsTestOver}
+use Rattle.qw_operator.specs.Takes.{CanCarry, IsTestOver}
 use Rattle.qw_operator.proofs.CarriedFeeds.{passed_units, tests_at}
-use Rattle.qw_operator.proofs.OperatorsFeed.{carried_feeds}
+use Rattle.qw_operator.proofs.OperatorsFeed.{FeedsEnd, carried_to_feeds}
 use Rattle.qw_operator.proofs.ColumnReads.{At, after_within, at_kept, low_next, part_ends}
 use Rattle.qw_operator.proofs.Filters.{Runs, Here, old_low}
 use Rattle.qw_operator.proofs.KnownLeaves.{AreFit}
 use Rattle.qw_operator.proofs.PairRows.{AreApart, IsNullAt}
-use Rattle.qw_operator.proofs.Promised.{AreOwn, IsItemAt, rest_own_types, tests_promised, truths_of, truths_pass}
+use Rattle.qw_operator.proofs.Promised.{AreOwn, rest_own_types, tests_promised, truths_of, truths_pass}
 use Rattle.qw_operator.proofs.ReadParts.{read_at, read_last, take_all}
 use Rattle.qw_operator.proofs.Seen.{AreWithin, held_more, within_wider}
 use Rattle.qw_operator.proofs.Served.{AreServed}
@@ -50,42 +50,31 @@ fed_first built [] snk row = refl
 fed_first built (filter cs ∷ operators) snk row = refl
 fed_first built (probe p ∷ operators) snk row = refl
 
-cost_first : (built : List (List (List Val))) (operators : List Operator) (snk : Sink) (row : List Val) →
-    cost built operators snk row ≡ units_of_all (first_filter operators) (at_row row) + where_passed (passes (first_filter operators) (at_row row)) (cost built (behind_filter operators) snk row)
-cost_first built [] snk row = let all : cost built [] snk row ≡ 0 + cost built [] snk row = omega arith in all
-cost_first built (filter cs ∷ operators) snk row = refl
-cost_first built (probe p ∷ operators) snk row = let all : cost built (probe p ∷ operators) snk row ≡ 0 + cost built (probe p ∷ operators) snk row = omega arith in all
+cost_first : (values : List Expression) (turn : List Val → ℕ) (built : List (List (List Val))) (operators : List Operator) (row : List Val) →
+    cost_to values turn built operators row ≡ units_of_all (first_filter operators) (at_row row) + where_passed (passes (first_filter operators) (at_row row)) (cost_to values turn built (behind_filter operators) row)
+cost_first values turn built [] row = let all : cost_to values turn built [] row ≡ 0 + cost_to values turn built [] row = omega arith in all
+cost_first values turn built (filter cs ∷ operators) row = refl
+cost_first values turn built (probe p ∷ operators) row = let all : cost_to values turn built (probe p ∷ operators) row ≡ 0 + cost_to values turn built (probe p ∷ operators) row = omega arith in all
 
-pub can_first : (known : List Known) (operators : List Operator) (snk : Sink) → CanCarry known operators snk → AllByRecursion (IsTestOver known) (first_filter operators) × CanCarry known (behind_filter operators) snk
+can_first : (known : List Known) (operators : List Operator) (snk : Sink) → CanCarry known operators snk → AllByRecursion (IsTestOver known) (first_filter operators) × CanCarry known (behind_filter operators) snk
 can_first known [] snk can = (tt, can)
 can_first known (filter cs ∷ operators) snk can = (can.0, can.1)
 can_first known (probe p ∷ operators) snk can = (tt, can)
 
-apart_first : (known : List Known) (operators : List Operator) → AreApart known operators → AreApart known (behind_filter operators)
-apart_first known [] apart = apart
-apart_first known (filter cs ∷ operators) apart = apart
-apart_first known (probe p ∷ operators) apart = apart
-
-served_first : (stoods : List Stood) (operators : List Operator) → AreServed stoods operators → AreServed stoods (behind_filter operators)
-served_first stoods [] served = served
-served_first stoods (filter cs ∷ operators) served = served
-served_first stoods (probe p ∷ operators) served = served
-
-null_first : (row : List Val) (operators : List Operator) → IsNullAt row operators → IsNullAt row (behind_filter operators)
-null_first row [] nulls = nulls
-null_first row (filter cs ∷ operators) nulls = nulls
-null_first row (probe p ∷ operators) nulls = nulls
+-- what holds of all operators and doesn't ask for filters holds behind it
+pub behind_first : (P : List Operator → Type 0) → ((cs : List Condition) (operators : List Operator) → P (filter cs ∷ operators) → P operators) → (operators : List Operator) → P operators → P (behind_filter operators)
+behind_first P past [] holds = holds
+behind_first P past (filter cs ∷ operators) holds = past cs operators holds
+behind_first P past (probe p ∷ operators) holds = holds
 
 many_ends : (literals : List Known) (readers : List Reader) (next done : ℕ) (es : List ℕ) (ds : List Condition) (gs : List Test) (own : List ValType) → AreDecided literals readers next done es ds gs own → length es ≡ length gs
 many_ends literals readers next done [] [] [] own are = refl
 many_ends literals readers next done (e ∷ es) (d ∷ ds) (g ∷ gs) own are = ap suc (many_ends literals readers (next + length are.0) e es ds gs are.1 are.4)
 many_ends literals readers next done es ds gs own are = absurd are
 
-module _ (c : Cells) (stoods : List Stood) (base : ℕ) (sink : FlowSink) (runs : Runs c stoods base sink) (most fuel many : ℕ) (types : List ValType) (snk : Sink)
-    (sunk : (N next : ℕ) (known : List Known) (row : List Val) (a : Statement) (own : List ValType) (s : LowState) → 1 ≤ N → N ≤ fuel → base ≤ next → next + length own ≤ many → AreWithin next known → AreDeclared types known → AreOwn types next own → IsSunk known next snk a own →
-    AllByRecursion (IsItemAt N row) (sink_values snk) → AllByRecursion HasKind (sink_values snk) → CanSink snk → ((vs : List Val) → values_of (sink_values snk) (at_row row) ≡ Ok vs → 1 + text_octets (sink_key snk vs) ≤ N) → Here c stoods many known row s →
-    FeedsTo sink most fuel N (Below next) Any (fed (built_of stoods) [] snk row) a s)
-    (count : ℕ) (literals : List Known) (readers : List Reader) (low next : ℕ) (operators : List Operator) (a : Statement) (own : List ValType) (h : IsReadRow literals readers next (first_filter operators) (behind_filter operators) snk a own) (base_low : base ≤ low) (room : next + length own ≤ many)
+module _ (c : Cells) (stoods : List Stood) (base : ℕ) (sink : FlowSink) (runs : Runs c stoods base sink) (most fuel many : ℕ) (types : List ValType) (End : List Known → (next : ℕ) → Statement → List ValType → Type 0) (snk : Sink) (turn : List Val → ℕ)
+    (ends : FeedsEnd c stoods base sink most fuel many types End snk turn)
+    (count : ℕ) (literals : List Known) (readers : List Reader) (low next : ℕ) (operators : List Operator) (a : Statement) (own : List ValType) (h : IsReadRow End literals readers next (first_filter operators) (behind_filter operators) a own) (base_low : base ≤ low) (room : next + length own ≤ many)
     (cells : AreCellsIn low next readers) (within : AreWithin low literals) (readers_within : AreWithin next (map known_of readers)) (declared : AreDeclared types (literals ++ map known_of readers)) (own_types : AreOwn types next own)
     (can : CanCarry (literals ++ map known_of readers) operators snk) (apart : AreApart (literals ++ map known_of readers) operators) (served : AreServed stoods operators) where
   abbrev known : List Known
@@ -93,6 +82,9 @@ module _ (c : Cells) (stoods : List Stood) (base : ℕ) (sink : FlowSink) (runs 
 
   abbrev built : List (List (List Val))
   built = built_of stoods
+
+  abbrev units : List Operator → List Val → ℕ
+  units os row = cost_to (sink_values snk) turn built os row
 
   abbrev cs : List Condition
   cs = first_filter operators
@@ -110,12 +102,12 @@ module _ (c : Cells) (stoods : List Stood) (base : ℕ) (sink : FlowSink) (runs 
     abbrev IsAt : ℕ → LowState → Type 0
     IsAt e s = At c stoods base sink runs most fuel many count literals readers row low next base_low within_many cells within readers_within e s
 
-    pub read_row_feeds : (s : LowState) → IsAt 0 s → 1 + cost built operators snk row ≤ fuel → FeedsTo sink most fuel (1 + cost built operators snk row) (Below low) Any (fed built operators snk row) a s
+    pub read_row_feeds : (s : LowState) → IsAt 0 s → 1 + units operators row ≤ fuel → FeedsTo sink most fuel (1 + units operators row) (Below low) Any (fed built operators snk row) a s
     read_row_feeds s at enough =
         let f : Flow (List Val) = fed built later snk row in
-        let rest_cost : ℕ = cost built later snk row in
+        let rest_cost : ℕ = units later row in
         let N : ℕ = 1 + (units_of_all cs (at_row row) + where_passed (passes cs (at_row row)) rest_cost) in
-        let N_is : 1 + cost built operators snk row ≡ N = ap (λ (n : ℕ). 1 + n) (cost_first built operators snk row) in
+        let N_is : 1 + units operators row ≡ N = ap (λ (n : ℕ). 1 + n) (cost_first (sink_values snk) turn built operators row) in
         let within_fuel : N ≤ fuel = omega (arith, N_is, enough) in
         let same = truths_pass cs row in
         let stage : ℕ → ℕ = λ j. read_at 0 h.ends (length readers) j in
@@ -141,8 +133,8 @@ module _ (c : Cells) (stoods : List Stood) (base : ℕ) (sink : FlowSink) (runs 
         (part_ends c stoods base sink runs most fuel many count literals readers row low next base_low within_many cells within readers_within (last_end 0 h.ends) (length readers) h.reads h.reading t (subst (λ (e : ℕ). IsAt e t) last now)))
         (λ u kept_u all.
         feeds_weaker sink most fuel (1 + rest_cost) N (Below after) (Below low) Any Any f h.rest u (omega (arith, less)) (λ i old. below-less low after i (omega (arith, le)) old) (λ w keeps any. tt)
-        (carried_feeds c stoods base sink runs most fuel many types snk sunk later known known after row h.rest h.rest_own u (omega (arith, less, within_fuel)) (omega (arith, base_low, le)) (omega (arith, room, own_many)) refl
-        (known_within after (omega arith)) declared (rest_own_types types next own h.tests_own h.rest_own h.own_is own_types) h.carried (can_first known operators snk can).1 (apart_first known operators apart) (served_first stoods operators served) fit (null_first row operators nulls)
+        (carried_to_feeds c stoods base sink runs most fuel many types End snk turn ends later known known after row h.rest h.rest_own u (omega (arith, less, within_fuel)) (omega (arith, base_low, le)) (omega (arith, room, own_many)) refl
+        (known_within after (omega arith)) declared (rest_own_types types next own h.tests_own h.rest_own h.own_is own_types) h.carried (can_first known operators snk can).1 (behind_first (AreApart known) (λ ds os rest. rest) operators apart) (behind_first (AreServed stoods) (λ ds os rest. rest) operators served) fit (behind_first (IsNullAt row) (λ ds os rest. rest) operators nulls)
         (subst (λ (rs : List Reader). Here c stoods many (literals ++ map known_of rs) row u) (take_all readers) all.here))))
         (λ t kept is. tt)))))
       where

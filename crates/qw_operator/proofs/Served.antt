@@ -1,20 +1,15 @@
 -- The tables that a pipeline's lookups are served by, and the entries that have a key.
-use Rattle.std.proofs.Common.{◌≡◌, ◌<ℤ◌, ℤ, ℕ, zero, suc, ◌+◌, ◌<◌, ◌==◌, ◌&&◌, ◌||◌, not, if◌then◌else◌, Bool, true, false, cond, sum_by, Option, Some, None, List, [], ◌∷◌, ◌++◌, drop, get_or, length, map, take, Result, Ok, Err, slice_get, refl, sym, ap, ap₂, ◌∙◌, arith}
+use Rattle.std.proofs.Common.{◌≡◌, ℕ, zero, suc, ◌+◌, ◌<◌, ◌==◌, ◌&&◌, ◌||◌, not, if◌then◌else◌, Bool, true, false, cond, sum_by, Option, Some, None, List, [], ◌∷◌, ◌++◌, drop, get_or, length, map, take, Result, Ok, Err, slice_get, refl, sym, ap, ap₂, ◌∙◌, arith}
 use Rattle.std.proofs.lemmas.Bool.{eq-eqb, eqb-true}
 use Rattle.std.proofs.lemmas.List.Sorted.{sum_by-IsPermutation}
 use Rattle.std.proofs.lemmas.List.Sums.{sum_by-cons}
 use Rattle.std.specs.List.{AllByRecursion, list_any}
-use Rattle.std.specs.Ordering.{MatchOrdering, int_cmp, is_eq, nat_cmp, ordering_then}
-use Rattle.std.specs.Cmp.{int_ranks, ranks}
-use Rattle.std.specs.declared.cmp.Ordering.{Ordering}
-use Rattle.std.specs.declared.cmp.Ordering.TheVariants.{Less, Equal, Greater}
 use Rattle.qw_types.specs.Kind.{type_kind}
-use Rattle.qw_types.specs.TextOrder.{text_order}
-use Rattle.qw_types.specs.ValueOrder.{is_same_row, row_order, value_order}
+use Rattle.qw_types.specs.ValueOrder.{is_same_row}
 use Rattle.qw_types.specs.declared.code.Code.{Code}
 use Rattle.qw_types.specs.declared.kind.Kind.{Kind}
 use Rattle.qw_types.specs.declared.value.Val.{Val}
-use Rattle.qw_types.specs.declared.value.Val.TheVariants.{Null, Num, Date, Text}
+use Rattle.qw_types.proofs.ValueOrderLemmas.{rows}
 use Rattle.qw_layout.specs.Hash.{slot}
 use Rattle.qw_meaning.specs.Flow.{Flow}
 use Rattle.qw_scalar.specs.Conjuncts.{passes}
@@ -46,67 +41,8 @@ AreServed stoods (filter_by cs ∷ operators) = AreServed stoods operators
 AreServed stoods (probe p ∷ operators) = ((st : Stood) × (slice_get stoods p.table ≡ Some st) × Serves p st) × AreServed stoods operators
 
 -- ---- keys that aren't distinct are equal
-first_equal : (r s : Ordering) → ordering_then r s ≡ Equal → (r ≡ Equal) × (s ≡ Equal)
-first_equal Less s h = absurd cc
-first_equal Equal s h = (refl, h)
-first_equal Greater s h = absurd cc
-
-octet_equal : (a b : ℕ) (r : Ordering) → r ≡ Equal → MatchOrdering r (a < b) (a ≡ b) (b < a) → a ≡ b
-octet_equal a b Less h m = absurd cc
-octet_equal a b Equal h m = m
-octet_equal a b Greater h m = absurd cc
-
-same_text : (left right : List ℕ) → text_order left right ≡ Equal → left ≡ right
-same_text [] [] h = refl
-same_text [] (b ∷ others) h = absurd cc
-same_text (a ∷ rest) [] h = absurd cc
-same_text (a ∷ rest) (b ∷ others) h =
-    let parts = first_equal (nat_cmp a b) (text_order rest others) h in
-    let head : a ≡ b = octet_equal a b (nat_cmp a b) parts.0 (ranks a b) in
-    let tail : rest ≡ others = same_text rest others parts.1 in
-    ap₂ (λ (x : ℕ) (xs : List ℕ). x ∷ xs) head tail
-
-number_equal : (a b : ℤ) (r : Ordering) → r ≡ Equal → MatchOrdering r (a <ℤ b) (a ≡ b) (b <ℤ a) → a ≡ b
-number_equal a b Less h m = absurd cc
-number_equal a b Equal h m = m
-number_equal a b Greater h m = absurd cc
-
-same_number : (a b : ℤ) → int_cmp a b ≡ Equal → a ≡ b
-same_number a b h = number_equal a b (int_cmp a b) h (int_ranks a b)
-
-same_value : (a b : Val) → value_order a b ≡ Equal → a ≡ b
-same_value Null Null h = refl
-same_value Null (Num b) h = absurd cc
-same_value Null (Date b) h = absurd cc
-same_value Null (Text b) h = absurd cc
-same_value (Num a) Null h = absurd cc
-same_value (Num a) (Num b) h = ap Num (same_number a b h)
-same_value (Num a) (Date b) h = absurd cc
-same_value (Num a) (Text b) h = absurd cc
-same_value (Date a) Null h = absurd cc
-same_value (Date a) (Num b) h = absurd cc
-same_value (Date a) (Date b) h = ap Date (same_number a b h)
-same_value (Date a) (Text b) h = absurd cc
-same_value (Text a) Null h = absurd cc
-same_value (Text a) (Num b) h = absurd cc
-same_value (Text a) (Date b) h = absurd cc
-same_value (Text a) (Text b) h = ap Text (same_text a b h)
-
-is_equal : (r : Ordering) → is_eq r ≡ true → r ≡ Equal
-is_equal Less h = absurd cc
-is_equal Equal h = refl
-is_equal Greater h = absurd cc
-
-same_rows : (row other : List Val) → row_order row other ≡ Equal → row ≡ other
-same_rows [] [] h = refl
-same_rows [] (b ∷ others) h = absurd cc
-same_rows (a ∷ rest) [] h = absurd cc
-same_rows (a ∷ rest) (b ∷ others) h =
-    let parts = first_equal (value_order a b) (row_order rest others) h in
-    ap₂ (λ (x : Val) (xs : List Val). x ∷ xs) (same_value a b parts.0) (same_rows rest others parts.1)
-
 pub same_keys : (key other : List Val) → is_same_row key other ≡ true → key ≡ other
-same_keys key other h = same_rows key other (is_equal (row_order key other) h)
+same_keys key other h = rows key other h
 
 -- ---- each entry is in its chain
 abbrev missed : Bool → ℕ

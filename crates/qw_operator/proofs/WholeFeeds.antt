@@ -1,40 +1,30 @@
 -- What a pipeline feeds the result, and what one feeds the table that it builds.
-use Rattle.std.proofs.Common.{◌≡◌, ℕ, ◌+◌, ◌*◌, ◌<◌, ◌≤◌, inr, Some, List, [], ◌++◌, length, Ok, slice_get, sym, subst, arith}
-use Rattle.std.specs.List.{AllByRecursion}
+use Rattle.std.proofs.Common.{◌≡◌, ℕ, ◌+◌, ◌*◌, ◌<◌, ◌≤◌, inr, Some, List, ◌++◌, length, slice_get, sym, subst, arith}
 use Rattle.qw_linear.specs.Memory.{page}
 use Rattle.qw_types.specs.declared.value.Val.{Val}
 use Rattle.qw_module.specs.declared.instruction.ValType.{ValType}
 use Rattle.qw_layout.specs.Row.{entry_size}
-use Rattle.qw_meaning.specs.Flow.{values_of}
-use Rattle.qw_scalar.specs.Evaluation.{at_row}
 use Rattle.qw_scalar.specs.Expression.{Expression}
-use Rattle.qw_scalar.specs.Typing.{HasKind}
 use Rattle.qw_low.specs.Syntax.{Statement}
 use Rattle.qw_low.specs.State.{Own, Value, Cells, LowState}
-use Rattle.qw_expr.specs.Computes.{Known, AreDeclared}
+use Rattle.qw_expr.specs.Computes.{Known}
 use Rattle.qw_read.specs.declared.reader.Reader.{Reader}
 use Rattle.qw_feed.specs.Feeds.{Any, Sink as FlowSink, FeedsTo}
 use Rattle.qw_feed.specs.Frames.{pos, Below, But}
 use Rattle.qw_feed.specs.Rows.{BesideRoot}
 use Rattle.qw_feed.specs.Scans.{rows_block}
-use Rattle.qw_table.specs.Keys.{text_octets}
-use Rattle.qw_physical.specs.Courses.{fed, pipeline_cost, pipeline_fed, sink_key, sink_values}
+use Rattle.qw_physical.specs.Courses.{pipeline_cost, pipeline_fed, sink_values}
 use Rattle.qw_physical.specs.Physical.{Build, Pipeline, Sink, build, select}
 use Rattle.qw_operator.specs.Carries.{IsSunk, directory}
-use Rattle.qw_operator.specs.Takes.{CanSink}
-use Rattle.qw_operator.proofs.Filters.{Runs, Here}
+use Rattle.qw_operator.proofs.Filters.{Runs}
 use Rattle.qw_operator.proofs.PipelineFeeds.{Scanned, pipeline_feeds}
-use Rattle.qw_operator.proofs.Promised.{AreOwn, IsItemAt}
-use Rattle.qw_operator.proofs.Seen.{AreWithin}
+use Rattle.qw_operator.proofs.OperatorsFeed.{FeedsEnd, sink_turn}
 use Rattle.qw_operator.proofs.SinkFeeds.{build_sunk, entering_kept, entering_sink, fields_of, select_sunk, selecting_kept, selecting_sink}
 use Rattle.qw_operator.proofs.Stood.{Stood, built_of}
 
 -- what the block of a sink feeds
 abbrev pub FeedsSink : (c : Cells) → (stoods : List Stood) → (base : ℕ) → (sink : FlowSink) → (most fuel many : ℕ) → (types : List ValType) → Sink → Type 0
-FeedsSink c stoods base sink most fuel many types snk =
-    (N next : ℕ) (known : List Known) (row : List Val) (a : Statement) (own : List ValType) (s : LowState) → 1 ≤ N → N ≤ fuel → base ≤ next → next + length own ≤ many → AreWithin next known → AreDeclared types known → AreOwn types next own → IsSunk known next snk a own →
-    AllByRecursion (IsItemAt N row) (sink_values snk) → AllByRecursion HasKind (sink_values snk) → CanSink snk → ((vs : List Val) → values_of (sink_values snk) (at_row row) ≡ Ok vs → 1 + text_octets (sink_key snk vs) ≤ N) → Here c stoods many known row s →
-    FeedsTo sink most fuel N (Below next) Any (fed (built_of stoods) [] snk row) a s
+FeedsSink c stoods base sink most fuel many types snk = FeedsEnd c stoods base sink most fuel many types (IsSunk snk) snk (sink_turn snk)
 
 module _ (c : Cells) (stoods : List Stood) (base : ℕ) (high : 5 + length stoods ≤ base) (most fuel many : ℕ) (types : List ValType) (u before : ℕ) (May : List (List Val) → Type 0) (beginnings : (rows more : List (List Val)) → May (rows ++ more) → May rows)
     (tables : List (List (List Val))) (p : Pipeline) (literals : List Known) (readers : List Reader) (left end low next : ℕ) (row : Statement) (own : List ValType) (s0 : LowState) (h : Scanned c stoods literals readers base left end low next many fuel types tables p row own s0) where

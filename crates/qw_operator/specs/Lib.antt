@@ -1,4 +1,5 @@
 pub mod Carries
+pub mod Costs
 pub mod Emitted
 pub mod Guarded
 pub mod Inner
