@@ -58,14 +58,14 @@ use Rattle.qw_compile.proofs.StoodBuilt.{built_alike}
 -- ---- lists
 
 -- a list that is alike another, where that one has two parts
-record Halves (R : Pipeline → Pipeline → Type 0) (xs front back : List Pipeline) : Type 0 where
-  before : List Pipeline
-  after : List Pipeline
-  is : xs ≡ before ++ after
-  same_before : AllZip R before front
-  same : AllZip R (before ++ after) (front ++ back)
+pub record Halves (R : Pipeline → Pipeline → Type 0) (xs front back : List Pipeline) : Type 0 where
+  pub before : List Pipeline
+  pub after : List Pipeline
+  pub is : xs ≡ before ++ after
+  pub same_before : AllZip R before front
+  pub same : AllZip R (before ++ after) (front ++ back)
 
-halves : (R : Pipeline → Pipeline → Type 0) (xs front back : List Pipeline) → AllZip R xs (front ++ back) → Halves R xs front back
+pub halves : (R : Pipeline → Pipeline → Type 0) (xs front back : List Pipeline) → AllZip R xs (front ++ back) → Halves R xs front back
 halves R xs [] back z = record { before = []; after = xs; is = refl; same_before = tt; same = z }
 halves R [] (q ∷ front) back z = absurd z
 halves R (x ∷ xs) (q ∷ front) back z =
@@ -117,11 +117,11 @@ module _ (row_is : (row other : List Val) → is_same_row row other ≡ true →
   abbrev IsWithin : Pipeline → Type 0
   IsWithin p = sink_size p.sink + (page - greatest query) ≤ page
 
-  spelled_are : all_spelled kept 0 (pipelines of.node) ≡ all_spelled kept 0 (pipelines (placed query))
+  pub spelled_are : all_spelled kept 0 (pipelines of.node) ≡ all_spelled kept 0 (pipelines (placed (query_of parts)))
   spelled_are = ap (λ (n : Node). all_spelled kept 0 (pipelines n)) of.placed
 
   -- all that are spelled out are the code's
-  same_whole : AllZip IsSamePipeline (all_spelled kept 0 (pipelines (placed query))) (cut.building ++ cut.last ∷ [])
+  pub same_whole : AllZip IsSamePipeline (all_spelled kept 0 (pipelines (placed (query_of parts)))) (cut.building ++ cut.last ∷ [])
   same_whole =
       subst (λ (ps : List Pipeline). AllZip IsSamePipeline ps (cut.building ++ cut.last ∷ [])) spelled_are
       (subst (AllZip IsSamePipeline (all_spelled kept 0 (pipelines of.node))) cut.whole of.same)
@@ -140,7 +140,7 @@ module _ (row_is : (row other : List Val) → is_same_row row other ≡ true →
       (all_sizes row_is value_is kept [] below query.items)
 
   -- a table for each join
-  built_many : length cut.building ≡ table_count (placed query)
+  pub built_many : length cut.building ≡ table_count (placed (query_of parts))
   built_many =
       let count : length (all_spelled kept 0 (pipelines (placed query))) ≡ table_count (placed query) + 1 = all_count row_is value_is kept [] below query.items in
       let long = zip_long IsSamePipeline (all_spelled kept 0 (pipelines (placed query))) (cut.building ++ cut.last ∷ []) same_whole in
@@ -153,7 +153,7 @@ module _ (row_is : (row other : List Val) → is_same_row row other ≡ true →
   typed_whole : AllByRecursion IsTypedPhysical (cut.building ++ cut.last ∷ [])
   typed_whole = subst (AllByRecursion IsTypedPhysical) cut.whole of.typed
 
-  scans_whole : AllByRecursion (ScansOne (entries_of query.sources)) (cut.building ++ cut.last ∷ [])
+  pub scans_whole : AllByRecursion (ScansOne (entries_of (query_of parts).sources)) (cut.building ++ cut.last ∷ [])
   scans_whole = subst (AllByRecursion (ScansOne (entries_of query.sources))) cut.whole (all_scan parts kept columns made are of)
 
   -- ---- its last pipeline makes rows of its select list
@@ -166,24 +166,25 @@ module _ (row_is : (row other : List Val) → is_same_row row other ≡ true →
 
   -- ---- over tables
 
+  module _ (tables : List (List (List Val))) (loaded : AreOfEntries (entries_of (query_of parts).sources) tables) where
+    pub plan : IsPlanned (query_of parts) tables kept of.node
+    plan = planned parts kept columns made are of tables loaded
+
+    pub cost_within : (front back : List Pipeline) (more : List (List (List Val))) → all_spelled kept 0 (pipelines of.node) ≡ front ++ back → AreBuilt tables [] front more → costs tables [] (front ++ back) more ≤ units (query_of parts) tables
+    cost_within front back more is built =
+        costs_bounded row_is value_is kept tables query front back more are.specification loaded of.sized are.reads plan.scaled (sym spelled_are ∙ is) built
+
   module _ (T at : ℕ) (texts : List (List ℕ)) (words : List Word) (all_built : length cut.building ≡ T) (items : List Expression) (last_is : cut.last.sink ≡ select items)
       (can : AllByRecursion (λ (p : Pipeline). CanCarry (literals_known T at texts words ++ map known_of (readers_of T (literal_count texts words) columns p.entry)) p.operators p.sink) cut.building)
       (can_last : CanCarry (literals_known T at texts words ++ map known_of (readers_of T (literal_count texts words) columns cut.last.entry)) cut.last.operators cut.last.sink)
       (tables : List (List (List Val))) (loaded : AreOfEntries (entries_of (query_of parts).sources) tables) where
-    plan : IsPlanned query tables kept of.node
-    plan = planned parts kept columns made are of tables loaded
-
-    cost_within : (front back : List Pipeline) (more : List (List (List Val))) → all_spelled kept 0 (pipelines of.node) ≡ front ++ back → AreBuilt tables [] front more → costs tables [] (front ++ back) more ≤ units query tables
-    cost_within front back more is built =
-        costs_bounded row_is value_is kept tables query front back more are.specification loaded of.sized are.reads plan.scaled (sym spelled_are ∙ is) built
-
     stored_within : (front back : List Pipeline) (more : List (List (List Val))) → cut.building ++ cut.last ∷ [] ≡ front ++ back → AreBuilt tables [] front more → held tables [] (front ++ back) more ≤ stored query tables
     stored_within front back more is built =
         let half = halves IsSamePipeline (all_spelled kept 0 (pipelines (placed query))) front back (subst (AllZip IsSamePipeline (all_spelled kept 0 (pipelines (placed query)))) is same_whole) in
         let spelled : AreBuilt tables [] half.before more = built_alike IsSamePipeline tables (λ p q z b. pipeline_fed_same b tables p q z) [] half.before front more half.same_before built in
         less_same (held tables [] (half.before ++ half.after) more) (held tables [] (front ++ back) more)
         (table_octets (kept_of kept) tables (placed query) + length (node_flow tables (placed query)).rows * row_size (length query.items)) (stored query tables)
-        (held_within row_is value_is kept tables query half.before half.after more are.specification loaded of.sized are.reads plan.scaled half.is spelled)
+        (held_within row_is value_is kept tables query half.before half.after more are.specification loaded of.sized are.reads (plan tables loaded).scaled half.is spelled)
         (held_same tables [] (half.before ++ half.after) (front ++ back) more half.same) (stored_few parts kept are.kept_once are.named tables)
       where
         less_same : (h g b s : ℕ) → h ≤ b → h ≡ g → b ≤ s → g ≤ s
@@ -201,8 +202,8 @@ module _ (row_is : (row other : List Val) → is_same_row row other ≡ true →
         let fit_last = (all_back IsWithin cut.building (cut.last ∷ []) all_fit).0 in
         subst (λ (k : ℕ). IsBounded T (literal_count texts words) columns texts words at (table_of (entries_of query.sources)) cut.building cut.last items (IsTold (outcome query tables))
         (page - greatest query) (2 + 2 * k + stored query tables / (page - greatest query)) (1 + units query tables) tables) many
-        (query_bounded query tables kept of.node plan cut.building cut.last cut.same cut.same_last typed (are_distinct kept are.kept_once) scans last_scans columns are.each T at texts words all_built items last_is
-        can can_last (units query tables) cost_within u (stored query tables) (some_left (greatest query) (greatest_small query are.specification)) (page_less (greatest query)) stored_within fit fit_last)
+        (query_bounded query tables kept of.node (plan tables loaded) cut.building cut.last cut.same cut.same_last typed (are_distinct kept are.kept_once) scans last_scans columns are.each T at texts words all_built items last_is
+        can can_last (units query tables) (cost_within tables loaded) u (stored query tables) (some_left (greatest query) (greatest_small query are.specification)) (page_less (greatest query)) stored_within fit fit_last)
 
     pub rows_kept : (stoods : List Stood) → AreStood tables [] cut.building stoods → (fed_over tables stoods cut.last).codes ≡ [] → IsSameOutcome (outcome (query_of parts) tables) (Rows (fed_over tables stoods cut.last).rows)
-    rows_kept = same_rows query tables kept of.node plan cut.building cut.last cut.same cut.same_last
+    rows_kept = same_rows query tables kept of.node (plan tables loaded) cut.building cut.last cut.same cut.same_last

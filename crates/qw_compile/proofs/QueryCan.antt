@@ -1,7 +1,8 @@
 -- Each pipeline of the code takes only what is known where it is evaluated: the columns of its entry, those that lookups keep, and literals.
-use Rattle.std.proofs.Common.{◌≡◌, ◌⊎◌, ◌≤◌, ◌<◌, ℕ, zero, suc, ◌+◌, ◌/◌, nat_eq, Bool, true, false, ◌||◌, ◌==◌, if◌then◌else◌, Contains, Some, None, slice_get, List, [], ◌∷◌, ◌++◌, length, map, inl, inr, refl, sym, ap, subst, arith}
+use Rattle.std.proofs.Common.{◌≡◌, ◌⊎◌, ◌≤◌, ◌<◌, ℕ, zero, suc, ◌+◌, ◌/◌, nat_eq, Bool, true, false, ◌||◌, ◌==◌, if◌then◌else◌, Contains, None, List, [], ◌∷◌, ◌++◌, length, map, inl, inr, refl, sym, ap, subst, arith}
 use Rattle.std.specs.List.{AllByRecursion, AllZip, flat_map, list_any}
 use Rattle.std.proofs.lemmas.Bool.Decides.{nat_tests}
+use Rattle.std.proofs.lemmas.Option.{slice_get_within}
 use Rattle.qw_meaning.specs.Select.{Entry, Specification, conjuncts_on, entries_of}
 use Rattle.qw_algebra.specs.Columns.{owner}
 use Rattle.qw_algebra.specs.Node.{Node}
@@ -116,11 +117,14 @@ known_behind k (x ∷ ks) known h = inr (known_behind k ks known h)
 knows_behind : (ks known : List Known) (e : Expression) → Knows known e → Knows (ks ++ known) e
 knows_behind ks known e h = (h.0, known_behind (record { expression = e; operand = h.0 }) ks known h.1)
 
+literals_more : (xs ys : List Known) → ((e : Expression) → Knows xs e → Knows ys e) → (l : Leaf) → IsLiteralOf xs l → IsLiteralOf ys l
+literals_more xs ys more (leaf.Number v s) h = more (number v s) h
+literals_more xs ys more (leaf.Date d) h = more (date d) h
+literals_more xs ys more (leaf.Text t) h = more (text t) h
+literals_more xs ys more (leaf.Column i ty) h = tt
+
 pub literals_behind : (ks known : List Known) (l : Leaf) → IsLiteralOf known l → IsLiteralOf (ks ++ known) l
-literals_behind ks known (leaf.Number v s) h = knows_behind ks known (number v s) h
-literals_behind ks known (leaf.Date d) h = knows_behind ks known (date d) h
-literals_behind ks known (leaf.Text t) h = knows_behind ks known (text t) h
-literals_behind ks known (leaf.Column i ty) h = tt
+literals_behind ks known l h = literals_more known (ks ++ known) (knows_behind ks known) l h
 
 pub knows_kept : (kept seen : List ReadColumn) (known : List Known) → KnowsAll known seen → KnowsAll (map anywhere kept ++ known) (kept ++ seen)
 knows_kept [] seen known has i ty h = has i ty h
@@ -209,12 +213,6 @@ known_front k (x ∷ xs) ys (inr h) = inr (known_front k xs ys h)
 
 knows_front : (xs ys : List Known) (e : Expression) → Knows xs e → Knows (xs ++ ys) e
 knows_front xs ys e h = (h.0, known_front (record { expression = e; operand = h.0 }) xs ys h.1)
-
-literals_front : (xs ys : List Known) (l : Leaf) → IsLiteralOf xs l → IsLiteralOf (xs ++ ys) l
-literals_front xs ys (leaf.Number v s) h = knows_front xs ys (number v s) h
-literals_front xs ys (leaf.Date d) h = knows_front xs ys (date d) h
-literals_front xs ys (leaf.Text t) h = knows_front xs ys (text t) h
-literals_front xs ys (leaf.Column i ty) h = tt
 
 texts_known : (x at : ℕ) (ts : List (List ℕ)) → AllByRecursion (λ (t : List ℕ). Knows (known_texts (literals_from x at ts) ts) (text t)) ts
 texts_known x at [] = tt
@@ -353,7 +351,7 @@ can_stand tables ts ps kept columns p within leaves some typed few seen =
     record {
       some = omega (arith, some, count);
       takes = can_carry (IsLiteralOf L) (λ i ty. tt) (map operator_of p.operators.items) (sink_of p.sink) (L ++ map known_of rs) (of_entry p.entry kept)
-          (λ l h. literals_front L (map known_of rs) l h)
+          (λ l h. literals_more L (L ++ map known_of rs) (knows_front L (map known_of rs)) l h)
           (knows_within (L ++ map known_of rs) (of_entry p.entry kept) (of_entry p.entry columns) (within_entry p.entry kept columns within)
           (knows_all_behind L (map known_of rs) (of_entry p.entry columns) (readers_know tables b c 0 p.entry columns)))
           typed.operators typed.sink
@@ -406,13 +404,8 @@ any_some entry (c ∷ columns) h = one (owner c.number == entry) refl h (λ g. a
     one true e g f = here (nat_eq entry (c.number / 64)) (same_owner (owner c.number) entry e)
     one false e g f = later (nat_eq entry (c.number / 64)) (f g)
 
-stands_within : (entries : List Entry) (k : ℕ) (e : Entry) → slice_get entries k ≡ Some e → k < length entries
-stands_within [] k e h = absurd cc
-stands_within (x ∷ entries) zero e h = omega arith
-stands_within (x ∷ entries) (suc k) e h = let rest : k < length entries = stands_within entries k e h in omega (arith, rest)
-
 scan_some : (entries : List Entry) (columns : List ReadColumn) → HasEach columns (length entries) → (p : Pipeline) → ScansOne entries p → 1 ≤ length (of_entry p.entry columns)
-scan_some entries columns each p s = any_some p.entry columns (each p.entry (stands_within entries p.entry s.one s.stands))
+scan_some entries columns each p s = any_some p.entry columns (each p.entry (slice_get_within entries p.entry s.one s.stands))
 
 -- A query's pipelines are spelled with the columns that it names, `kept`; those that are read, `columns`, are these and others. What is planned over
 -- no tables at all tells of the pipelines what it tells over any.

@@ -1,7 +1,8 @@
 -- Which table each pipeline of the code builds and which it scans, and that it has a column of its entry.
-use Rattle.std.proofs.Common.{◌≡◌, ◌∙◌, ◌<◌, ℕ, zero, suc, ◌+◌, ◌==◌, ◌||◌, Bool, true, false, Option, Some, None, slice_get, List, [], ◌∷◌, ◌++◌, length, length-append, map, refl, sym, ap, subst, arith}
+use Rattle.std.proofs.Common.{◌≡◌, ◌∙◌, ℕ, suc, ◌+◌, ◌==◌, ◌||◌, Bool, true, false, Option, Some, None, slice_get, List, [], ◌∷◌, ◌++◌, length, length-append, map, refl, sym, ap, subst, arith}
 use Rattle.std.specs.List.{AllByRecursion, AllZip, list_any}
 use Rattle.std.proofs.lemmas.List.{length-map}
+use Rattle.std.proofs.lemmas.Option.{slice_get_within}
 use Rattle.qw_types.specs.declared.value.Val.{Val}
 use Rattle.qw_meaning.specs.Select.{Entry}
 use Rattle.qw_algebra.specs.Columns.{owner}
@@ -104,13 +105,8 @@ column_there entry (c ∷ columns) h = one (owner c.number == entry) refl h (λ 
     one true e g f = (0, c, refl, same_number (owner c.number) entry e)
     one false e g f = let r = f g in (suc r.0, r.1, r.2, r.3)
 
-stands_within : (entries : List Entry) (k : ℕ) (e : Entry) → slice_get entries k ≡ Some e → k < length entries
-stands_within [] k e h = absurd cc
-stands_within (x ∷ entries) zero e h = omega arith
-stands_within (x ∷ entries) (suc k) e h = let rest : k < length entries = stands_within entries k e h in omega (arith, rest)
-
 pub scan_column : (entries : List Entry) (columns : List ReadColumn) → HasEach columns (length entries) → (p : Pipeline) → ScansOne entries p → HasColumnOf columns p.entry
-scan_column entries columns each p s = column_there p.entry columns (each p.entry (stands_within entries p.entry s.one s.stands))
+scan_column entries columns each p s = column_there p.entry columns (each p.entry (slice_get_within entries p.entry s.one s.stands))
 
 -- ---- how long an entry is
 pub width_is : (b : Build) → entry_width b ≡ sink_size (build b)

@@ -36,7 +36,45 @@ use Rattle.qw_compile.proofs.QueryTold.{cost, cost_last, told, told_last}
 use Rattle.qw_compile.proofs.Spent.{spent_next}
 use Rattle.qw_compile.proofs.StoodBuilt.{stood_built}
 
+-- the expressions of a pipeline take only literals and the columns that it reads
+abbrev pub IsTakenOver : (tables at : ℕ) → (texts : List (List ℕ)) → List Word → List ReadColumn → Pipeline → Type 0
+IsTakenOver t at texts words read p = CanCarry (literals_known t at texts words ++ map known_of (readers_of t (literal_count texts words) read p.entry)) p.operators p.sink
+
 -- The entries of its tables keep some columns; those that are read may be others too.
+module _ (query : Specification) (tables : List (List (List Val))) (columns : List ReadColumn) (node : Node) (planned : IsPlanned query tables columns node) (building : List Pipeline) (last : Pipeline)
+    (same : AllZip IsSamePipeline (builds_of columns node) building) (same_last : IsSamePipeline (last_of columns node) last) (typed : AllByRecursion IsTypedPhysical building) (distinct : AreDistinct columns)
+    (scans : AllByRecursion (ScansOne (entries_of query.sources)) building) (read : List ReadColumn) (each : HasEach read (length (entries_of query.sources))) (T at : ℕ) (texts : List (List ℕ)) (words : List Word) where
+  -- a pipeline that builds a table, where what it puts into memory is paid for
+  pub reach_paid : AllByRecursion (IsTakenOver T at texts words read) building → (units : ℕ) → ((front back : List Pipeline) (more : List (List (List Val))) → all_spelled columns 0 (pipelines node) ≡ front ++ back → AreBuilt tables [] front more → costs tables [] (front ++ back) more ≤ units) →
+      (N u most : ℕ) → 1 + units ≤ N → AllByRecursion (λ (p : Pipeline). sink_size p.sink + u ≤ page) building → (front : List Pipeline) (p : Pipeline) (back : List Pipeline) (stoods : List Stood) → building ≡ front ++ p ∷ back → AreStood tables [] front stoods →
+      spent u building (built_in_order tables [] building) (suc (length front)) + 2 * u < (most + 1) * u →
+      Reach T (literal_count texts words) read (literals_known T at texts words) tables u most N (table_of (entries_of query.sources)) stoods p (spent u building (built_in_order tables [] building) (length front)) (spent u building (built_in_order tables [] building) (suc (length front)))
+  reach_paid can units bounded N u most units_less fit front p back stoods parts are pays =
+      let b = code_builds columns node building same front p back parts in
+      let scan : ScansOne (entries_of query.sources) p = one_at (ScansOne (entries_of query.sources)) front p back (subst (AllByRecursion (ScansOne (entries_of query.sources))) parts scans) in
+      let built = stood_built tables [] front stoods are in
+      let rows : ℕ = length (fed_over tables stoods p).rows in
+      let paid_for = cost query tables columns node planned building last same same_last units bounded front p back stoods parts are in
+      let size : entry_width b.made ≡ sink_size p.sink = width_is b.made ∙ ap sink_size (sym b.sink_is) in
+      let room = one_at (λ (q : Pipeline). sink_size q.sink + u ≤ page) front p back (subst (AllByRecursion (λ (q : Pipeline). sink_size q.sink + u ≤ page)) parts fit) in
+      let octets : sink_octets p.sink rows ≡ 4096 + rows * entry_width b.made = ap (λ (s : Sink). sink_octets s rows) b.sink_is ∙ ap (λ (k : ℕ). 4096 + rows * k) (sym (width_is b.made)) in
+      let next : spent u building (built_in_order tables [] building) (suc (length front)) ≡ spent u building (built_in_order tables [] building) (length front) + (u + sink_octets p.sink rows) =
+      subst (λ (l : List Pipeline). spent u l (built_in_order tables [] l) (suc (length front)) ≡ spent u l (built_in_order tables [] l) (length front) + (u + sink_octets p.sink rows)) (sym parts)
+      (spent_next u tables front p back [] [] (built_of stoods) tt built) in
+      record {
+        made = b.made;
+        sink_is = b.sink_is;
+        number_is = b.number_is ∙ stoods_long tables [] front stoods are;
+        table_is = scan_table (entries_of query.sources) p scan;
+        has_column = scan_column (entries_of query.sources) read each p scan;
+        finds = build_finds query tables columns node planned building last same same_last typed distinct read T (literal_count texts words) at texts words N front p back stoods parts are
+            (one_at (IsTakenOver T at texts words read) front p back (subst (AllByRecursion (IsTakenOver T at texts words read)) parts can)) (omega (arith, paid_for, units_less));
+        fits = omega (arith, size, room);
+        grows = omega (arith, next, octets);
+        enough = pays;
+      }
+
+-- all of them, of which the last makes the result
 module _ (query : Specification) (tables : List (List (List Val))) (columns : List ReadColumn) (node : Node) (planned : IsPlanned query tables columns node) (building : List Pipeline) (last : Pipeline)
     (same : AllZip IsSamePipeline (builds_of columns node) building) (same_last : IsSamePipeline (last_of columns node) last) (typed : AllByRecursion IsTypedPhysical building) (distinct : AreDistinct columns)
     (scans : AllByRecursion (ScansOne (entries_of query.sources)) building) (last_scans : ScansOne (entries_of query.sources) last) (read : List ReadColumn) (each : HasEach read (length (entries_of query.sources)))
@@ -47,10 +85,7 @@ module _ (query : Specification) (tables : List (List (List Val))) (columns : Li
   abbrev entries : List Entry
   entries = entries_of query.sources
 
-  abbrev IsTakenBy : Pipeline → Type 0
-  IsTakenBy p = CanCarry (literals_known T at texts words ++ map known_of (readers_of T n read p.entry)) p.operators p.sink
-
-  module _ (can : AllByRecursion IsTakenBy building) (can_last : IsTakenBy last) (units : ℕ)
+  module _ (can : AllByRecursion (IsTakenOver T at texts words read) building) (can_last : IsTakenOver T at texts words read last) (units : ℕ)
       (bounded : (front back : List Pipeline) (more : List (List (List Val))) → all_spelled columns 0 (pipelines node) ≡ front ++ back → AreBuilt tables [] front more → costs tables [] (front ++ back) more ≤ units) (u S : ℕ) (some : 0 < u) (u_low : u ≤ page)
       (within : (front back : List Pipeline) (more : List (List (List Val))) → building ++ last ∷ [] ≡ front ++ back → AreBuilt tables [] front more → held tables [] (front ++ back) more ≤ S)
       (fit : AllByRecursion (λ (p : Pipeline). sink_size p.sink + u ≤ page) building) (fit_last : sink_size last.sink + u ≤ page) where
@@ -70,30 +105,10 @@ module _ (query : Specification) (tables : List (List (List Val))) (columns : Li
     reach : (front : List Pipeline) (p : Pipeline) (back : List Pipeline) (stoods : List Stood) → building ≡ front ++ p ∷ back → AreStood tables [] front stoods
         → Reach T n read (literals_known T at texts words) tables u most (1 + units) (table_of entries) stoods p (budget (length front)) (budget (suc (length front)))
     reach front p back stoods parts are =
-        let b = code_builds columns node building same front p back parts in
-        let scan : ScansOne entries p = one_at (ScansOne entries) front p back (subst (AllByRecursion (ScansOne entries)) parts scans) in
         let built = stood_built tables [] front stoods are in
-        let rows : ℕ = length (fed_over tables stoods p).rows in
-        let paid = cost query tables columns node planned building last same same_last units bounded front p back stoods parts are in
-        let size : entry_width b.made ≡ sink_size p.sink = width_is b.made ∙ ap sink_size (sym b.sink_is) in
-        let room = one_at (λ (q : Pipeline). sink_size q.sink + u ≤ page) front p back (subst (AllByRecursion (λ (q : Pipeline). sink_size q.sink + u ≤ page)) parts fit) in
-        let octets : sink_octets p.sink rows ≡ 4096 + rows * entry_width b.made = ap (λ (s : Sink). sink_octets s rows) b.sink_is ∙ ap (λ (k : ℕ). 4096 + rows * k) (sym (width_is b.made)) in
-        let next : budget (suc (length front)) ≡ budget (length front) + (u + sink_octets p.sink rows) =
-        subst (λ (l : List Pipeline). spent u l (built_in_order tables [] l) (suc (length front)) ≡ spent u l (built_in_order tables [] l) (length front) + (u + sink_octets p.sink rows)) (sym parts)
-        (spent_next u tables front p back [] [] (built_of stoods) tt built) in
-        record {
-          made = b.made;
-          sink_is = b.sink_is;
-          number_is = b.number_is ∙ stoods_long tables [] front stoods are;
-          table_is = scan_table entries p scan;
-          has_column = scan_column entries read each p scan;
-          finds = build_finds query tables columns node planned building last same same_last typed distinct read T n at texts words (1 + units) front p back stoods parts are
-              (one_at IsTakenBy front p back (subst (AllByRecursion IsTakenBy) parts can)) (omega (arith, paid));
-          fits = omega (arith, size, room);
-          grows = omega (arith, next, octets);
-          enough = subst (λ (l : List Pipeline). spent u l (built_in_order tables [] l) (suc (length front)) + 2 * u < (most + 1) * u) (sym parts)
-              (built_pays u S T some tables front p back (back ++ last ∷ []) (built_of stoods) built (parted_held front p back (built_of stoods) parts built) (ap (λ (l : List Pipeline). length l) (sym parts) ∙ all_built));
-        }
+        reach_paid query tables columns node planned building last same same_last typed distinct scans read each T at texts words can units bounded (1 + units) u most (omega arith) fit front p back stoods parts are
+        (subst (λ (l : List Pipeline). spent u l (built_in_order tables [] l) (suc (length front)) + 2 * u < (most + 1) * u) (sym parts)
+        (built_pays u S T some tables front p back (back ++ last ∷ []) (built_of stoods) built (parted_held front p back (built_of stoods) parts built) (ap (λ (l : List Pipeline). length l) (sym parts) ∙ all_built)))
 
     pub query_bounded : IsBounded T n read texts words at (table_of entries) building last items (IsTold (outcome query tables)) u most (1 + units) tables
     query_bounded = record {

@@ -38,7 +38,7 @@ places_short tables ts ps columns p are once stand short =
 -- ---- the whole
 -- where free space begins, the literals, and the pipelines
 pub few_steps : (descriptor texts words : ℕ) (leads sets : Statement) (pipelines code : List LowStep) (own : List ValType) → code ≡ steps_of (space_block descriptor) ++ (steps_of leads ++ (steps_of sets ++ pipelines)) → size leads ≤ 6 * texts → size sets ≤ 2 * words →
-    length pipelines + length own ≤ 2013572 → texts ≤ 4012 → words ≤ 4012 → length code ≤ 2097152
+    length pipelines + length own ≤ 2030000 → texts ≤ 4012 → words ≤ 4012 → length code ≤ 2097152
 few_steps descriptor texts words leads sets pipelines code own is leading setting short few few_words =
     let all = ap (λ (l : List LowStep). length l) is in
     let one = length-append (steps_of (space_block descriptor)) (steps_of leads ++ (steps_of sets ++ pipelines)) in
@@ -74,7 +74,7 @@ locals_long tables texts words columns own =
     let numbers : List ValType = word_types words parts in
     omega (arith, tables_long tables (I32 ∷ I32 ∷ I32 ∷ text_types texts numbers), texts_long texts numbers, words_long words parts, parts_long columns held, held_long columns own)
 
-pub few_locals : (tables texts words : ℕ) (columns : List ReadColumn) (own locals : List ValType) (pipelines : List LowStep) → locals ≡ query_locals tables texts words columns own → length pipelines + length own ≤ 2013572 → tables ≤ 9 → texts ≤ 4012 → words ≤ 4012 →
+pub few_locals : (tables texts words : ℕ) (columns : List ReadColumn) (own locals : List ValType) (pipelines : List LowStep) → locals ≡ query_locals tables texts words columns own → length pipelines + length own ≤ 2030000 → tables ≤ 9 → texts ≤ 4012 → words ≤ 4012 →
     length columns ≤ 512 → length locals ≤ 2097152
 few_locals tables texts words columns own locals pipelines is short few few_texts few_words few_columns =
     let all = ap (λ (l : List ValType). length l) is in

@@ -29,21 +29,22 @@ use Rattle.qw_compile_whole.specs.DistinctPlaced.{EmitsDistinct, EmitsEnter}
 use Rattle.qw_compile_whole.specs.GroupedDistinctLimits.{enter_span}
 use Rattle.qw_compile_whole.specs.GroupedPlaced.{EmitsFront, EmitsWalk}
 use Rattle.qw_compile_whole.specs.GuardedStatements.{gather_block}
+use Rattle.qw_compile_whole.proofs.GatheringLengths.{added_short}
+use Rattle.qw_compile_whole.proofs.ScanPlaced.{behind_none, free_at}
 
 -- ---- the walk into the second table
 pub enter_emitted : (p : Places) (first table d : ℕ) (known : List Known) (key : List ReadColumn) (values : List ValueColumn) (steps operators : List Operator) (into : Group) (fields : List Field) (old new : List LowStep) (own_old own_new : List ValType) (e0 e1 : Emitter) →
     d ≡ directory table → known ≡ literals_placed p → steps ≡ operators → e0.first ≡ first + length own_old → e0.block.code.items ≡ [] → e0.own.items ≡ [] → EmitsGroupsTo (InEnd (Grouping fields into) steps) known d key values e0 e1 → kinds_of (sources_of fields) ≡ map kind_of into.values →
     new ≡ old ++ e1.block.code.items → own_new ≡ own_old ++ e1.own.items → EmitsEnter p first table key values operators into old new own_old own_new
 enter_emitted p first table d known key values steps operators into fields old new own_old own_new e0 e1 d_is known_is steps_are first_is code0 own0 e kinds code_is own_is =
-    let free : free_of e0 ≡ first + length own_old = let none : length e0.own.items ≡ 0 = ap (λ (l : List ValType). length l) own0 in omega (arith, none, first_is) in
     record {
       enters = e.statement;
       fields = fields;
       own = e.own;
-      code_is = code_is ∙ ap (λ (l : List LowStep). old ++ l) (e.code_is ∙ ap (λ (l : List LowStep). l ++ steps_of e.statement) code0);
-      own_is = own_is ∙ ap (λ (l : List ValType). own_old ++ l) (e.own_is ∙ ap (λ (l : List ValType). l ++ e.own) own0);
+      code_is = behind_none old new e0.block.code.items e1.block.code.items (steps_of e.statement) code_is e.code_is code0;
+      own_is = behind_none own_old own_new e0.own.items e1.own.items e.own own_is e.own_is own0;
       kinds = kinds;
-      is = subst (λ (n : ℕ). IsGroupPipelineTo (InEnd (Grouping fields into) operators) (literals_placed p) (directory table) n key values e.statement e.own) free
+      is = subst (λ (n : ℕ). IsGroupPipelineTo (InEnd (Grouping fields into) operators) (literals_placed p) (directory table) n key values e.statement e.own) (free_at e0 first own_old first_is own0)
           (subst (λ (os : List Operator). IsGroupPipelineTo (InEnd (Grouping fields into) os) (literals_placed p) (directory table) (free_of e0) key values e.statement e.own) steps_are
           (subst (λ (ks : List Known). IsGroupPipelineTo (InEnd (Grouping fields into) steps) ks (directory table) (free_of e0) key values e.statement e.own) known_is
           (subst (λ (n : ℕ). IsGroupPipelineTo (InEnd (Grouping fields into) steps) known n (free_of e0) key values e.statement e.own) d_is e.pipeline)));
@@ -52,21 +53,12 @@ enter_emitted p first table d known key values steps operators into fields old n
 pub enter_short : (columns functions : ℕ) (operators : List coded_operator.Operator) (into : coded.Group) (old new : List LowStep) (own_old own_new : List ValType) (e0 e1 : Emitter) → e0.block.code.items ≡ [] → e0.own.items ≡ [] → new ≡ old ++ e1.block.code.items → own_new ≡ own_old ++ e1.own.items →
     extent e1 ≤ extent e0 + (25 * columns + 328 * functions + span_to operators (group_span into) + 60) → length new + length own_new + 40 ≤ length old + length own_old + enter_span columns functions operators into
 enter_short columns functions operators into old new own_old own_new e0 e1 code0 own0 code own short =
-    let all = ap (λ (l : List LowStep). length l) code ∙ length-append old e1.block.code.items in
-    let locals = ap (λ (l : List ValType). length l) own ∙ length-append own_old e1.own.items in
-    let none = ap (λ (l : List LowStep). length l) code0 in
-    let none_own = ap (λ (l : List ValType). length l) own0 in
-    omega (arith, all, locals, none, none_own, short)
+    let all = added_short old new own_old own_new e0 e1 (25 * columns + 328 * functions + span_to operators (group_span into) + 60) code0 own0 code own short in
+    omega (arith, all)
 
 -- ---- all of it
 whole_chained : (b g d e h w f c1 c2 c3 c4 c5 c6 : List LowStep) → c1 ≡ b ++ g → c2 ≡ c1 ++ d → c3 ≡ c2 ++ e → c4 ≡ c3 ++ h → c5 ≡ c4 ++ w → c6 ≡ c5 ++ f → c6 ≡ b ++ (g ++ (d ++ (e ++ (h ++ (w ++ f)))))
-whole_chained b g d e h w f c1 c2 c3 c4 c5 c6 one two three four five six =
-    six ∙ (ap (λ (x : List LowStep). x ++ f) (five ∙ ap (λ (x : List LowStep). x ++ w) (four ∙ ap (λ (x : List LowStep). x ++ h) (three ∙ ap (λ (x : List LowStep). x ++ e) (two ∙ ap (λ (x : List LowStep). x ++ d) one))))
-    ∙ (append_assoc (((((b ++ g) ++ d) ++ e) ++ h)) w f
-    ∙ (append_assoc ((((b ++ g) ++ d) ++ e)) h (w ++ f)
-    ∙ (append_assoc (((b ++ g) ++ d)) e (h ++ (w ++ f))
-    ∙ (append_assoc (b ++ g) d (e ++ (h ++ (w ++ f)))
-    ∙ append_assoc b g (d ++ (e ++ (h ++ (w ++ f)))))))))
+whole_chained b g d e h w f c1 c2 c3 c4 c5 c6 one two three four five six = simp (six, five, four, three, two, one, append_assoc)
 
 pub distinct_emitted : (guard : Option ℕ) (p : Places) (first : ℕ) (building : List Pipeline) (entry : ℕ) (operators : List Operator) (g : Group) (key : List ReadColumn) (values : List ValueColumn) (behind : List Operator) (into : Group) (key_again : List ReadColumn) (values_again : List ValueColumn) (again : Pipeline)
     (code1 code2 code3 code4 code5 code6 : List LowStep) (own1 own2 own3 : List ValType) (kinds : List Kind) → EmitsFront guard p first building entry operators g code1 own1 → code2 ≡ code1 ++ steps_of (directory_block (directory into.table)) → EmitsEnter p first g.table key values behind into code2 code3 own1 own2 →

@@ -41,19 +41,26 @@ use Rattle.qw_compile.proofs.StatementLengths.{locals_long}
 use Rattle.qw_compile_whole.specs.GroupedLimits.{AreShortGrouped, gathering_span, walk_span}
 use Rattle.qw_compile_whole.specs.GuardedStatements.{count_from, stop_at}
 
--- ---- the walk
-pub walk_short : (columns functions : ℕ) (behind : Pipeline) (old new : List LowStep) (own_old own_new : List ValType) (e0 e1 : Emitter) → e0.block.code.items ≡ [] → e0.own.items ≡ [] → new ≡ old ++ e1.block.code.items → own_new ≡ own_old ++ e1.own.items →
-    extent e1 ≤ extent e0 + (25 * columns + 328 * functions + span behind.operators.items behind.sink + 60) → length new + length own_new + 40 ≤ length old + length own_old + walk_span columns functions behind
-walk_short columns functions behind old new own_old own_new e0 e1 code0 own0 code own short =
+-- ---- what is added to a block
+pub added_short : (old new : List LowStep) (own_old own_new : List ValType) (e0 e1 : Emitter) (most : ℕ) → e0.block.code.items ≡ [] → e0.own.items ≡ [] → new ≡ old ++ e1.block.code.items → own_new ≡ own_old ++ e1.own.items → extent e1 ≤ extent e0 + most →
+    length new + length own_new ≤ length old + length own_old + most
+added_short old new own_old own_new e0 e1 most code0 own0 code own short =
     let all = ap (λ (l : List LowStep). length l) code ∙ length-append old e1.block.code.items in
     let locals = ap (λ (l : List ValType). length l) own ∙ length-append own_old e1.own.items in
     let none = ap (λ (l : List LowStep). length l) code0 in
     let none_own = ap (λ (l : List ValType). length l) own0 in
     omega (arith, all, locals, none, none_own, short)
 
+-- ---- the walk
+pub walk_short : (columns functions : ℕ) (behind : Pipeline) (old new : List LowStep) (own_old own_new : List ValType) (e0 e1 : Emitter) → e0.block.code.items ≡ [] → e0.own.items ≡ [] → new ≡ old ++ e1.block.code.items → own_new ≡ own_old ++ e1.own.items →
+    extent e1 ≤ extent e0 + (25 * columns + 328 * functions + span behind.operators.items behind.sink + 60) → length new + length own_new + 40 ≤ length old + length own_old + walk_span columns functions behind
+walk_short columns functions behind old new own_old own_new e0 e1 code0 own0 code own short =
+    let all = added_short old new own_old own_new e0 e1 (25 * columns + 328 * functions + span behind.operators.items behind.sink + 60) code0 own0 code own short in
+    omega (arith, all)
+
 -- ---- all of them
 -- what counts rows is short
-counted_few : (guard : Option ℕ) → length (steps_of (count_from guard)) + length (steps_of (stop_at guard)) ≤ 8
+pub counted_few : (guard : Option ℕ) → length (steps_of (count_from guard)) + length (steps_of (stop_at guard)) ≤ 8
 counted_few None = omega arith
 counted_few (Some z) = omega arith
 

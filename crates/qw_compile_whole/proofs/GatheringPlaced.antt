@@ -24,7 +24,7 @@ use Rattle.qw_table.specs.declared.key.Field.{Field}
 use Rattle.qw_physical.specs.Physical.{Operator, Pipeline, Sink}
 use Rattle.qw_physical.specs.declared.pipeline.ReadColumn.{ReadColumn}
 use Rattle.qw_operator.specs.Carries.{directory, result_kinds}
-use Rattle.qw_group_sink.specs.Carrying.{EmitsRowTo, IsRowTo}
+use Rattle.qw_group_sink.specs.Carrying.{EmitsRowTo}
 use Rattle.qw_group_sink.specs.Grouping.{Group, IsGrouped}
 use Rattle.qw_group_sink.specs.Guarded.{IsGroupedWithin}
 use Rattle.qw_group_sink.proofs.Unguarded.{row_map, unguarded}
@@ -37,6 +37,7 @@ use Rattle.qw_compile.specs.declared.courses.Places.{Places}
 use Rattle.qw_compile_whole.specs.GroupedPlaced.{EmitsFront, EmitsGathering, EmitsGrouped, EmitsWalk, gathering_of}
 use Rattle.qw_compile_whole.specs.GroupedStatements.{IsGatheringTo}
 use Rattle.qw_compile_whole.specs.GuardedStatements.{IsGatheringBy, count_from, gather_block, stop_at}
+use Rattle.qw_compile_whole.proofs.ScanPlaced.{behind_none, free_at, row_over, scan_as, scan_placed}
 
 -- ---- the scan
 abbrev pub End : (guard : Option ℕ) → List Field → Group → List Known → (next : ℕ) → Statement → List ValType → Type 0
@@ -44,9 +45,7 @@ End guard fields g = λ known at a more. IsGroupedWithin guard fields known at g
 
 pub row_to_as : (guard : Option ℕ) (fields : List Field) (g : Group) (ks known : List Known) (rs readers : List Reader) (os operators : List Operator) (old new : Emitter) → ks ≡ known → rs ≡ readers → os ≡ operators → EmitsRowTo (End guard fields g) ks rs os old new →
     EmitsRowTo (End guard fields g) known readers operators old new
-row_to_as guard fields g ks known rs readers os operators old new one two three h =
-    subst (λ (l : List Known). EmitsRowTo (End guard fields g) l readers operators old new) one
-    (subst (λ (l : List Reader). EmitsRowTo (End guard fields g) ks l operators old new) two (subst (λ (l : List Operator). EmitsRowTo (End guard fields g) ks rs l old new) three h))
+row_to_as guard fields g ks known rs readers os operators old new one two three h = row_over (End guard fields g) ks known rs readers os operators old new one two three h
 
 -- whatever is innermost
 module _ (guard : Option ℕ) (E : List Known → (next : ℕ) → Statement → List ValType → Type 0) (p : Places) (first entry : ℕ) (operators : List Operator) (g : Group) (fields : List Field) (old new : List LowStep) (own_old own_new : List ValType) (e0 e1 : Emitter) (head : Reader) (begins : Statement) where
@@ -59,17 +58,9 @@ module _ (guard : Option ℕ) (E : List Known → (next : ℕ) → Statement →
     fields = fields;
     own = e.own;
     code_is = coded e.statement (e.code_is ∙ ap (λ (l : List LowStep). l ++ steps_of e.statement) code0);
-    own_is = own_is ∙ ap (λ (l : List ValType). own_old ++ l) (e.own_is ∙ ap (λ (l : List ValType). l ++ e.own) own0);
+    own_is = behind_none own_old own_new e0.own.items e1.own.items e.own own_is e.own_is own0;
     kinds = kinds;
-    is = is_by (record { index = head.index; begins = begins; row = e.statement }) e.own (record {
-      first = head;
-      first_is = head_is;
-      index_is = refl;
-      begins = all;
-      row =
-          let free : free_of e0 ≡ first + length own_old = let none : length e0.own.items ≡ 0 = ap (λ (l : List ValType). length l) own0 in omega (arith, none, first_is) in
-          subst (λ (n : ℕ). IsRowTo E (literals_placed p) (readers_over entry p.readers.items) n operators e.statement e.own) free e.row;
-    });
+    is = is_by (record { index = head.index; begins = begins; row = e.statement }) e.own (scan_placed E p first entry operators g own_old e0 e1 head begins first_is own0 e head_is all);
   }
 
 pub gathering_emitted : (guard : Option ℕ) (p : Places) (first entry : ℕ) (operators : List Operator) (g : Group) (fields : List Field) (old new : List LowStep) (own_old own_new : List ValType) (e0 e1 : Emitter) (head : Reader) (begins : Statement) → e0.first ≡ first + length own_old →
@@ -83,21 +74,10 @@ gathering_emitted (Some z) p first entry operators g fields old new own_old own_
     emitted_by (Some z) (End (Some z) fields g) p first entry operators g fields old new own_old own_new e0 e1 head begins (λ c own h. h) first_is code0 own0 e kinds head_is all coded own_is
 
 -- what its blocks are doesn't depend on its sink
-gathering_to_as : (E : List Known → (next : ℕ) → Statement → List ValType → Type 0) (literals : List Known) (readers : List Reader) (next : ℕ) (p q : Pipeline) (c : Course) (own : List ValType) → p.entry ≡ q.entry → p.operators ≡ q.operators → IsGatheringTo E literals readers next p c own →
-    IsGatheringTo E literals readers next q c own
-gathering_to_as E literals readers next p q c own one two h = record {
-  first = h.first;
-  first_is = subst (λ (n : ℕ). slice_get (readers_over n readers) 0 ≡ Some h.first) one h.first_is;
-  index_is = h.index_is;
-  begins = subst (λ (n : ℕ). BeginsAll (readers_over n readers) c.begins) one h.begins;
-  row = subst (λ (n : ℕ). IsRowTo E literals (readers_over n readers) next q.operators c.row own) one
-      (subst (λ (os : List Operator). IsRowTo E literals (readers_over p.entry readers) next os c.row own) two h.row);
-}
-
 pub gathering_as : (guard : Option ℕ) (literals : List Known) (readers : List Reader) (next : ℕ) (p q : Pipeline) (g : Group) (fields : List Field) (c : Course) (own : List ValType) → p.entry ≡ q.entry → p.operators ≡ q.operators → IsGatheringBy guard literals readers next p g fields c own →
     IsGatheringBy guard literals readers next q g fields c own
-gathering_as None literals readers next p q g fields c own one two h = gathering_to_as (λ known at a more. IsGrouped fields known at g a more) literals readers next p q c own one two h
-gathering_as (Some z) literals readers next p q g fields c own one two h = gathering_to_as (End (Some z) fields g) literals readers next p q c own one two h
+gathering_as None literals readers next p q g fields c own one two h = scan_as (λ known at a more. IsGrouped fields known at g a more) literals readers next p q c own one two h
+gathering_as (Some z) literals readers next p q g fields c own one two h = scan_as (End (Some z) fields g) literals readers next p q c own one two h
 
 -- ---- the walk
 -- literals are below the locals of a pipeline
@@ -113,13 +93,12 @@ pub walk_emitted : (p : Places) (first table d : ℕ) (known : List Known) (key 
     d ≡ directory table → known ≡ literals_placed p → operators ≡ behind.operators → snk ≡ behind.sink → e0.first ≡ first + length own_old → e0.block.code.items ≡ [] → e0.own.items ≡ [] → EmitsGroups known d key values operators snk e0 e1 →
     new ≡ old ++ e1.block.code.items → own_new ≡ own_old ++ e1.own.items → EmitsWalk p first table key values behind old new own_old own_new
 walk_emitted p first table d known key values behind operators snk old new own_old own_new e0 e1 d_is known_is operators_are sink_is first_is code0 own0 e code_is own_is =
-    let free : free_of e0 ≡ first + length own_old = let none : length e0.own.items ≡ 0 = ap (λ (l : List ValType). length l) own0 in omega (arith, none, first_is) in
     record {
       walk = e.statement;
       own = e.own;
-      code_is = code_is ∙ ap (λ (l : List LowStep). old ++ l) (e.code_is ∙ ap (λ (l : List LowStep). l ++ steps_of e.statement) code0);
-      own_is = own_is ∙ ap (λ (l : List ValType). own_old ++ l) (e.own_is ∙ ap (λ (l : List ValType). l ++ e.own) own0);
-      is = subst (λ (n : ℕ). IsGroupPipeline (literals_placed p) (directory table) n key values behind.operators behind.sink e.statement e.own) free
+      code_is = behind_none old new e0.block.code.items e1.block.code.items (steps_of e.statement) code_is e.code_is code0;
+      own_is = behind_none own_old own_new e0.own.items e1.own.items e.own own_is e.own_is own0;
+      is = subst (λ (n : ℕ). IsGroupPipeline (literals_placed p) (directory table) n key values behind.operators behind.sink e.statement e.own) (free_at e0 first own_old first_is own0)
           (subst (λ (s : Sink). IsGroupPipeline (literals_placed p) (directory table) (free_of e0) key values behind.operators s e.statement e.own) sink_is
           (subst (λ (os : List Operator). IsGroupPipeline (literals_placed p) (directory table) (free_of e0) key values os snk e.statement e.own) operators_are
           (subst (λ (ks : List Known). IsGroupPipeline ks (directory table) (free_of e0) key values operators snk e.statement e.own) known_is
@@ -132,10 +111,8 @@ gather_steps : (guard : Option ℕ) (t n : ℕ) (c : Course) → steps_of (gathe
 gather_steps None t n c = sym (append-nil (steps_of (build_block t n c)))
 gather_steps (Some z) t n c = refl
 
-front_chained : (b l d c s c1 c2 c3 c4 c5 : List LowStep) → c1 ≡ b → c2 ≡ c1 ++ l → c3 ≡ c2 ++ d → c4 ≡ c3 ++ c → c5 ≡ c4 ++ s → c5 ≡ b ++ (l ++ ((d ++ c) ++ s))
-front_chained b l d c s c1 c2 c3 c4 c5 one two three four five =
-    five ∙ (ap (λ (x : List LowStep). x ++ s) (four ∙ ap (λ (x : List LowStep). x ++ c) (three ∙ ap (λ (x : List LowStep). x ++ d) (two ∙ ap (λ (x : List LowStep). x ++ l) one)))
-    ∙ (ap (λ (x : List LowStep). x ++ s) (append_assoc (b ++ l) d c) ∙ (append_assoc (b ++ l) (d ++ c) s ∙ append_assoc b l ((d ++ c) ++ s))))
+pub front_chained : (b l d c s c1 c2 c3 c4 c5 : List LowStep) → c1 ≡ b → c2 ≡ c1 ++ l → c3 ≡ c2 ++ d → c4 ≡ c3 ++ c → c5 ≡ c4 ++ s → c5 ≡ b ++ (l ++ ((d ++ c) ++ s))
+front_chained b l d c s c1 c2 c3 c4 c5 one two three four five = simp (five, four, three, two, one, append_assoc)
 
 pub front_emitted : (guard : Option ℕ) (p : Places) (first : ℕ) (building : List Pipeline) (entry : ℕ) (operators : List Operator) (g : Group) (code1 code2 code3 code4 code5 : List LowStep) (own1 own2 : List ValType) →
     EmitsBuilds p first building [] code1 [] own1 → code2 ≡ code1 ++ steps_of (count_from guard) → code3 ≡ code2 ++ steps_of (directory_block (directory g.table)) → EmitsGathering guard p first entry operators g code3 code4 own1 own2 → code5 ≡ code4 ++ steps_of (stop_at guard) →
@@ -157,9 +134,7 @@ front_emitted guard p first building entry operators g code1 code2 code3 code4 c
 }
 
 walk_chained : (b g h w f c1 c2 c3 c4 : List LowStep) → c1 ≡ b ++ g → c2 ≡ c1 ++ h → c3 ≡ c2 ++ w → c4 ≡ c3 ++ f → c4 ≡ b ++ (g ++ (h ++ (w ++ f)))
-walk_chained b g h w f c1 c2 c3 c4 one two three four =
-    four ∙ (ap (λ (x : List LowStep). x ++ f) (three ∙ ap (λ (x : List LowStep). x ++ w) (two ∙ ap (λ (x : List LowStep). x ++ h) one))
-    ∙ (append_assoc ((b ++ g) ++ h) w f ∙ (append_assoc (b ++ g) h (w ++ f) ∙ append_assoc b g (h ++ (w ++ f)))))
+walk_chained b g h w f c1 c2 c3 c4 one two three four = simp (four, three, two, one, append_assoc)
 
 pub grouped_emitted : (guard : Option ℕ) (p : Places) (first : ℕ) (building : List Pipeline) (entry : ℕ) (operators : List Operator) (g : Group) (key : List ReadColumn) (values : List ValueColumn) (behind : Pipeline) (code1 code2 code3 code4 : List LowStep) (own1 own2 : List ValType) (kinds : List Kind) →
     EmitsFront guard p first building entry operators g code1 own1 → code2 ≡ code1 ++ steps_of begin_block → EmitsWalk p first g.table key values behind code2 code3 own1 own2 → code4 ≡ code3 ++ steps_of finish_block → map Some kinds ≡ result_kinds behind.sink → EmitsGrouped guard p first building entry operators g key values behind code4 own2 kinds

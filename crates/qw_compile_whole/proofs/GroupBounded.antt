@@ -65,8 +65,8 @@ abbrev pub groups_paid : (u : ℕ) → Group → (budget : ℕ) → (rows : List
 groups_paid u g budget rows = budget + u + 4096 + length (keys g.columns rows) * group_width g
 
 -- Of the pipeline whose rows go into groups, where those before it have built their tables, and so many octets are paid for: it finds what it looks up;
--- `entries` bounds the entries that may be in a row's slot, `chosen` the octets that MIN and MAX compare at a row; with them it takes no more than N.
-pub record GatherReach (T n : ℕ) (columns : List ReadColumn) (literals : List Known) (tables : List (List (List Val))) (u most N : ℕ) (table_of : ℕ → ℕ) (g : Group) (stoods : List Stood) (p : Pipeline) (budget : ℕ) : Type 0 where
+-- `entries` bounds the entries that may be in a row's slot, `chosen` the octets that MIN and MAX compare at a row; with them it takes no more than N; and this is known of how many rows there are.
+pub record ReachWith (Few : Type 0) (T n : ℕ) (columns : List ReadColumn) (literals : List Known) (tables : List (List (List Val))) (u most N : ℕ) (table_of : ℕ → ℕ) (g : Group) (stoods : List Stood) (p : Pipeline) (budget : ℕ) : Type 0 where
   pub table_is : p.table ≡ table_of p.entry
   pub has_column : HasColumnOf columns p.entry
   pub finds : Finds T n columns literals tables N stoods p
@@ -75,9 +75,13 @@ pub record GatherReach (T n : ℕ) (columns : List ReadColumn) (literals : List 
   pub met : (row : List Val) → length (in_slot slot (slot (key_of g.columns row)) (keys g.columns (rows_met tables stoods p))) ≤ entries row
   pub compared : (row : List Val) → AreChosenWithin g.columns g.functions (rows_met tables stoods p) row (chosen row)
   pub cost : 1 + pipeline_cost_to g.values (turn_of g entries chosen) tables (built_of stoods) p ≤ N
-  pub few : 1 ≤ length g.functions → length (rows_met tables stoods p) < 10 ^ 18
+  pub few : Few
   pub fits : group_width g + u ≤ page
   pub enough : groups_paid u g budget (rows_met tables stoods p) + 2 * u < (most + 1) * u
+
+-- fewer than 10^18 where there are set functions
+abbrev pub GatherReach : (T n : ℕ) → List ReadColumn → List Known → (tables : List (List (List Val))) → (u most N : ℕ) → (table_of : ℕ → ℕ) → (g : Group) → List Stood → Pipeline → (budget : ℕ) → Type 0
+GatherReach T n columns literals tables u most N table_of g stoods p budget = ReachWith (1 ≤ length g.functions → length (rows_met tables stoods p) < 10 ^ 18) T n columns literals tables u most N table_of g stoods p budget
 
 -- Of the walk over the groups of these rows, none of which raised anything, where so many octets are paid for: keys have values that the cells of their columns give back, and values are of their kinds;
 -- the walk takes no more than N; and the rows of the result are paid for.

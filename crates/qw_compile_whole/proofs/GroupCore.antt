@@ -62,8 +62,8 @@ use Rattle.qw_compile.proofs.QueryRuns.{Reach}
 use Rattle.qw_compile.proofs.StoodBuilt.{stood_built}
 use Rattle.qw_whole.specs.GroupTables.{chosen_units, group_octets, group_size, group_units}
 use Rattle.qw_whole.specs.WholePromises.{planned_rows}
-use Rattle.qw_compile_whole.proofs.GroupBounded.{GatherReach, GoTogether, IsGroupBounded, WalkReach, group_width, groups_paid, walked_of}
-use Rattle.qw_compile_whole.proofs.FirstBounded.{FirstReach, IsFirstBounded}
+use Rattle.qw_compile_whole.proofs.GroupBounded.{GatherReach, GoTogether, IsGroupBounded, WalkReach, group_width, groups_paid, rows_met, walked_of}
+use Rattle.qw_compile_whole.proofs.FirstBounded.{FirstReach, IsFirstBounded, reach_with}
 use Rattle.qw_compile_whole.proofs.GroupCosts.{pipeline_to_less, present_served, stoods_have}
 use Rattle.qw_compile_whole.proofs.GroupPlanned.{builds_size, builds_within, cost_within, fed_alike, plan, rows_planned, scans_whole, typed_builds}
 use Rattle.qw_compile_whole.proofs.GroupReach.{budget, most, paid, reach}
@@ -243,6 +243,7 @@ module _ (row_is : (row other : List Val) → is_same_row row other ≡ true →
         met = λ row. omega arith;
         compared = λ row. compared_within g.columns g.functions rows row (chosen row) (omega arith);
         cost = gather_cost;
+        few = tt;
         fits = (let width = width_is in let fit = fits_page (group_size query) widest group_fits widest_low in omega (arith, width, fit));
         enough = gather_pays;
       }
@@ -301,20 +302,8 @@ module _ (row_is : (row other : List Val) → is_same_row row other ≡ true →
 
         pub gather_reach : GatherReach T (literal_count texts words) columns (literals_known T at texts words) tables given_up (most given_up S beside cut.building) N (table_of (entries_of spec.sources)) g stoods cut.last (budget given_up tables cut.building (length cut.building))
         gather_reach =
-            let r = first_reach stoods stood in
-            record {
-              table_is = r.table_is;
-              has_column = r.has_column;
-              finds = r.finds;
-              entries = r.entries;
-              chosen = r.chosen;
-              met = r.met;
-              compared = r.compared;
-              cost = r.cost;
-              few = λ some. rows_few (let many = ap (λ (fs : List SetFunctionKind). length fs) together.functions in let count = length-map query.functions (λ (f : SetFunction). f.kind) in omega (arith, some, many, count));
-              fits = r.fits;
-              enough = r.enough;
-            }
+            reach_with (Unit {0}) (1 ≤ length g.functions → length (rows_met tables stoods cut.last) < 10 ^ 18) T (literal_count texts words) columns (literals_known T at texts words) tables given_up (most given_up S beside cut.building) N (table_of (entries_of spec.sources)) g stoods cut.last (budget given_up tables cut.building (length cut.building))
+            (first_reach stoods stood) (λ some. rows_few (let many = ap (λ (fs : List SetFunctionKind). length fs) together.functions in let count = length-map query.functions (λ (f : SetFunction). f.kind) in omega (arith, some, many, count)))
 
       -- ---- the walk, whose rows are the result: so many, each of its cells
       module _ (rows_for : ℕ) (rows_low : (rows : List (List Val)) → IsPermutation rows (planned_rows (query_of parts) tables) → length (walked_of query rows).rows ≤ rows_for)

@@ -1,8 +1,10 @@
 -- How many rows reach the groups of a query: a table has at most 1,000,000 rows, and so of two entries of FROM there are fewer than 10^18 pairs.
 use Rattle.std.proofs.Common.{◌≡◌, ◌∙◌, ℕ, zero, suc, ◌+◌, ◌*◌, ◌^◌, ◌<◌, ◌≤◌, Bool, true, false, if◌then◌else◌, List, [], ◌∷◌, ◌++◌, map, length, length-append, Result, Ok, Err, sym, ap, subst, arith}
-use Rattle.std.proofs.Math.Nat.{mul_assoc, pow-succ', suc-mul}
+use Rattle.std.proofs.Math.Nat.{mul_assoc, pow-succ'}
 use Rattle.std.proofs.lemmas.Nat.{mul-le, pow-add}
 use Rattle.std.proofs.lemmas.List.{length-map}
+use Rattle.std.proofs.lemmas.List.Concat.{length-flat_map}
+use Rattle.std.proofs.lemmas.List.Sums.{sum_by-le}
 use Rattle.std.specs.List.{AllByRecursion, flat_map}
 use Rattle.qw_types.specs.Arithmetic.{◌>>=◌}
 use Rattle.qw_types.specs.Contents.{rows_of}
@@ -19,13 +21,11 @@ use Rattle.qw_leaves.proofs.LeafLists.{all_back, all_front}
 
 -- ---- a clause
 
-less_each : {A B : Type 0} (f : A → List B) (xs : List A) → ((x : A) → length (f x) ≤ 1) → length (flat_map f xs) ≤ length xs
-less_each f [] few = omega arith
-less_each f (x ∷ xs) few =
-    let one = few x in
-    let rest = less_each f xs few in
-    let both = length-append (f x) (flat_map f xs) in
-    omega (arith, one, rest, both)
+few_each : {A B : Type 0} (f : A → List B) (a : ℕ) (xs : List A) → ((x : A) → length (f x) ≤ a) → length (flat_map f xs) ≤ length xs * a
+few_each f a xs few =
+    let sums = length-flat_map f xs in
+    let less = sum_by-le (λ x. length (f x)) a xs (λ k d inside. few _) in
+    omega (arith, sums, less)
 
 kept_one : (conjuncts : List Condition) (row : List Val) → length (rows_given (kept conjuncts row)) ≤ 1
 kept_one conjuncts row = one (passes conjuncts (at_row row))
@@ -42,18 +42,6 @@ selected_one items row = one (values_of items (at_row row))
     one (Ok values) = omega arith
     one (Err code) = omega arith
 
-crossed_many : (ones others : List (List Val)) → length (flat_map (λ (row : List Val). map (merged row) others) ones) ≡ length ones * length others
-crossed_many [] others = omega arith
-crossed_many (row ∷ ones) others =
-    let both = length-append (map (merged row) others) (flat_map (λ (r : List Val). map (merged r) others) ones) in
-    let own = length-map others (merged row) in
-    let rest = crossed_many ones others in
-    let more = suc-mul (length ones) (length others) in
-    summed (length (flat_map (λ (r : List Val). map (merged r) others) (row ∷ ones))) (length (map (merged row) others)) (length (flat_map (λ (r : List Val). map (merged r) others) ones)) (length others) (length ones * length others) (suc (length ones) * length others) both own rest more
-  where
-    summed : (whole a b n p q : ℕ) → whole ≡ a + b → a ≡ n → b ≡ p → q ≡ p + n → whole ≡ q
-    summed whole a b n p q e f g h = omega (arith, e, f, g, h)
-
 -- ---- FROM
 
 module _ (tables : List (List (List Val))) where
@@ -62,8 +50,8 @@ module _ (tables : List (List (List Val))) where
 
   crossed_few : (one other : Flow (List Val)) (a b : ℕ) → length one.rows ≤ a → length other.rows ≤ b → length (crossed one other).rows ≤ a * b
   crossed_few one other a b h g =
-      let many = crossed_many one.rows other.rows in
-      let less = mul-le (length one.rows) (length other.rows) a b h g in
+      let many = few_each (λ (row : List Val). map (merged row) other.rows) b one.rows (λ row. (let same = length-map other.rows (merged row) in omega (arith, same, g))) in
+      let less = mul-le (length one.rows) b a b h (omega arith) in
       omega (arith, many, less)
 
   power_more : (b k : ℕ) → (b * 1000000) * 1000000 ^ k ≡ b * 1000000 ^ suc k
@@ -76,27 +64,17 @@ module _ (tables : List (List (List Val))) where
 
   row_few : (on : List Condition) (others : List (List Val)) (row : List Val) (a : ℕ) → 1 ≤ a → length others ≤ a → length (completed_pairs on others row).rows ≤ a
   row_few on others row a some h =
-      let less = less_each (λ (r : List Val). rows_given (kept on r)) (map (merged row) others) (kept_one on) in
+      let less = few_each (λ (r : List Val). rows_given (kept on r)) 1 (map (merged row) others) (kept_one on) in
       let many = length-map others (merged row) in
       completed_few row (pairs on others row).rows (pairs on others row).codes a some (omega (arith, less, many, h))
-
-  each_few : (on : List Condition) (others rows : List (List Val)) (a : ℕ) → 1 ≤ a → length others ≤ a → length (flat_map (λ (row : List Val). (completed_pairs on others row).rows) rows) ≤ length rows * a
-  each_few on others [] a some h = omega arith
-  each_few on others (row ∷ rows) a some h =
-      let both = length-append (completed_pairs on others row).rows (flat_map (λ (r : List Val). (completed_pairs on others r).rows) rows) in
-      summed (length (flat_map (λ (r : List Val). (completed_pairs on others r).rows) (row ∷ rows))) (length (completed_pairs on others row).rows) (length (flat_map (λ (r : List Val). (completed_pairs on others r).rows) rows)) a (length rows * a) (suc (length rows) * a)
-      both (row_few on others row a some h) (each_few on others rows a some h) (suc-mul (length rows) a)
-    where
-      summed : (whole one rest a p q : ℕ) → whole ≡ one + rest → one ≤ a → rest ≤ p → q ≡ p + a → whole ≤ q
-      summed whole one rest a p q e f g h = omega (arith, e, f, g, h)
 
   joined_few : (outer : Bool) (on : List Condition) (one other : Flow (List Val)) (b : ℕ) → length one.rows ≤ b → length other.rows ≤ 1000000 → length (joined outer on one other).rows ≤ b * 1000000
   joined_few false on one other b h g =
       let few = crossed_few one other b 1000000 h g in
-      let less = less_each (λ (row : List Val). rows_given (kept on row)) (crossed one other).rows (kept_one on) in
+      let less = few_each (λ (row : List Val). rows_given (kept on row)) 1 (crossed one other).rows (kept_one on) in
       omega (arith, few, less)
   joined_few true on one other b h g =
-      let few = each_few on other.rows one.rows 1000000 (omega arith) g in
+      let few = few_each (λ (row : List Val). (completed_pairs on other.rows row).rows) 1000000 one.rows (λ row. row_few on other.rows row 1000000 (omega arith) g) in
       let less = mul-le (length one.rows) 1000000 b 1000000 h (omega arith) in
       omega (arith, few, less)
 
@@ -142,8 +120,8 @@ rows_few query tables loaded =
     let from : List (List Val) = (from_sources query.sources tables).rows in
     let kept_rows : List (List Val) = (each (kept query.conjuncts) (from_sources query.sources tables)).rows in
     let all = from_few tables query.sources loaded in
-    let where_few = less_each (λ (row : List Val). rows_given (kept query.conjuncts row)) from (kept_one query.conjuncts) in
-    let made_few = less_each (λ (row : List Val). rows_given (selected query.items row)) kept_rows (selected_one query.items) in
+    let where_few = few_each (λ (row : List Val). rows_given (kept query.conjuncts row)) 1 from (kept_one query.conjuncts) in
+    let made_few = few_each (λ (row : List Val). rows_given (selected query.items row)) 1 kept_rows (selected_one query.items) in
     omega (arith, all, where_few, made_few)
 
 power_few : (k : ℕ) → k ≤ 2 → 1000000 ^ k < 10 ^ 18

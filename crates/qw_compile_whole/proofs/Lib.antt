@@ -58,6 +58,8 @@ pub mod LongFronts
 pub mod MadeOne
 mod OnceCounted
 pub mod OneDistinct
+pub mod RunsInto
+pub mod ScanPlaced
 mod ShortDistinct
 pub mod ShortGrouped
 mod PlainDistinctFinished

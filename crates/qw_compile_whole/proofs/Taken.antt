@@ -1,57 +1,47 @@
 -- The run of a pipeline whose rows the areas of set functions take, as one group (ISO/IEC 9075:1992, 7.8, 7.9): behind the tables of joins stand the areas
 -- that have taken them.
-use Rattle.std.proofs.Common.{◌≡◌, ℕ, append-nil, ◌+◌, ◌*◌, ◌^◌, ◌<◌, ◌≤◌, inl, inr, Some, List, [], ◌++◌, length, map, slice_get, sym, ap, ◌∙◌, subst, ⊎_elim, arith}
-use Rattle.std.proofs.lemmas.Nat.{mul-le}
-use Rattle.std.proofs.Math.Nat.{add-mul}
+use Rattle.std.proofs.Common.{◌≡◌, ℕ, append-nil, ◌+◌, ◌*◌, ◌^◌, ◌<◌, ◌≤◌, List, [], ◌++◌, length, map, arith}
 use Rattle.qw_types.specs.declared.value.Val.{Val}
 use Rattle.qw_linear.specs.Memory.{page}
 use Rattle.qw_module.specs.declared.instruction.ValType.{ValType}
 use Rattle.qw_scalar.specs.Typing.{kind_of}
 use Rattle.qw_meaning.specs.Flow.{Flow}
 use Rattle.qw_low.specs.Syntax.{Statement}
-use Rattle.qw_low.specs.State.{Own, Column, Value, Cells, LowState}
+use Rattle.qw_low.specs.State.{Cells, LowState}
 use Rattle.qw_low.specs.Meaning.{meaning}
 use Rattle.qw_low.specs.Promise.{Ends}
 use Rattle.qw_low.specs.Size.{size}
-use Rattle.qw_low.proofs.LessKnown.{IsLess}
-use Rattle.qw_low.proofs.Promises.{Ends-more, Ends-then, Ends-weaker}
-use Rattle.qw_low.proofs.Results.{at_least}
+use Rattle.qw_low.proofs.Promises.{Ends-weaker}
 use Rattle.qw_feed.specs.Cells.{kinds_of}
-use Rattle.qw_feed.specs.Feeds.{Any, FedTo, Sink, Tells}
-use Rattle.qw_feed.specs.Frames.{pos, Before, Below, But, From, Keeps}
-use Rattle.qw_feed.specs.Scans.{rows_block}
-use Rattle.qw_feed.proofs.Frames.{Never, Keeps-kept, Keeps-less, Keeps-then, below-under}
+use Rattle.qw_feed.specs.Feeds.{Sink, Tells}
+use Rattle.qw_feed.specs.Frames.{pos, Before, But, From, Keeps}
+use Rattle.qw_feed.specs.Room.{HasRoom, Paid}
+use Rattle.qw_feed.proofs.Frames.{Never}
 use Rattle.qw_feed.proofs.RoomRuns.{IsRefusal}
 use Rattle.qw_expr.specs.Computes.{Known}
-use Rattle.qw_read.specs.Reading.{known_of}
-use Rattle.qw_read.specs.declared.reader.Reader.{Reader}
 use Rattle.qw_table.specs.Joins.{sources_of}
 use Rattle.qw_table.specs.declared.key.Field.{Field}
 use Rattle.qw_group.specs.Groups.{AreChosenWithin}
 use Rattle.qw_group.specs.declared.group.Aggregate.{Aggregate}
 use Rattle.qw_group.specs.Single.{HasSingle, single_block}
 use Rattle.qw_group.proofs.SingleRuns.{single_ends}
-use Rattle.qw_physical.specs.Physical as physical
 use Rattle.qw_physical.specs.Physical.{Pipeline, select}
 use Rattle.qw_physical.specs.declared.pipeline.ReadColumn.{ReadColumn}
 use Rattle.qw_operator.specs.Carries.{directory}
-use Rattle.qw_operator.specs.Takes.{CanCarry}
 use Rattle.qw_operator.proofs.Promised.{AreOwn}
 use Rattle.qw_operator.proofs.Seen.{StandsIn, longer_keeps}
-use Rattle.qw_operator.proofs.Stood.{AllStand, Stood, built_of}
-use Rattle.qw_group_sink.specs.Carrying.{pipeline_cost_to}
+use Rattle.qw_operator.proofs.Stood.{Stood}
 use Rattle.qw_group_sink.specs.Grouping.{CanGroup, Group, over_fields}
 use Rattle.qw_group_sink.specs.OneGroup.{IsOneGroup}
-use Rattle.qw_group_sink.proofs.OneFeeds.{one_later, taken, taken_feeds, taken_runs}
-use Rattle.qw_group_sink.proofs.PipelineTo.{ScannedTo}
-use Rattle.qw_compile.specs.QueryLocals.{base_start, cell_start, own_start, query_readers, rows_end, rows_left}
-use Rattle.qw_compile.specs.Statements.{Course, course_block}
-use Rattle.qw_compile.proofs.CourseBegins.{Opened}
-use Rattle.qw_compile.proofs.PipelineRuns.{Between, Grounds, Source, Steady, all_keep, course_opens, declared_over, fed_over, laid, less_known, opened_keeps, readers_of, scanned_rows, standing_at, steady_below}
+use Rattle.qw_group_sink.proofs.OneFeeds.{one_later, one_sink, row_taken, taken_runs}
+use Rattle.qw_compile.specs.QueryLocals.{own_start, query_readers, rows_left}
+use Rattle.qw_compile.specs.Statements.{Course}
+use Rattle.qw_compile.proofs.PipelineRuns.{Between, Grounds, Source, Steady, fed_over}
 use Rattle.qw_compile_whole.specs.SingleStatements.{IsTaking, take_block}
 use Rattle.qw_compile_whole.proofs.FieldCounts.{areas_long}
-use Rattle.qw_compile_whole.proofs.SingleBounded.{TakeReach}
+use Rattle.qw_compile_whole.proofs.SingleBounded.{TakeReach, areas_paid}
 use Rattle.qw_compile_whole.proofs.Beginnings.{IsBeginning, beginning_few, beginning_first, chosen_fewer}
+use Rattle.qw_compile_whole.proofs.RunsInto.{Placed, into_ends}
 
 -- ---- the areas stand behind the tables of joins
 pub record AreTaken (T n : ℕ) (c : Cells) (base u : ℕ) (s0 : LowState) (group : Group) (fields : List Field) (budget : ℕ) (rows : List (List Val)) (s : LowState) : Type 0 where
@@ -61,177 +51,65 @@ pub record AreTaken (T n : ℕ) (c : Cells) (base u : ℕ) (s0 : LowState) (grou
   pub has : HasSingle (StandsIn c s) (over_fields group.functions fields) part offset (directory group.table) u (budget + 32 * length (over_fields group.functions fields)) rows s
   pub keeps : Keeps (Steady T n) (Before base) s0 s
 
-module _ (T n : ℕ) (columns : List ReadColumn) (literals : List Known) (contents : List (List (List Val))) (c : Cells) (base u most fuel N many : ℕ) (types : List ValType) (s0 : LowState) (grounds : Grounds T n columns literals c base u fuel N many types s0) where
-  abbrev start : ℕ
-  start = base_start T n
+-- ---- areas that have taken nothing are placed
+abbrev pub into_areas : Cells → (group : Group) → (fields : List Field) → (u budget : ℕ) → (May : List (List Val) → Type 0) → ((rows more : List (List Val)) → May (rows ++ more) → May rows) → (part offset : ℕ) → Sink
+into_areas c group fields u budget May first k o = one_sink c (over_fields group.functions fields) k o (directory group.table) u (budget + 32 * length (over_fields group.functions fields)) May first
 
-  abbrev low : ℕ
-  low = cell_start T n (length columns)
+pub areas_placed : (c : Cells) (u most fuel : ℕ) (group : Group) (fields : List Field) (May : List (List Val) → Type 0) (first : (rows more : List (List Val)) → May (rows ++ more) → May rows) (budget : ℕ) (s : LowState) (part offset : ℕ) → HasRoom part offset s → Paid u budget offset s.held →
+    length (over_fields group.functions fields) ≡ length group.functions → directory group.table < length s.locals → 32 * length group.functions + u ≤ page → areas_paid group budget + 2 * u < (most + 1) * u →
+    Ends 26 (Placed (directory group.table) (pos part offset) (into_areas c group fields u budget May first) s) Never IsRefusal (meaning most fuel (single_block (32 * length (over_fields group.functions fields)) (directory group.table)) s)
+areas_placed c u most fuel group fields May first budget s part offset room paid many_is long fits enough =
+    let d : ℕ = directory group.table in
+    let aggregates : List Aggregate = over_fields group.functions fields in
+    let front : ℕ = pos part offset in
+    let held : ℕ = budget + 32 * length aggregates in
+    let begins : Statement = single_block (32 * length aggregates) d in
+    let Begun : LowState → Type 0 = λ t. (k : ℕ) × (o : ℕ) × (pos part offset ≤ pos k o) × Keeps (But d (From 3)) (Before (pos part offset)) s t × HasSingle (StandsIn c s) aggregates k o d u held [] t in
+    Ends-weaker 26 26 Begun (Placed d front (into_areas c group fields u budget May first) s) Never Never IsRefusal IsRefusal (meaning most fuel begins s) (omega arith)
+    (λ t begun. record {
+      part = begun.0;
+      offset = begun.1;
+      behind = begun.2;
+      keeps = begun.3;
+      first_page = begun.4.room.pages 0 (omega arith);
+      has = one_later c s t aggregates begun.0 begun.1 d u held [] (longer_keeps (But d (From 3)) (Before front) s t begun.3) begun.4;
+    })
+    (λ t x. x) (λ code x. x) (single_ends (StandsIn c s) aggregates d u budget most fuel (omega arith) (omega (arith, fits, many_is)) s long part offset room paid (omega (arith, enough)))
 
-  abbrev own_first : ℕ
-  own_first = own_start T n (length columns)
+-- ---- they take all rows
+module _ (T n : ℕ) (columns : List ReadColumn) (literals : List Known) (contents : List (List (List Val))) (c : Cells) (base u most fuel N many : ℕ) (types : List ValType) (s0 : LowState) (grounds : Grounds T n columns literals c base u fuel N many types s0)
+    (table_of : ℕ → ℕ) (stoods : List Stood) (p : Pipeline) (group : Group) (is_select : p.sink ≡ select group.values) (can : CanGroup group) (none : group.columns ≡ 0) (number_is : group.table ≡ length stoods) (room_T : length stoods < T) (fields : List Field) (field_kinds : kinds_of (sources_of fields) ≡ map kind_of group.values)
+    (course : Course) (next : ℕ) (own : List ValType) (behind : own_start T n (length columns) ≤ next) (room : next + length own ≤ many) (is : IsTaking literals (query_readers T n columns) next p group fields course own) (own_types : AreOwn types next own)
+    (source : Source T n columns contents s0 p) (budget : ℕ) (r : TakeReach T n columns literals contents u most N table_of group stoods p budget) where
+  abbrev fed : Flow (List Val)
+  fed = fed_over contents stoods p
 
-  abbrev over : (entry : ℕ) → List Reader
-  over entry = readers_of T n columns entry
+  abbrev May : List (List Val) → Type 0
+  May = IsBeginning fed.rows
 
-  abbrev Same : LowState → Type 0
-  Same s = Keeps (Steady T n) (Before base) s0 s
+  abbrev Taken : LowState → Type 0
+  Taken = AreTaken T n c base u s0 group fields budget fed.rows
 
-  module _ (table_of : ℕ → ℕ) (stoods : List Stood) (p : Pipeline) (group : Group) (is_select : p.sink ≡ select group.values) (can : CanGroup group) (none : group.columns ≡ 0) (number_is : group.table ≡ length stoods) (room_T : length stoods < T) (fields : List Field) (field_kinds : kinds_of (sources_of fields) ≡ map kind_of group.values)
-      (course : Course) (next : ℕ) (own : List ValType) (behind : own_first ≤ next) (room : next + length own ≤ many) (is : IsTaking literals (query_readers T n columns) next p group fields course own) (own_types : AreOwn types next own)
-      (source : Source T n columns contents s0 p) (budget : ℕ) (r : TakeReach T n columns literals contents u most N table_of group stoods p budget) where
-    abbrev fed : Flow (List Val)
-    fed = fed_over contents stoods p
+  few_rows : (xs : List (List Val)) → May xs → 1 ≤ length group.functions → length xs ≤ 10 ^ 18
+  few_rows xs may some = let fewer = beginning_few fed.rows xs may in let few = r.few some in omega (arith, fewer, few)
 
-    abbrev aggregates : List Aggregate
-    aggregates = over_fields group.functions fields
+  chosen_rows : (row : List Val) (xs : List (List Val)) → May xs → AreChosenWithin 0 group.functions xs row (r.chosen row)
+  chosen_rows row xs may = chosen_fewer 0 group.functions fed.rows xs row (r.chosen row) may (r.compared row)
 
-    abbrev End : List Known → (next : ℕ) → Statement → List ValType → Type 0
-    End known at a more = IsOneGroup fields known at group a more
+  abbrev block : Statement
+  block = take_block T group.table (length (over_fields group.functions fields)) course
 
-    abbrev May : List (List Val) → Type 0
-    May = IsBeginning fed.rows
-
-    abbrev d : ℕ
-    d = directory group.table
-
-    abbrev held : ℕ
-    held = budget + 32 * length aggregates
-
-    abbrev pub Taken : LowState → Type 0
-    Taken = AreTaken T n c base u s0 group fields budget fed.rows
-
-    many_is : length aggregates ≡ length group.functions
-    many_is = areas_long group fields can none field_kinds
-
-    -- ---- what is needed of rows that come
-    few_rows : (xs : List (List Val)) → May xs → 1 ≤ length group.functions → length xs ≤ 10 ^ 18
-    few_rows xs may some = let fewer = beginning_few fed.rows xs may in let few = r.few some in omega (arith, fewer, few)
-
-    chosen_rows : (row : List Val) (xs : List (List Val)) → May xs → AreChosenWithin 0 group.functions xs row (r.chosen row)
-    chosen_rows row xs may = chosen_fewer 0 group.functions fed.rows xs row (r.chosen row) may (r.compared row)
-
-    small : 32 * length aggregates + u ≤ page
-    small = let fits = r.fits in omega (arith, fits, many_is)
-
-    pays : budget + 2 * u < (most + 1) * u
-    pays = let all = r.enough in omega (arith, all)
-
-    module _ (s : LowState) (between : Between T n c base u s0 stoods budget s) where
-      abbrev front : ℕ
-      front = pos between.part between.offset
-
-      long_enough : d < length s.locals
-      long_enough = let known = grounds.long in let own_known = grounds.first_own in omega (arith, number_is, room_T, known, own_known, between.keeps.many)
-
-      -- the areas have been placed
-      module _ (t : LowState) (k o : ℕ) (k_behind : front ≤ pos k o) (kept : Keeps (But d (From 3)) (Before front) s t) (has_t : HasSingle (StandsIn c t) aggregates k o d u held [] t) where
-        same_t : Same t
-        same_t = Keeps-then (Steady T n) (Before base) s0 s t between.keeps
-            (Keeps-less (Steady T n) (Before base) (But d (From 3)) (Before front) s t
-            (λ i old. ⊎_elim (λ z. (inl z, λ e. omega (arith, z, e))) (λ g'. (inr (omega (arith, g'.0)), λ e. omega (arith, g'.0, e, number_is, room_T))) old)
-            (λ at wide' low'. omega (arith, low', between.behind)) kept)
-
-        stand_t : AllStand c stoods t
-        stand_t = all_keep T n columns literals contents c base u most fuel N many types s0 grounds IsRefusal stoods d (Before front) front s t between.fronts (λ at wide' low'. low') (omega (arith, number_is))
-            (Keeps-less (Below d) (Before front) (But d (From 3)) (Before front) s t (λ i old. ⊎_elim (λ z. (inl z, λ e. omega (arith, z, e))) (λ g'. (inr (omega (arith, g'.0)), λ e. omega (arith, g'.1, e))) old) (λ at wide' low'. low') kept)
-            between.stand
-
-        fronts_t : (i : ℕ) (st : Stood) → slice_get stoods i ≡ Some st → (base ≤ pos st.part st.offset) × (st.front ≤ pos k o)
-        fronts_t i st there = let old = between.fronts i st there in (old.0, omega (arith, old.1, k_behind))
-
-        -- the scan begins
-        module _ (v : LowState) (opened : Opened T (length (scanned_rows contents p)) start (over p.entry) t v) where
-          stand_v : AllStand c stoods v
-          stand_v = all_keep T n columns literals contents c base u most fuel N many types s0 grounds IsRefusal stoods (rows_left T) (λ at wide'. Unit {0}) front t v between.fronts (λ at wide' low'. tt) (omega (arith, room_T))
-              (Keeps-kept (Below (rows_left T)) (λ at wide'. Unit {0}) (rows_left T) t v (λ i old. below-under (rows_left T) (rows_left T) i (omega arith) (omega arith) old) opened.kept) stand_t
-
-          literals_same : (i : ℕ) → 8 + T ≤ i → i < start → slice_get v.locals i ≡ slice_get s0.locals i
-          literals_same i from to = opened.later i (omega (arith, from)) to ∙ (same_t).locals i (inr (from, to))
-
-          cells_same : v.cells ≡ t.cells
-          cells_same = ap (λ (x : LowState). x.cells) opened.kept.others
-
-          columns_same : v.columns ≡ s0.columns
-          columns_same = ap (λ (x : LowState). x.columns) opened.kept.others ∙ (same_t).columns
-
-          mapped_same : (j a b : ℕ) → v.cells (Column j) a b ≡ s0.cells (Column j) a b
-          mapped_same j a b = ap (λ (x : Cells). x (Column j) a b) cells_same ∙ (same_t).mapped j a b
-
-          scanned : ScannedTo End group.values r.chosen c stoods literals (over p.entry) (rows_left T) (rows_left T) (rows_end T) low next many fuel types contents p course.row own v
-          scanned = record {
-            is_row = is.row;
-            can = subst (λ (snk : physical.Sink). CanCarry (literals ++ map known_of (over p.entry)) p.operators snk) is_select r.finds.can;
-            apart = r.finds.apart;
-            served = r.finds.served;
-            laid = laid T n columns literals contents c base u most fuel N many types s0 grounds p.entry next behind;
-            room = room;
-            declared = declared_over T n columns literals contents c base u most fuel N many types s0 grounds p.entry;
-            own_types = own_types;
-            less = subst (λ (x : Cells). IsLess c x) (sym cells_same) (less_known T n columns literals contents c base u most fuel N many types s0 grounds t (same_t));
-            held = λ row. grounds.held v literals_same (ap (λ (x : LowState). slice_get x.own 0) opened.kept.others ∙ has_t.room.pages 0 (omega arith)) row;
-            fit = grounds.fit;
-            stays = record {
-              mapped = λ j a b. grounds.columns_seen j a b ∙ sym (mapped_same j a b);
-              bases = opened.bases;
-              rows_stand = λ i row there. standing_at T n columns literals contents c base u most fuel N many types s0 grounds i row (over p.entry) v mapped_same columns_same (source.stand i row there);
-            };
-            nulls = r.finds.nulls;
-            stand = stand_v;
-            left_is = opened.left;
-            end_is = opened.end;
-            few = omega (arith, source.few);
-            long = let long = grounds.long in omega (arith, long, opened.kept.many, (same_t).many);
-            enough = let cost = r.cost in let turns = grounds.turns in omega (arith, cost, turns);
-          }
-
-          abbrev seen_before : (j a w : ℕ) (x : Value) → c (Own j) a w ≡ Some x → pos j a + w ≤ pos k o
-          seen_before j a w x is' = let seen_low = (grounds.own_seen j a w x is').0.1 in omega (arith, seen_low, between.behind, k_behind)
-
-          abbrev sink : Sink
-          sink = taken c stoods (rows_left T) (omega (arith, room_T)) most fuel many types group can none fields k o u held r.chosen May (beginning_first fed.rows) (omega (arith, number_is, room_T)) few_rows chosen_rows
-              seen_before (λ i st there. (fronts_t i st there).1)
-
-          has_v : HasSingle (StandsIn c v) aggregates k o d u held [] v
-          has_v =
-              (taken_runs c stoods (rows_left T) (omega (arith, room_T)) most fuel many types group can none fields k o u held r.chosen May (beginning_first fed.rows) (omega (arith, number_is, room_T)) few_rows chosen_rows
-              seen_before (λ i st there. (fronts_t i st there).1)).kept (rows_left T) [] t v (omega arith) opened.kept has_t
-
-          areas_taken : (w : LowState) → FedTo sink (But (rows_left T) (Below low)) Any fed [] v w → Taken w
-          areas_taken w done = record {
-            part = k;
-            offset = o;
-            behind = omega (arith, between.behind, k_behind);
-            has = done.has;
-            keeps = Keeps-then (Steady T n) (Before base) s0 v w
-                (Keeps-then (Steady T n) (Before base) s0 t v same_t (opened_keeps T n columns literals contents c base u most fuel N many types s0 grounds (length (scanned_rows contents p)) (over p.entry) t v opened))
-                (Keeps-less (Steady T n) (Before base) (But (rows_left T) (Below low)) (Before (pos k o)) v w (steady_below T n columns literals contents c base u most fuel N many types s0 grounds)
-                (λ at wide' low'. omega (arith, low', between.behind, k_behind)) done.keeps);
-          }
-
-          loop_ends : Ends (size (rows_block (rows_left T) course.row) * N) (λ w. Taken w × (fed.codes ≡ [])) Never (Tells fed.codes) (meaning most fuel (rows_block (rows_left T) course.row) v)
-          loop_ends =
-              let cost : ℕ = 1 + pipeline_cost_to group.values r.chosen contents (built_of stoods) p in
-              let block : Statement = rows_block (rows_left T) course.row in
-              Ends-weaker (size block * cost) (size block * N) (FedTo sink (But (rows_left T) (Below low)) Any fed [] v) (λ w. Taken w × (fed.codes ≡ [])) Never Never (Tells fed.codes) (Tells fed.codes) (meaning most fuel block v)
-              (mul-le (size block) cost (size block) N (omega arith) r.cost) (λ w done. (areas_taken w done, done.none)) (λ w x. x) (λ code x. x)
-              (taken_feeds c stoods (rows_left T) (omega (arith, room_T)) most fuel many types group can none fields k o u held r.chosen May (beginning_first fed.rows) (omega (arith, number_is, room_T)) few_rows chosen_rows
-              seen_before (λ i st there. (fronts_t i st there).1)
-              contents p literals (over p.entry) (rows_left T) (rows_end T) low next course.row own v scanned is_select
-              [] has_v ([], append-nil fed.rows))
-
-      pub take_ends : Ends (size (take_block T group.table (length aggregates) course) * N) (λ w. Taken w × (fed.codes ≡ [])) Never (Tells fed.codes) (meaning most fuel (take_block T group.table (length aggregates) course) s)
-      take_ends =
-          let loop : ℕ = size (rows_block (rows_left T) course.row) in
-          let all : ℕ = 26 + (9 + size course.begins) in
-          let Post : LowState → Type 0 = λ w. Taken w × (fed.codes ≡ []) in
-          let Mid : LowState → Type 0 = λ t. (k : ℕ) × (o : ℕ) × (pos between.part between.offset ≤ pos k o) × Keeps (But d (From 3)) (Before (pos between.part between.offset)) s t × HasSingle (StandsIn c s) aggregates k o d u held [] t in
-          Ends-more Post Never (Tells fed.codes) (26 + (9 + (size course.begins + loop * N))) (size (take_block T group.table (length aggregates) course) * N) (meaning most fuel (take_block T group.table (length aggregates) course) s)
-          (omega (arith, add-mul all loop N, at_least all N grounds.some))
-          (Ends-then Post Never (Tells fed.codes) 26 (9 + (size course.begins + loop * N)) Mid (meaning most fuel (single_block (32 * length aggregates) d) s) (meaning most fuel (course_block T course))
-          (Ends-weaker 26 26 Mid Mid Never Never IsRefusal (Tells fed.codes) (meaning most fuel (single_block (32 * length aggregates) d) s) (omega arith) (λ t x. x) (λ t x. x) (λ code x. inl x)
-          (single_ends (StandsIn c s) aggregates d u budget most fuel (omega arith) small s long_enough between.part between.offset between.room between.paid pays))
-          (λ t mid.
-          let has_t = one_later c s t aggregates mid.0 mid.1 d u held [] (longer_keeps (But d (From 3)) (Before front) s t mid.3) mid.4 in
-          course_opens T n columns literals contents c base u most fuel N many types s0 grounds p course is.first is.first_is is.index_is is.begins source (rows_block (rows_left T) course.row) (loop * N) Post (Tells fed.codes) t (same_t t mid.0 mid.1 mid.2 mid.3 has_t)
-          (λ v opened. loop_ends t mid.0 mid.1 mid.2 mid.3 has_t v opened)))
+  pub take_ends : (s : LowState) → Between T n c base u s0 stoods budget s → Ends (size block * N) (λ w. Taken w × (fed.codes ≡ [])) Never (Tells fed.codes) (meaning most fuel block s)
+  take_ends s between =
+      let known = grounds.long in
+      let own_known = grounds.first_own in
+      let d : ℕ = directory group.table in
+      let held : ℕ = budget + 32 * length (over_fields group.functions fields) in
+      into_ends T n columns literals contents c base u most fuel N many types s0 grounds stoods room_T p group.values is_select r.chosen (λ known at a more. IsOneGroup fields known at group a more) course next own behind room is own_types source r.finds r.cost
+      d (omega (arith, number_is)) (omega (arith, number_is, room_T)) (into_areas c group fields u budget May (beginning_first fed.rows)) (λ k o at wide low. low) (λ k o. ([], append-nil fed.rows))
+      (λ k o seen tables. (
+        taken_runs c stoods (rows_left T) (omega (arith, room_T)) most fuel many types group can none fields k o u held r.chosen May (beginning_first fed.rows) (omega (arith, number_is, room_T)) few_rows chosen_rows seen tables,
+        row_taken c stoods (rows_left T) (omega (arith, room_T)) most fuel many types group can none fields k o u held r.chosen May (beginning_first fed.rows) (omega (arith, number_is, room_T)) few_rows chosen_rows seen tables,
+      ))
+      budget s between Taken (λ k o after w has keeps. record { part = k; offset = o; behind = after; has = has; keeps = keeps }) (single_block (32 * length (over_fields group.functions fields)) d) 26 (omega arith)
+      (areas_placed c u most fuel group fields May (beginning_first fed.rows) budget s between.part between.offset between.room between.paid (areas_long group fields can none field_kinds) (omega (arith, number_is, room_T, known, own_known, between.keeps.many)) r.fits r.enough)

@@ -1,5 +1,5 @@
 -- What the emission of a pipeline leaves whose rows the areas of set functions take; and so that of the row of the one group.
-use Rattle.std.proofs.Common.{◌≡◌, ℕ, ◌+◌, ◌*◌, Option, None, Some, List, [], ◌++◌, length, length-append, map, slice_get, refl, ap, ◌∙◌, subst, append_assoc, append-nil, arith}
+use Rattle.std.proofs.Common.{◌≡◌, ℕ, ◌+◌, ◌*◌, Option, None, Some, List, [], ◌++◌, length, length-append, map, slice_get, refl, ap, ◌∙◌, subst, append_assoc, append-nil, arith, sym}
 use Rattle.qw_module.specs.declared.instruction.ValType.{ValType}
 use Rattle.qw_types.specs.declared.kind.Kind.{Kind}
 use Rattle.qw_scalar.specs.Typing.{kind_of}
@@ -18,7 +18,7 @@ use Rattle.qw_table.specs.declared.key.Field.{Field}
 use Rattle.qw_group.specs.Single.{single_block}
 use Rattle.qw_physical.specs.Physical.{Operator, Pipeline, Sink}
 use Rattle.qw_operator.specs.Carries.{directory, result_kinds}
-use Rattle.qw_group_sink.specs.Carrying.{EmitsRowTo, IsRowTo}
+use Rattle.qw_group_sink.specs.Carrying.{EmitsRowTo}
 use Rattle.qw_group_sink.specs.Grouping.{Group}
 use Rattle.qw_group_sink.specs.Guarded.{IsOneGroupWithin}
 use Rattle.qw_group_sink.specs.OneGroup.{IsOneGroup}
@@ -34,30 +34,27 @@ use Rattle.qw_compile_whole.specs.GroupedStatements.{IsGatheringTo}
 use Rattle.qw_compile_whole.specs.GuardedSingles.{IsTakingBy, take_block_by}
 use Rattle.qw_compile_whole.specs.GuardedStatements.{count_from, stop_at}
 use Rattle.qw_compile_whole.specs.SinglePlaced.{EmitsOne, EmitsSingle, EmitsTaking}
+use Rattle.qw_compile_whole.specs.SingleStatements.{take_block}
+use Rattle.qw_compile_whole.proofs.GatheringPlaced.{front_chained}
+use Rattle.qw_compile_whole.proofs.ScanPlaced.{behind_none, free_at, row_over, scan_as, scan_placed}
 
 -- ---- the scan
 abbrev pub End : (guard : Option ℕ) → List Field → Group → List Known → (next : ℕ) → Statement → List ValType → Type 0
 End guard fields g = λ known at a more. IsOneGroupWithin guard fields known at g a more
 
 pub row_taken : (guard : Option ℕ) (fields : List Field) (g : Group) (ks known : List Known) (rs readers : List Reader) (operators : List Operator) (old new : Emitter) → ks ≡ known → rs ≡ readers → EmitsRowTo (End guard fields g) ks rs operators old new → EmitsRowTo (End guard fields g) known readers operators old new
-row_taken guard fields g ks known rs readers operators old new one two h =
-    subst (λ (l : List Known). EmitsRowTo (End guard fields g) l readers operators old new) one (subst (λ (l : List Reader). EmitsRowTo (End guard fields g) ks l operators old new) two h)
+row_taken guard fields g ks known rs readers operators old new one two h = row_over (End guard fields g) ks known rs readers operators operators old new one two refl h
 
 -- its steps, with those that count around them
+take_steps : (guard : Option ℕ) (t n f : ℕ) (c : Course) → steps_of (take_block_by guard t n f c) ≡ steps_of (count_from guard) ++ ((steps_of (single_block (32 * f) (directory n)) ++ steps_of (course_block t c)) ++ steps_of (stop_at guard))
+take_steps None t n f c = sym (append-nil (steps_of (take_block t n f c)))
+take_steps (Some z) t n f c = refl
+
 taken_code : (guard : Option ℕ) (t n f : ℕ) (c : Course) (old code1 code2 code3 code4 : List LowStep) → code1 ≡ old ++ steps_of (count_from guard) → code2 ≡ code1 ++ steps_of (single_block (32 * f) (directory n)) → code3 ≡ code2 ++ steps_of (course_block t c) →
     code4 ≡ code3 ++ steps_of (stop_at guard) → code4 ≡ old ++ steps_of (take_block_by guard t n f c)
-taken_code None t n f c old code1 code2 code3 code4 one two three four =
-    let single = steps_of (single_block (32 * f) (directory n)) in
-    let course = steps_of (course_block t c) in
-    four ∙ (append-nil code3 ∙ (three ∙ (ap (λ (l : List LowStep). l ++ course) (two ∙ ap (λ (l : List LowStep). l ++ single) (one ∙ append-nil old)) ∙ append_assoc old single course)))
-taken_code (Some z) t n f c old code1 code2 code3 code4 one two three four =
-    let counted = steps_of (count_from (Some z)) in
-    let single = steps_of (single_block (32 * f) (directory n)) in
-    let course = steps_of (course_block t c) in
-    let stop = steps_of (stop_at (Some z)) in
-    four ∙ (ap (λ (l : List LowStep). l ++ stop) (three ∙ ap (λ (l : List LowStep). l ++ course) (two ∙ ap (λ (l : List LowStep). l ++ single) one))
-    ∙ (ap (λ (l : List LowStep). l ++ stop) (append_assoc (old ++ counted) single course)
-    ∙ (append_assoc (old ++ counted) (single ++ course) stop ∙ append_assoc old counted ((single ++ course) ++ stop))))
+taken_code guard t n f c old code1 code2 code3 code4 one two three four =
+    front_chained old (steps_of (count_from guard)) (steps_of (single_block (32 * f) (directory n))) (steps_of (course_block t c)) (steps_of (stop_at guard)) old code1 code2 code3 code4 refl one two three four
+    ∙ ap (λ (l : List LowStep). old ++ l) (sym (take_steps guard t n f c))
 
 -- whatever is innermost
 module _ (guard : Option ℕ) (E : List Known → (next : ℕ) → Statement → List ValType → Type 0) (p : Places) (first entry : ℕ) (operators : List Operator) (g : Group) (fields : List Field) (old counted placed scanned new : List LowStep) (own_old own_new : List ValType) (e0 e1 : Emitter) (head : Reader) (begins : Statement) where
@@ -70,17 +67,9 @@ module _ (guard : Option ℕ) (E : List Known → (next : ℕ) → Statement →
     fields = fields;
     own = e.own;
     code_is = taken_code guard p.tables g.table (length g.functions) (record { index = head.index; begins = begins; row = e.statement }) old counted placed scanned new counted_is placed_is (coded e.statement (e.code_is ∙ ap (λ (l : List LowStep). l ++ steps_of e.statement) code0)) stopped;
-    own_is = own_is ∙ ap (λ (l : List ValType). own_old ++ l) (e.own_is ∙ ap (λ (l : List ValType). l ++ e.own) own0);
+    own_is = behind_none own_old own_new e0.own.items e1.own.items e.own own_is e.own_is own0;
     kinds = kinds;
-    is = is_by (record { index = head.index; begins = begins; row = e.statement }) e.own (record {
-      first = head;
-      first_is = head_is;
-      index_is = refl;
-      begins = all;
-      row =
-          let free : free_of e0 ≡ first + length own_old = let none : length e0.own.items ≡ 0 = ap (λ (l : List ValType). length l) own0 in omega (arith, none, first_is) in
-          subst (λ (n : ℕ). IsRowTo E (literals_placed p) (readers_over entry p.readers.items) n operators e.statement e.own) free e.row;
-    });
+    is = is_by (record { index = head.index; begins = begins; row = e.statement }) e.own (scan_placed E p first entry operators g own_old e0 e1 head begins first_is own0 e head_is all);
   }
 
 pub taking_emitted : (guard : Option ℕ) (p : Places) (first entry : ℕ) (operators : List Operator) (g : Group) (fields : List Field) (old counted placed scanned new : List LowStep) (own_old own_new : List ValType) (e0 e1 : Emitter) (head : Reader) (begins : Statement) → e0.first ≡ first + length own_old →
@@ -94,34 +83,22 @@ taking_emitted (Some z) p first entry operators g fields old counted placed scan
     emitted_by (Some z) (End (Some z) fields g) p first entry operators g fields old counted placed scanned new own_old own_new e0 e1 head begins (λ c own h. h) first_is code0 own0 e kinds counted_is placed_is head_is all coded stopped own_is
 
 -- what its blocks are doesn't depend on its sink
-taking_to_as : (E : List Known → (next : ℕ) → Statement → List ValType → Type 0) (literals : List Known) (readers : List Reader) (next : ℕ) (p q : Pipeline) (c : Course) (own : List ValType) → p.entry ≡ q.entry → p.operators ≡ q.operators → IsGatheringTo E literals readers next p c own →
-    IsGatheringTo E literals readers next q c own
-taking_to_as E literals readers next p q c own one two h = record {
-  first = h.first;
-  first_is = subst (λ (n : ℕ). slice_get (readers_over n readers) 0 ≡ Some h.first) one h.first_is;
-  index_is = h.index_is;
-  begins = subst (λ (n : ℕ). BeginsAll (readers_over n readers) c.begins) one h.begins;
-  row = subst (λ (n : ℕ). IsRowTo E literals (readers_over n readers) next q.operators c.row own) one
-      (subst (λ (os : List Operator). IsRowTo E literals (readers_over p.entry readers) next os c.row own) two h.row);
-}
-
 pub taking_as : (guard : Option ℕ) (literals : List Known) (readers : List Reader) (next : ℕ) (p q : Pipeline) (g : Group) (fields : List Field) (c : Course) (own : List ValType) → p.entry ≡ q.entry → p.operators ≡ q.operators → IsTakingBy guard literals readers next p g fields c own →
     IsTakingBy guard literals readers next q g fields c own
-taking_as None literals readers next p q g fields c own one two h = taking_to_as (λ known at a more. IsOneGroup fields known at g a more) literals readers next p q c own one two h
-taking_as (Some z) literals readers next p q g fields c own one two h = taking_to_as (End (Some z) fields g) literals readers next p q c own one two h
+taking_as None literals readers next p q g fields c own one two h = scan_as (λ known at a more. IsOneGroup fields known at g a more) literals readers next p q c own one two h
+taking_as (Some z) literals readers next p q g fields c own one two h = scan_as (End (Some z) fields g) literals readers next p q c own one two h
 
 -- ---- the row of the one group
 pub one_emitted : (p : Places) (first table d : ℕ) (known : List Known) (values : List ValueColumn) (behind : Pipeline) (operators : List Operator) (snk : Sink) (old new : List LowStep) (own_old own_new : List ValType) (e0 e1 : Emitter) →
     d ≡ directory table → known ≡ literals_placed p → operators ≡ behind.operators → snk ≡ behind.sink → e0.first ≡ first + length own_old → e0.block.code.items ≡ [] → e0.own.items ≡ [] → EmitsOneTo (InSink operators snk) known d values e0 e1 →
     new ≡ old ++ e1.block.code.items → own_new ≡ own_old ++ e1.own.items → EmitsOne p first table values behind old new own_old own_new
 one_emitted p first table d known values behind operators snk old new own_old own_new e0 e1 d_is known_is operators_are sink_is first_is code0 own0 e code_is own_is =
-    let free : free_of e0 ≡ first + length own_old = let none : length e0.own.items ≡ 0 = ap (λ (l : List ValType). length l) own0 in omega (arith, none, first_is) in
     record {
       one = e.statement;
       own = e.own;
-      code_is = code_is ∙ ap (λ (l : List LowStep). old ++ l) (e.code_is ∙ ap (λ (l : List LowStep). l ++ steps_of e.statement) code0);
-      own_is = own_is ∙ ap (λ (l : List ValType). own_old ++ l) (e.own_is ∙ ap (λ (l : List ValType). l ++ e.own) own0);
-      is = subst (λ (n : ℕ). IsOneRow (InSink behind.operators behind.sink) (literals_placed p) (directory table) n values e.statement e.own) free
+      code_is = behind_none old new e0.block.code.items e1.block.code.items (steps_of e.statement) code_is e.code_is code0;
+      own_is = behind_none own_old own_new e0.own.items e1.own.items e.own own_is e.own_is own0;
+      is = subst (λ (n : ℕ). IsOneRow (InSink behind.operators behind.sink) (literals_placed p) (directory table) n values e.statement e.own) (free_at e0 first own_old first_is own0)
           (subst (λ (s : Sink). IsOneRow (InSink behind.operators s) (literals_placed p) (directory table) (free_of e0) values e.statement e.own) sink_is
           (subst (λ (os : List Operator). IsOneRow (InSink os snk) (literals_placed p) (directory table) (free_of e0) values e.statement e.own) operators_are
           (subst (λ (ks : List Known). IsOneRow (InSink operators snk) ks (directory table) (free_of e0) values e.statement e.own) known_is
@@ -130,9 +107,7 @@ one_emitted p first table d known values behind operators snk old new own_old ow
 
 -- ---- all of them
 chained : (b t g w f c1 c2 c3 c4 c5 : List LowStep) → c1 ≡ b → c2 ≡ c1 ++ t → c3 ≡ c2 ++ g → c4 ≡ c3 ++ w → c5 ≡ c4 ++ f → c5 ≡ b ++ (t ++ (g ++ (w ++ f)))
-chained b t g w f c1 c2 c3 c4 c5 one two three four five =
-    five ∙ (ap (λ (l : List LowStep). l ++ f) (four ∙ ap (λ (l : List LowStep). l ++ w) (three ∙ ap (λ (l : List LowStep). l ++ g) (two ∙ ap (λ (l : List LowStep). l ++ t) one)))
-    ∙ (append_assoc ((b ++ t) ++ g) w f ∙ (append_assoc (b ++ t) g (w ++ f) ∙ append_assoc b t (g ++ (w ++ f)))))
+chained b t g w f c1 c2 c3 c4 c5 one two three four five = simp (five, four, three, two, one, append_assoc)
 
 pub single_emitted : (guard : Option ℕ) (p : Places) (first : ℕ) (building : List Pipeline) (entry : ℕ) (operators : List Operator) (g : Group) (values : List ValueColumn) (behind : Pipeline) (code1 code2 code3 code4 code5 : List LowStep) (own1 own2 own3 : List ValType) (kinds : List Kind) →
     EmitsBuilds p first building [] code1 [] own1 → EmitsTaking guard p first entry operators g code1 code2 own1 own2 → code3 ≡ code2 ++ steps_of begin_block → EmitsOne p first g.table values behind code3 code4 own2 own3 → code5 ≡ code4 ++ steps_of finish_block →

@@ -242,9 +242,6 @@ module _ (T n : ℕ) (columns : List ReadColumn) (literals : List Known) (conten
       held : (row : List Val) → AreHeld literals row (seen more t)
       held row = held_more c (seen more t) literals row (less_widened from rows_base s.cells c less) (grounds.held t (λ i low high. (same_t).locals i (inr (low, high))) (begun.has.room.pages 0 (omega arith)) row)
 
-      abbrev low_own : 8 + T ≤ next
-      low_own = omega (arith, behind)
-
       module _ (Told : ℕ → Type 0) (told : (raised : ℕ) → Tells (walked_of query rows).codes raised → Told raised) where
         walk_fed : Ends (size walk * N) (IsWalked T n c base u s0 query paid_for rows) Never Told (meaning most fuel walk t)
         unfolding groups_t

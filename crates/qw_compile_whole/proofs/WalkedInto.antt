@@ -8,13 +8,12 @@ use Rattle.std.specs.List.Sorted.{IsPermutation}
 use Rattle.qw_types.specs.declared.kind.Kind.{Kind}
 use Rattle.qw_types.specs.declared.value.Val.{Val}
 use Rattle.qw_linear.specs.Memory.{page}
-use Rattle.qw_layout.specs.Hash.{slot}
 use Rattle.qw_module.specs.declared.instruction.ValType.{ValType}
 use Rattle.qw_scalar.specs.Expression.{Expression}
 use Rattle.qw_scalar.specs.Typing.{kind_of}
 use Rattle.qw_meaning.specs.Flow.{Flow}
 use Rattle.qw_grouped.specs.Grouped.{Grouped}
-use Rattle.qw_grouped.specs.Groups.{key_of, keys}
+use Rattle.qw_grouped.specs.Groups.{keys}
 use Rattle.qw_grouped.specs.declared.set_function.SetFunctionKind.{SetFunctionKind}
 use Rattle.qw_low.specs.Syntax.{Statement, seq}
 use Rattle.qw_low.specs.State.{Part, Own, Value, Cells, LowState}
@@ -33,12 +32,11 @@ use Rattle.qw_expr.specs.Computes.{Known, AreHeld}
 use Rattle.qw_expr.specs.Cells.{DeclaresValue}
 use Rattle.qw_read.specs.Reading.{known_of}
 use Rattle.qw_table.specs.Joins.{sources_of}
-use Rattle.qw_table.specs.Tables.{directory_block, in_slot, values_of}
+use Rattle.qw_table.specs.Tables.{directory_block, values_of}
 use Rattle.qw_table.specs.declared.key.Field.{Field}
 use Rattle.qw_table.proofs.Chains.{Linked-same}
-use Rattle.qw_group.specs.Groups.{AreChosenWithin, HasGroup, HasGroups, group_size}
+use Rattle.qw_group.specs.Groups.{HasGroup, HasGroups, group_size}
 use Rattle.qw_group.specs.declared.group.Aggregate.{Aggregate}
-use Rattle.qw_group.proofs.BegunGroups.{groups_begun}
 use Rattle.qw_group.proofs.GroupFeeds.{group_same}
 use Rattle.qw_group.proofs.WalkRuns.{StandGroups}
 use Rattle.qw_leaves.proofs.LeafLists.{all_front}
@@ -60,11 +58,11 @@ use Rattle.qw_group_pipeline.proofs.ValuesCome.{functions_of}
 use Rattle.qw_group_pipeline.proofs.WholeGroups.{all_come}
 use Rattle.qw_compile.specs.QueryLocals.{cell_start, own_start, query_readers, rows_end, rows_left}
 use Rattle.qw_compile.proofs.PipelineRuns.{Grounds, Steady, less_known}
-use Rattle.qw_compile.proofs.TableBegins.{Begun, empty_table, table_begins}
+use Rattle.qw_compile.proofs.TableBegins.{Begun, table_begins}
 use Rattle.qw_compile_whole.proofs.Beginnings.{IsPart, part_chosen, part_few, part_first, part_keys, part_slot}
 use Rattle.qw_compile_whole.proofs.EnterBounded.{EnterReach, enter_units}
-use Rattle.qw_compile_whole.proofs.Gathered.{AreGathered, gathered_paid, key_long, width_is}
-use Rattle.qw_compile_whole.proofs.GroupBounded.{GoTogether, group_width, groups_paid, walked_of}
+use Rattle.qw_compile_whole.proofs.Gathered.{AreGathered, Suits, gathered_paid, key_long, none_begun, suits}
+use Rattle.qw_compile_whole.proofs.GroupBounded.{GoTogether, groups_paid, walked_of}
 use Rattle.qw_compile_whole.proofs.Walked.{goods, many_keys, none_left, over_theirs, spend_permuted, tells_permuted, within_among}
 use Rattle.qw_compile_whole.proofs.Widened.{groups_elsewhere, less_widened, seen_where, stands_before, stands_widened, table_seen, widened, widened_less}
 
@@ -129,9 +127,6 @@ module _ (T n : ℕ) (columns : List ReadColumn) (literals : List Known) (conten
     places_long : length places ≡ group.columns
     places_long = key_long group fields together.can field_kinds
 
-    into_long : length into_places ≡ into.columns
-    into_long = key_long into into_fields can_into into_kinds
-
     table_before : from + 4096 ≤ front
     table_before = let directory_before = h.has.directory.behind in omega (arith, directory_before)
 
@@ -151,27 +146,9 @@ module _ (T n : ℕ) (columns : List ReadColumn) (literals : List Known) (conten
     abbrev May : List (List Val) → Type 0
     May = IsPart walked.rows
 
-    few_rows : (xs : List (List Val)) → May xs → 1 ≤ length into.functions → length xs ≤ 10 ^ 18
-    few_rows xs may some = let fewer = part_few walked.rows xs may in let all = r.few some in omega (arith, fewer, all)
-
-    chosen_rows : (row : List Val) (xs : List (List Val)) → May xs → AreChosenWithin into.columns into.functions xs row (r.chosen row)
-    chosen_rows row xs may = part_chosen into.columns into.functions walked.rows xs row (r.chosen row) may (r.compared row)
-
-    enough : (xs : List (List Val)) → May xs → before + length (keys (length into_places) xs) * into_wide + 2 * u < (most + 1) * u
-    enough xs may =
-        let fewer = mul-le (length (keys into.columns xs)) (group_width into) (length (keys into.columns walked.rows)) (group_width into) (part_keys into.columns walked.rows xs may) (omega arith) in
-        let all = r.enough in
-        subst (λ (m : ℕ). before + length (keys m xs) * into_wide + 2 * u < (most + 1) * u) (sym into_long)
-        (subst (λ (w : ℕ). before + length (keys into.columns xs) * w + 2 * u < (most + 1) * u) (sym (width_is into into_fields can_into into_kinds)) (omega (arith, fewer, all)))
-
-    met : (row : List Val) (xs : List (List Val)) → May xs → length (in_slot slot (slot (key_of (length into_places) row)) (keys (length into_places) xs)) ≤ r.entries row
-    met row xs may =
-        let fewer = part_slot (slot (key_of into.columns row)) into.columns walked.rows xs may in
-        let all = r.met row in
-        subst (λ (m : ℕ). length (in_slot slot (slot (key_of m row)) (keys m xs)) ≤ r.entries row) (sym into_long) (omega (arith, fewer, all))
-
-    small : into_wide + u ≤ page
-    small = let fits = r.fits in let same = width_is into into_fields can_into into_kinds in omega (arith, fits, same)
+    q : Suits into into_fields u most before r.entries r.chosen May
+    q = suits into into_fields u most paid_for r.entries r.chosen walked.rows can_into into_kinds May (part_first walked.rows) (λ xs may some. (let fewer = part_few walked.rows xs may in let all = r.few some in omega (arith, fewer, all)))
+        (λ row xs may. part_chosen into.columns into.functions walked.rows xs row (r.chosen row) may (r.compared row)) (part_keys into.columns walked.rows) (λ j xs may. part_slot j into.columns walked.rows xs may) r.met r.fits r.enough
 
     -- ---- the second directory has been placed
     module _ (t : LowState) (begun : Begun d u paid_for front s t) where
@@ -218,10 +195,10 @@ module _ (T n : ℕ) (columns : List ReadColumn) (literals : List Known) (conten
       held row = held_more c (seen more t) literals row (less_widened from front t.cells c less) (grounds.held t (λ i low high. same_t.locals i (inr (low, high))) (begun.room.pages 0 (omega arith)) row)
 
       abbrev sink : Sink
-      sink = entered more (rows_left T) (omega arith) most fuel many types turns into can_into into_fields k o u before r.entries r.chosen May (part_first walked.rows) (omega (arith, low_into)) small few_rows chosen_rows enough met seen_before
+      sink = entered more (rows_left T) (omega arith) most fuel many types turns into can_into into_fields k o u before r.entries r.chosen May q.first (omega (arith, low_into)) q.small q.few_rows q.chosen_rows q.enough q.met seen_before
 
       has_none : HasGroups (length into_places) (HasGroup (StandsIn more t) into_places into_aggregates) into_wide k o d u before [] t
-      has_none = groups_begun (λ x j a vs. Unit {0}) (λ vs. 0) into_wide (length into_places) (HasGroup (StandsIn more t) into_places into_aggregates) into_wide k o d u before t (empty_table (λ x j a vs. Unit {0}) (λ vs. 0) into_wide d u paid_for front s t begun)
+      has_none = none_begun more into_places into_aggregates d u paid_for front s t begun
 
       module _ (Told : ℕ → Type 0) (told : (raised : ℕ) → Tells walked.codes raised → Told raised) where
         enters_end : Ends (size enters * N) (AreEntered T n c base u s0 query into into_fields paid_for rows) Never Told (meaning most fuel enters t)
@@ -233,7 +210,7 @@ module _ (T n : ℕ) (columns : List ReadColumn) (literals : List Known) (conten
             let together_some = together.some in
             let key_many = together.key_many in
             let done =
-            query_enters more (rows_left T) (omega arith) most fuel many types turns into can_into into_fields k o u before r.entries r.chosen May (part_first walked.rows) (omega (arith, low_into)) small few_rows chosen_rows enough met seen_before
+            query_enters more (rows_left T) (omega arith) most fuel many types turns into can_into into_fields k o u before r.entries r.chosen May q.first (omega (arith, low_into)) q.small q.few_rows q.chosen_rows q.enough q.met seen_before
             query values_are literals (directory group.table) next key values enters own is (omega (arith, behind)) room (within_among (rows_end T) (cell_start T n (length columns)) next literals (omega arith) (omega (arith, behind)) grounds.within)
             (all_front (λ (x : Known). DeclaresValue types x.operand) literals (map known_of (query_readers T n columns)) grounds.declared) own_types
             (subst (λ (es : List Expression). CanCarry (all_anywhere key values ++ literals) (filter query.having ∷ []) (select es)) (sym values_are) together.takes)
