@@ -7,7 +7,7 @@ use Rattle.qw_compile_whole.proofs.GroupShares.{alone_within, chosen_within}
 use Rattle.qw_compile_whole.proofs.GroupTyped.{alone_typed, AreTypedValues}
 use Rattle.qw_compile_whole.proofs.GroupUtf8.{alone_utf8}
 use Rattle.qw_whole.specs.GroupTables.{chosen_units, group_octets, group_size, group_units, rows_behind}
-use Rattle.std.proofs.Common.{◌≡◌, ◌∙◌, ◌≤◌, ◌<◌, ℕ, ◌+◌, ◌*◌, ◌^◌, max, true, List, [], ◌∷◌, length, map, Ok, sym, ap, ap₂, subst, arith, refl}
+use Rattle.std.proofs.Common.{◌≡◌, ◌∙◌, ◌≤◌, ◌<◌, ℕ, ◌+◌, ◌*◌, ◌^◌, max, true, List, [], ◌∷◌, length, map, Ok, sym, ap, ap₂, subst, subst₂, arith, refl}
 use Rattle.std.specs.List.Sorted.{IsPermutation}
 use Rattle.std.proofs.lemmas.List.{length-map}
 use Rattle.std.proofs.lemmas.List.Sorted.{IsPermutation-sym, length_permutation, IsPermutation-refl}
@@ -305,10 +305,8 @@ module _ (row_is : (row other : List Val) → is_same_row row other ≡ true →
       told_made = λ stoods stood none less raised tells. from_walk row_is value_is parts whole given tables loaded (fed_over tables stoods given.source.last) (alike stoods stood) none raised tells;
     }
 
-    pub single_kept : (1 ≤ length query.functions → length (flow (front query) tables).rows < 10 ^ 18) → IsSingleBounded T (front_count given.source) given.source.columns (texts_of_grouped parts) (front_words given.source) (front_at given.source) (table_of (entries_of (query_of given.source.parts).sources)) given.source.building given.source.last (folded_query given) given.source.group (value_columns query) (λ raised. IsTold (whole_outcome (asked_whole query) tables) raised)
-        (given_up row_is value_is parts whole given) (whole_pages (asked_whole query) tables) (1 + whole_units (asked_whole query) tables) tables
-    single_kept few = subst (λ (m : ℕ). IsKept m (1 + whole_units (asked_whole query) tables)) (pages_are row_is value_is parts whole given tables loaded) (subst (λ (w : ℕ). IsKept M w) (units_are row_is value_is parts whole given tables loaded) (bounded few))
+    pub single_kept : IsFew → IsKept (whole_pages (asked_whole query) tables) (1 + whole_units (asked_whole query) tables)
+    single_kept few = subst₂ IsKept (pages_are row_is value_is parts whole given tables loaded) (units_are row_is value_is parts whole given tables loaded) (bounded few)
 
-    pub long_kept : IsLongBounded T (front_count given.source) given.source.columns (texts_of_grouped parts) (front_words given.source) (front_at given.source) (table_of (entries_of (query_of given.source.parts).sources)) given.source.building given.source.last (folded_query given) given.source.group (value_columns query) (λ raised. IsTold (whole_outcome (asked_whole query) tables) raised)
-        (given_up row_is value_is parts whole given) (whole_pages (asked_whole query) tables) (1 + whole_units (asked_whole query) tables) tables
-    long_kept = subst (λ (m : ℕ). IsKeptLong m (1 + whole_units (asked_whole query) tables)) (pages_are row_is value_is parts whole given tables loaded) (subst (λ (w : ℕ). IsKeptLong M w) (units_are row_is value_is parts whole given tables loaded) long_bounded)
+    pub long_kept : IsKeptLong (whole_pages (asked_whole query) tables) (1 + whole_units (asked_whole query) tables)
+    long_kept = subst₂ IsKeptLong (pages_are row_is value_is parts whole given tables loaded) (units_are row_is value_is parts whole given tables loaded) long_bounded

@@ -99,14 +99,11 @@ module _ (row_is : (row other : List Val) → is_same_row row other ≡ true →
       less : (c s : ℕ) → s ≡ 24 + 16 * (c + 0) + 32 * 0 → 8 + 16 * c ≤ s
       less c s e = omega (arith, e)
 
-  small_group : group_size (distinct_grouping (query_of source.parts)) ≤ 24216
-  small_group = let same = size_is in less (length spec.items) (group_size (distinct_grouping spec)) same source.are.specification.few_items
+  widest_low : max (row_size (length (query_of source.parts).items)) (max (distinct_size (length (query_of source.parts).items)) (greatest_entry (kept_by (query_of source.parts)) (placed (query_of source.parts)))) ≤ 24216
+  widest_low = low (length spec.items) (greatest_entry (kept_by spec) (placed spec)) (greatest_small spec source.are.specification) source.are.specification.few_items
     where
-      less : (c s : ℕ) → s ≡ 24 + 16 * (c + 0) + 32 * 0 → c ≤ 512 → s ≤ 24216
-      less c s e h = omega (arith, e, h)
-
-  small_items : row_size (length (map expression_of_column (distinct_columns 0 (query_of source.parts).items))) ≤ 24216
-  small_items = let same = cells_are in let few = source.are.specification.few_items in omega (arith, same, few)
+      low : (c e : ℕ) → max (8 + 16 * c) e ≤ 24216 → c ≤ 512 → max (8 + 16 * c) (max (24 + 16 * (c + 0) + 32 * 0) e) ≤ 24216
+      low c e a b = omega (arith, a, b)
 
   module _ (T : ℕ) (room : length source.ps ≤ T) (together : GoTogether (distinct_grouping (query_of source.parts)) source.group (key_from 0 (distinct_columns 0 (query_of source.parts).items)) [] (literals_over source T))
       (tables : List (List (List Val))) (loaded : AreOfEntries (entries_of (query_of source.parts).sources) tables)
@@ -177,39 +174,25 @@ module _ (row_is : (row other : List Val) → is_same_row row other ≡ true →
         refused_alone (whole_outcome (asked_once (query_of source.parts)) tables) raised (subst (λ (f : Flow (List Val)). Tells f.codes raised) (behind_once (query_of source.parts) some_item fed.rows (long fed.rows from)) tells)
 
     -- ---- all of it
-    abbrev IsKept : (u most N : ℕ) → Type 0
-    IsKept u most N = IsGroupBounded T (front_count source) source.columns texts (front_words source) (front_at source) (table_of (entries_of (query_of source.parts).sources)) source.building source.last (distinct_grouping (query_of source.parts)) source.group (key_from 0 (distinct_columns 0 (query_of source.parts).items)) [] (λ raised. IsTold (whole_outcome (asked_once (query_of source.parts)) tables) raised) u most N tables
+    abbrev IsKept : (most N : ℕ) → Type 0
+    IsKept pages N = IsGroupBounded T (front_count source) source.columns texts (front_words source) (front_at source) (table_of (entries_of (query_of source.parts).sources)) source.building source.last (distinct_grouping (query_of source.parts)) source.group (key_from 0 (distinct_columns 0 (query_of source.parts).items)) [] (λ raised. IsTold (whole_outcome (asked_once (query_of source.parts)) tables) raised) given_up_once pages N tables
 
-    abbrev stored_for : (cells : ℕ) → ℕ
-    stored_for cells = (table_octets (kept_by (query_of source.parts)) tables (placed (query_of source.parts)) + distinct_octets (length (query_of source.parts).items) (planned_rows (query_of source.parts) tables)) + length (once (planned_rows (query_of source.parts) tables)) * row_size cells
+    abbrev stored_once : ℕ
+    stored_once = (table_octets (kept_by (query_of source.parts)) tables (placed (query_of source.parts)) + distinct_octets (length (query_of source.parts).items) (planned_rows (query_of source.parts) tables)) + length (once (planned_rows (query_of source.parts) tables)) * row_size (length (query_of source.parts).items)
 
-    abbrev up_for : (cells size : ℕ) → ℕ
-    up_for cells size = page - max (row_size cells) (max size (greatest_entry (kept_by (query_of source.parts)) (placed (query_of source.parts))))
+    pages_are : most given_up_once stored_once 1 source.building ≡ whole_pages (asked_once (query_of source.parts)) tables
+    pages_are = ap (λ (k : ℕ). 2 + 2 * (k + 1) + stored_once / given_up_once) (built_many row_is value_is source)
 
-    abbrev shown : ℕ
-    shown = length (map expression_of_column (distinct_columns 0 (query_of source.parts).items))
-
-    widest_low : max (row_size shown) (max (group_size asked) (greatest_entry (kept_by (query_of source.parts)) (placed (query_of source.parts)))) ≤ 24216
-    widest_low = low (row_size (length spec.items)) (greatest_entry (kept_by spec) (placed spec)) (group_size asked) (row_size shown) (greatest_small spec source.are.specification) small_group small_items
-      where
-        low : (r e g i : ℕ) → max r e ≤ 24216 → g ≤ 24216 → i ≤ 24216 → max i (max g e) ≤ 24216
-        low r e g i a b c = omega (arith, a, b, c)
-
-    bounded : IsKept (up_for shown (group_size asked)) (most (up_for shown (group_size asked)) (stored_for shown) 1 source.building) (1 + whole_units (asked_once (query_of source.parts)) tables)
-    bounded =
-        group_bounded row_is value_is source (distinct_grouping (query_of source.parts)) (let same = many in omega (arith, same, some_item)) row_less (max (row_size shown) (max (group_size asked) (greatest_entry (kept_by (query_of source.parts)) (placed (query_of source.parts))))) widest_low (omega arith) (omega arith) (omega arith) T room (key_from 0 (distinct_columns 0 (query_of source.parts).items)) [] together tables loaded
-        (λ raised. IsTold (whole_outcome (asked_once (query_of source.parts)) tables) raised) (told_any (flow (query_of source.parts) tables).rows (once (flow (query_of source.parts) tables).rows) (flow (query_of source.parts) tables).codes) (distinct_units general_hashing planned) (distinct_octets (length (query_of source.parts).items) planned) units_low octets_low
-        (stored_for shown) 1 (1 + whole_units (asked_once (query_of source.parts)) tables) (omega arith) (omega arith) (omega arith) no_function walk_tells keys_ok values_ok (length (once planned)) rows_low (omega arith)
-
-    pages_are : most (up_for (length (query_of source.parts).items) (distinct_size (length (query_of source.parts).items))) (stored_for (length (query_of source.parts).items)) 1 source.building ≡ whole_pages (asked_once (query_of source.parts)) tables
-    pages_are = ap (λ (k : ℕ). 2 + 2 * (k + 1) + stored_for (length (query_of source.parts).items) / up_for (length (query_of source.parts).items) (distinct_size (length (query_of source.parts).items))) (built_many row_is value_is source)
-
-    pub distinct_kept : IsGroupBounded T (front_count source) source.columns texts (front_words source) (front_at source) (table_of (entries_of (query_of source.parts).sources)) source.building source.last (distinct_grouping (query_of source.parts)) source.group (key_from 0 (distinct_columns 0 (query_of source.parts).items)) [] (λ raised. IsTold (whole_outcome (asked_once (query_of source.parts)) tables) raised)
-        given_up_once (whole_pages (asked_once (query_of source.parts)) tables) (1 + whole_units (asked_once (query_of source.parts)) tables) tables
+    pub distinct_kept : IsKept (whole_pages (asked_once (query_of source.parts)) tables) (1 + whole_units (asked_once (query_of source.parts)) tables)
     distinct_kept =
-        subst (λ (m : ℕ). IsKept given_up_once m (1 + whole_units (asked_once (query_of source.parts)) tables)) pages_are
-        (subst (λ (s : ℕ). IsKept (up_for (length (query_of source.parts).items) s) (most (up_for (length (query_of source.parts).items) s) (stored_for (length (query_of source.parts).items)) 1 source.building) (1 + whole_units (asked_once (query_of source.parts)) tables)) size_is
-        (subst (λ (c : ℕ). IsKept (up_for c (group_size asked)) (most (up_for c (group_size asked)) (stored_for c) 1 source.building) (1 + whole_units (asked_once (query_of source.parts)) tables)) cells_are bounded))
+        let same = many in
+        let size = size_is in
+        let items = cells_are in
+        let cells = ap (λ (c : ℕ). length (once planned) * row_size c) cells_are in
+        subst (λ (m : ℕ). IsKept m (1 + whole_units (asked_once (query_of source.parts)) tables)) pages_are
+        (group_bounded row_is value_is source (distinct_grouping (query_of source.parts)) (omega (arith, same, some_item)) row_less (max (row_size (length (query_of source.parts).items)) (max (distinct_size (length (query_of source.parts).items)) (greatest_entry (kept_by (query_of source.parts)) (placed (query_of source.parts))))) widest_low (omega (arith, items)) (omega (arith, size)) (omega arith) T room (key_from 0 (distinct_columns 0 (query_of source.parts).items)) [] together tables loaded
+        (λ raised. IsTold (whole_outcome (asked_once (query_of source.parts)) tables) raised) (told_any (flow (query_of source.parts) tables).rows (once (flow (query_of source.parts) tables).rows) (flow (query_of source.parts) tables).codes) (distinct_units general_hashing planned) (distinct_octets (length (query_of source.parts).items) planned) units_low octets_low
+        stored_once 1 (1 + whole_units (asked_once (query_of source.parts)) tables) (omega arith) (omega arith) (omega arith) no_function walk_tells keys_ok values_ok (length (once planned)) rows_low (omega (arith, cells)))
 
     -- the rows of the walk are the query's
     pub distinct_rows : (stoods : List Stood) → AreStood tables [] source.building stoods → (fed_over tables stoods source.last).codes ≡ [] →

@@ -1,6 +1,6 @@
 -- The pipelines that are made of a grouped query with DISTINCT keep what is promised of it: the rows that HAVING and the select list make go into a second table
 -- of groups, over all their columns, and the walk over that one makes each of them once (ISO/IEC 9075:1992, 7.7 to 7.9).
-use Rattle.std.proofs.Common.{◌≡◌, ◌∙◌, ◌≤◌, ◌<◌, ℕ, suc, ◌+◌, ◌-◌, ◌*◌, ◌/◌, ◌^◌, max, true, false, List, [], ◌∷◌, ◌++◌, length, Ok, sym, ap, ap₂, subst, arith}
+use Rattle.std.proofs.Common.{◌≡◌, ◌∙◌, ◌≤◌, ◌<◌, ℕ, ◌+◌, ◌-◌, ◌*◌, ◌/◌, ◌^◌, max, true, false, List, [], ◌∷◌, ◌++◌, length, Ok, sym, ap, ap₂, subst, subst₂, arith}
 use Rattle.std.specs.List.{AllByRecursion, AllZip}
 use Rattle.std.specs.List.Sorted.{IsPermutation}
 use Rattle.std.proofs.ByRecursion.{all_shuffled}
@@ -35,7 +35,7 @@ use Rattle.qw_feed.specs.Feeds.{Tells, spend}
 use Rattle.qw_table.specs.Tables.{in_slot}
 use Rattle.qw_physical.specs.Coded.{pipeline_of}
 use Rattle.qw_physical.specs.Courses.{cost}
-use Rattle.qw_physical.specs.Physical.{Pipeline, filter, select}
+use Rattle.qw_physical.specs.Physical.{filter, select}
 use Rattle.qw_physical.proofs.Orders.{Alike}
 use Rattle.qw_operator.proofs.PairRows.{AreStored, IsHeld}
 use Rattle.qw_operator.proofs.Stood.{Stood}
@@ -49,7 +49,6 @@ use Rattle.qw_compile.specs.PlannedQueries.{kept_by, placed, units}
 use Rattle.qw_compile.proofs.Greatest.{greatest_small}
 use Rattle.qw_compile.proofs.PipelineRuns.{AreStood, fed_over}
 use Rattle.qw_compile.proofs.QueryReach.{table_of}
-use Rattle.qw_compile.proofs.QueryRuns.{Reach}
 use Rattle.qw_whole.specs.GroupTables.{chosen_units, distinct_octets, distinct_size, distinct_units, group_octets, group_size, group_units, rows_behind}
 use Rattle.qw_whole.specs.WholePromises.{planned_rows, whole_pages, whole_units}
 use Rattle.qw_whole.proofs.EntrySizes.{group_small}
@@ -169,17 +168,6 @@ module _ (row_is : (row other : List Val) → is_same_row row other ≡ true →
         less : (i q m : ℕ) → i ≡ q → 8 + 16 * i ≤ max (8 + 16 * q) m
         less i q m e = omega (arith, e)
 
-    -- ---- what is the same as of a grouped query
-    reached_by : (front : List Pipeline) (p : Pipeline) (back : List Pipeline) (stoods : List Stood) → given.source.building ≡ front ++ p ∷ back → AreStood tables [] front stoods →
-        Reach T (front_count given.source) given.source.columns (literals_over given.source T) tables given_up_distinct M N (table_of (entries_of (query_of given.source.parts).sources)) stoods p (budget given_up_distinct tables given.source.building (length front)) (budget given_up_distinct tables given.source.building (suc (length front)))
-    reached_by = builds_reach row_is value_is given.source widest_stored widest_low rows_fit (omega arith) T room tables (loaded_front given tables loaded) (group_units general_hashing query planned) (group_octets query planned) S 2 N (omega arith) (omega arith)
-
-    told_by : (front : List Pipeline) (p : Pipeline) (back : List Pipeline) (stoods : List Stood) → given.source.building ≡ front ++ p ∷ back → AreStood tables [] front stoods → (raised : ℕ) → Tells (fed_over tables stoods p).codes raised → Told raised
-    told_by = builds_told row_is value_is given.source widest_stored widest_low rows_fit (omega arith) T room tables (loaded_front given tables loaded) (group_units general_hashing query planned) (group_octets query planned) S 2 N (omega arith) (omega arith) Told told_front
-
-    told_gather : (stoods : List Stood) → AreStood tables [] given.source.building stoods → (raised : ℕ) → Tells (fed_over tables stoods given.source.last).codes raised → Told raised
-    told_gather = last_told row_is value_is given.source widest_stored widest_low rows_fit (omega arith) T room tables (loaded_front given tables loaded) (group_units general_hashing query planned) (group_octets query planned) S 2 N (omega arith) (omega arith) Told told_front
-
     units_are : N ≡ 1 + whole_units (asked_distinct query) tables
     units_are = ap (λ (s : Specification). 1 + ((units s tables + group_units general_hashing query (planned_rows s tables)) + distinct_units general_hashing (rows_behind query (planned_rows s tables)))) given.before_is
 
@@ -198,13 +186,11 @@ module _ (row_is : (row other : List Val) → is_same_row row other ≡ true →
     abbrev IsFirst : (most N : ℕ) → Type 0
     IsFirst most_pages most_units = IsFirstBounded T (front_count given.source) given.source.columns (texts_of_grouped parts) (front_words given.source) (front_at given.source) (table_of (entries_of (query_of given.source.parts).sources)) given.source.building given.source.last given.source.group Told given_up_distinct most_pages most_units tables
 
-    first : IsFirst M N
-    first = first_bounded row_is value_is given.source folded some less_row widest_stored widest_low items_fit (omega arith) (omega arith) T room (key_columns query) (value_columns query) together tables (loaded_front given tables loaded) Told told_front
-        (group_units general_hashing query planned) (group_octets query planned) units_few octets_few S 2 N (omega arith) (omega arith) (omega arith)
-
-    pub once_first : IsFirstBounded T (front_count given.source) given.source.columns (texts_of_grouped parts) (front_words given.source) (front_at given.source) (table_of (entries_of (query_of given.source.parts).sources)) given.source.building given.source.last given.source.group (λ raised. IsTold (whole_outcome (asked_distinct query) tables) raised)
-        given_up_distinct (whole_pages (asked_distinct query) tables) (1 + whole_units (asked_distinct query) tables) tables
-    once_first = subst (λ (m : ℕ). IsFirst m (1 + whole_units (asked_distinct query) tables)) pages_are (subst (λ (w : ℕ). IsFirst M w) units_are first)
+    pub once_first : IsFirst (whole_pages (asked_distinct query) tables) (1 + whole_units (asked_distinct query) tables)
+    once_first =
+        subst₂ IsFirst pages_are units_are
+        (first_bounded row_is value_is given.source folded some less_row widest_stored widest_low items_fit (omega arith) (omega arith) T room (key_columns query) (value_columns query) together tables (loaded_front given tables loaded) Told told_front
+        (group_units general_hashing query planned) (group_octets query planned) units_few octets_few S 2 N (omega arith) (omega arith) (omega arith))
 
     -- ---- where the rows are few enough to be counted and summed, a second table
     module _ (few : 1 ≤ length query.functions → length (flow (front query) tables).rows < 10 ^ 18)
@@ -221,9 +207,6 @@ module _ (row_is : (row other : List Val) → is_same_row row other ≡ true →
       values_good : (rows : List (List Val)) → IsPermutation (flow (query_of given.source.parts) tables).rows rows → AllByRecursion (λ (k : List Val). (vs : List Val) → function_values (length query.columns) (kinds_of query.functions) (members (length query.columns) k rows) ≡ Ok vs → AreRead (value_columns query) vs) (keys (length query.columns) rows)
       values_good = values_ok row_is value_is parts whole given tables loaded T room together few
 
-      less_rows : 1 ≤ length query.functions → length (flow (query_of given.source.parts) tables).rows < 10 ^ 18
-      less_rows = few_spec row_is value_is parts whole given tables loaded few
-
       module _ (stoods : List Stood) (stood : AreStood tables [] given.source.building stoods) where
         abbrev rows : List (List Val)
         rows = (fed_over tables stoods given.source.last).rows
@@ -233,15 +216,15 @@ module _ (row_is : (row other : List Val) → is_same_row row other ≡ true →
 
         gathers : GatherReach T (front_count given.source) given.source.columns (literals_over given.source T) tables given_up_distinct M N (table_of (entries_of (query_of given.source.parts).sources)) given.source.group stoods given.source.last (budget given_up_distinct tables given.source.building (length given.source.building))
         gathers = gather_reach row_is value_is given.source folded some less_row widest_stored widest_low items_fit (omega arith) (omega arith) T room (key_columns query) (value_columns query) together tables (loaded_front given tables loaded) Told told_front
-            (group_units general_hashing query planned) (group_octets query planned) units_few octets_few S 2 N (omega arith) (omega arith) (omega arith) less_rows told_walk keys_good values_good stoods stood
+            (group_units general_hashing query planned) (group_octets query planned) units_few octets_few S 2 N (omega arith) (omega arith) (omega arith) (few_spec row_is value_is parts whole given tables loaded few) told_walk keys_good values_good stoods stood
 
         keys_there : AllByRecursion (λ (k : List Val). AreStored (key_columns query) k) (keys given.source.group.columns rows)
         keys_there = keys_stored row_is value_is given.source folded some less_row widest_stored widest_low items_fit (omega arith) (omega arith) T room (key_columns query) (value_columns query) together tables (loaded_front given tables loaded) Told told_front
-            (group_units general_hashing query planned) (group_octets query planned) units_few octets_few S 2 N (omega arith) (omega arith) (omega arith) less_rows told_walk keys_good values_good stoods stood
+            (group_units general_hashing query planned) (group_octets query planned) units_few octets_few S 2 N (omega arith) (omega arith) (omega arith) (few_spec row_is value_is parts whole given tables loaded few) told_walk keys_good values_good stoods stood
 
         values_there : AllByRecursion (λ (k : List Val). (vs : List Val) → function_values (length (key_columns query)) (functions_of (value_columns query)) (members given.source.group.columns k rows) ≡ Ok vs → AreRead (value_columns query) vs) (keys given.source.group.columns rows)
         values_there = values_are_read row_is value_is given.source folded some less_row widest_stored widest_low items_fit (omega arith) (omega arith) T room (key_columns query) (value_columns query) together tables (loaded_front given tables loaded) Told told_front
-            (group_units general_hashing query planned) (group_octets query planned) units_few octets_few S 2 N (omega arith) (omega arith) (omega arith) less_rows told_walk keys_good values_good stoods stood
+            (group_units general_hashing query planned) (group_octets query planned) units_few octets_few S 2 N (omega arith) (omega arith) (omega arith) (few_spec row_is value_is parts whole given tables loaded few) told_walk keys_good values_good stoods stood
 
         paid_for : (octets : ℕ) → table_octets (kept_by (query_of given.source.parts)) tables (placed (query_of given.source.parts)) + octets ≤ S → before + 2 * given_up_distinct + octets + 2 * given_up_distinct < (M + 1) * given_up_distinct
         paid_for = pays row_is value_is given.source widest_stored widest_low rows_fit (omega arith) T room tables (loaded_front given tables loaded) (group_units general_hashing query planned) (group_octets query planned) S 2 N (omega arith) (omega arith) stoods stood
@@ -435,24 +418,20 @@ module _ (row_is : (row other : List Val) → is_same_row row other ≡ true →
       IsKept most_pages most_units = IsDistinctBounded T (front_count given.source) given.source.columns (texts_of_grouped parts) (front_words given.source) (front_at given.source) (table_of (entries_of (query_of given.source.parts).sources)) given.source.building given.source.last (folded_query given) given.source.group (key_columns query) (value_columns query)
           (distinct_grouping (shown query)) into (key_from 0 (distinct_columns 0 query.items)) [] (λ raised. IsTold (whole_outcome (asked_distinct query) tables) raised) given_up_distinct most_pages most_units tables
 
-      bounded : IsKept M N
-      bounded = record {
+      pub once_kept : IsKept (whole_pages (asked_distinct query) tables) (1 + whole_units (asked_distinct query) tables)
+      once_kept = subst₂ IsKept pages_are units_are (record {
         some = omega arith;
         u_low = omega arith;
         budget = λ i. budget given_up_distinct tables given.source.building i;
-        reached = reached_by;
-        told = told_by;
+        reached = builds_reach row_is value_is given.source widest_stored widest_low rows_fit (omega arith) T room tables (loaded_front given tables loaded) (group_units general_hashing query planned) (group_octets query planned) S 2 N (omega arith) (omega arith);
+        told = builds_told row_is value_is given.source widest_stored widest_low rows_fit (omega arith) T room tables (loaded_front given tables loaded) (group_units general_hashing query planned) (group_octets query planned) S 2 N (omega arith) (omega arith) Told told_front;
         gathered = λ stoods stood. gathers stoods stood;
-        told_gathered = told_gather;
+        told_gathered = last_told row_is value_is given.source widest_stored widest_low rows_fit (omega arith) T room tables (loaded_front given tables loaded) (group_units general_hashing query planned) (group_octets query planned) S 2 N (omega arith) (omega arith) Told told_front;
         entered = λ stoods stood none. enter_reach stoods stood;
         told_entered = λ stoods stood none raised tells. told_walk (fed_over tables stoods given.source.last) (alike_flow stoods stood) none raised tells;
         walked = λ stoods stood none over entered from. again_reach stoods stood entered from;
         told_walked = λ stoods stood none over entered from raised tells. again_told stoods stood entered from raised tells;
-      }
-
-      pub once_kept : IsDistinctBounded T (front_count given.source) given.source.columns (texts_of_grouped parts) (front_words given.source) (front_at given.source) (table_of (entries_of (query_of given.source.parts).sources)) given.source.building given.source.last (folded_query given) given.source.group (key_columns query) (value_columns query)
-          (distinct_grouping (shown query)) into (key_from 0 (distinct_columns 0 query.items)) [] (λ raised. IsTold (whole_outcome (asked_distinct query) tables) raised) given_up_distinct (whole_pages (asked_distinct query) tables) (1 + whole_units (asked_distinct query) tables) tables
-      once_kept = subst (λ (m : ℕ). IsKept m (1 + whole_units (asked_distinct query) tables)) pages_are (subst (λ (w : ℕ). IsKept M w) units_are bounded)
+      })
 
       -- the rows of the second walk are the query's
       pub once_rows : (stoods : List Stood) → AreStood tables [] given.source.building stoods → (fed_over tables stoods given.source.last).codes ≡ [] → (walked_of (folded_query given) (fed_over tables stoods given.source.last).rows).codes ≡ [] →
