@@ -27,7 +27,6 @@ use Rattle.qw_group.specs.Values.{chosen_type, value_type}
 use Rattle.qw_operator.specs.Takes.{AreSized}
 use Rattle.qw_group_pipeline.specs.declared.columns.ValueColumn.{ValueColumn}
 use Rattle.qw_group_pipeline.proofs.RowFeeds.{AreOfKinds}
-use Rattle.qw_group_pipeline.proofs.ValuesCome.{column_for}
 use Rattle.qw_compile_whole.specs.GroupColumns.{argument_kind, key_columns, key_from, value_columns, values_from}
 
 -- ---- scales
@@ -150,10 +149,6 @@ all_sized : (n : ℕ) (functions : List SetFunction) → AllByRecursion IsArgume
 all_sized n [] h = tt
 all_sized n (f ∷ functions) h = (value_sized f.kind f.argument h.0.0.0 h.0.1, all_sized (n + 1) functions h.1)
 
-read_sized : (values : List ValueColumn) → AllByRecursion (λ (v : ValueColumn). IsSized v.ty) values → AreSized (map column_for values)
-read_sized [] h = tt
-read_sized (v ∷ values) h = (h.0, read_sized values h.1)
-
 all_of_kinds : (n : ℕ) (functions : List SetFunction) → AllByRecursion IsArgument functions → AreOfKinds (values_from n functions)
 all_of_kinds n [] h = tt
 all_of_kinds n (f ∷ functions) h = (value_as f.kind f.argument h.0.1, all_of_kinds (n + 1) functions h.1)
@@ -194,9 +189,6 @@ module _ (query : Grouped) (grouped : IsGrouped query) where
 
   pub values_sized : AllByRecursion (λ (v : ValueColumn). IsSized v.ty) (value_columns query)
   values_sized = all_sized (length query.columns) query.functions typed
-
-  pub values_read : AreSized (map column_for (value_columns query))
-  values_read = read_sized (value_columns query) values_sized
 
   pub values_of_kinds : AreOfKinds (value_columns query)
   values_of_kinds = all_of_kinds (length query.columns) query.functions typed

@@ -1,6 +1,6 @@
 -- The pipelines of what reaches a query's groups: the last one feeds the rows of its plan, whatever is raised, and those that build tables hold no more than the
 -- plan's tables.
-use Rattle.std.proofs.Common.{◌≡◌, ◌∙◌, ◌≤◌, ℕ, ◌+◌, ◌*◌, max, true, List, [], ◌∷◌, ◌++◌, length, length-append, map, refl, sym, ap, subst, arith}
+use Rattle.std.proofs.Common.{◌≡◌, ◌∙◌, ◌≤◌, ℕ, ◌+◌, ◌*◌, max, true, List, [], ◌∷◌, ◌++◌, length, length-append, refl, sym, ap, subst, arith}
 use Rattle.std.specs.List.{AllByRecursion, AllZip}
 use Rattle.std.specs.List.Sorted.{IsPermutation}
 use Rattle.std.specs.declared.cmp.Ordering.TheVariants as ordering
@@ -8,7 +8,7 @@ use Rattle.qw_types.specs.ValueOrder.{is_same_row, value_order}
 use Rattle.qw_types.specs.declared.value.Val.{Val}
 use Rattle.qw_meaning.specs.Flow.{Flow}
 use Rattle.qw_meaning.specs.Outcome.{flow}
-use Rattle.qw_meaning.specs.Query.{QueryParts, query_of}
+use Rattle.qw_meaning.specs.Query.{query_of}
 use Rattle.qw_meaning.specs.Select.{AreOfEntries, Specification, entries_of}
 use Rattle.qw_algebra.specs.Node.{Node, filter, node_flow}
 use Rattle.qw_algebra.specs.Written.{from_written}
@@ -17,16 +17,13 @@ use Rattle.qw_rewrite.specs.Sift.{sifted}
 use Rattle.qw_rewrite.proofs.Grounds.{flow_of_query}
 use Rattle.qw_pipe.specs.Octets.{greatest_entry, table_count, table_octets}
 use Rattle.qw_pipe.specs.Pipes.{pipelines, split}
-use Rattle.qw_map.specs.Layout.{row_size}
-use Rattle.qw_physical.specs.Coded.{pipeline_of}
+use Rattle.qw_map.specs.Layout.{Layout, row_size}
 use Rattle.qw_physical.specs.Courses.{AreBuilt, costs}
 use Rattle.qw_physical.specs.Held.{held, kept_of, sink_size}
 use Rattle.qw_physical.specs.Physical.{Pipeline}
 use Rattle.qw_physical.specs.Sides.{IsPlanned, builds_of, last_of}
 use Rattle.qw_physical.specs.Spelled.{IsSamePipeline, all_spelled}
 use Rattle.qw_physical.specs.Typed.{IsTypedPhysical}
-use Rattle.qw_physical.specs.declared.pipeline.Pipeline as coded
-use Rattle.qw_physical.specs.declared.pipeline.ReadColumn.{ReadColumn}
 use Rattle.qw_physical.proofs.Alikeness.{pipeline_fed_same}
 use Rattle.qw_physical.proofs.Begun.{costs_bounded}
 use Rattle.qw_physical.proofs.Holding.{all_count, all_sizes, builds_held}
@@ -34,19 +31,18 @@ use Rattle.qw_physical.proofs.Orders.{Alike}
 use Rattle.qw_physical.proofs.QueryScans.{ScansOne}
 use Rattle.qw_physical.proofs.Results.{last_alike}
 use Rattle.qw_physical.proofs.Typing.{zip_all}
-use Rattle.qw_leaves.proofs.LeafLists.{all_front}
+use Rattle.qw_leaves.proofs.LeafLists.{all_back, all_front}
 use Rattle.qw_operator.proofs.Stood.{Stood, built_of}
-use Rattle.qw_compile.specs.QueryColumns.{AreColumnsOf}
-use Rattle.qw_compile.specs.QueryPasses.{ArePipelinesOf}
 use Rattle.qw_compile.specs.PlannedQueries.{greatest, kept_by, placed, units}
 use Rattle.qw_compile.proofs.KeptBounds.{greatest_few, stored_few}
 use Rattle.qw_compile.proofs.PipelineRuns.{AreStood, fed_over}
-use Rattle.qw_compile.proofs.Planned.{IsPartedOf, all_scan, planned}
+use Rattle.qw_compile.proofs.Planned.{all_scan, planned}
 use Rattle.qw_compile.proofs.QueryBounded.{held_same, size_same}
 use Rattle.qw_compile.proofs.QueryReach.{zip_long}
 use Rattle.qw_compile.proofs.QueryTold.{spelled_built}
 use Rattle.qw_compile.proofs.StoodBuilt.{built_alike}
 use Rattle.qw_whole.specs.WholePromises.{planned_rows}
+use Rattle.qw_compile_whole.proofs.FrontLed.{FrontOf, cut}
 
 -- a list that is alike another, where that one has two parts
 record Halves (R : Pipeline → Pipeline → Type 0) (xs front back : List Pipeline) : Type 0 where
@@ -64,83 +60,86 @@ halves R (x ∷ xs) (q ∷ front) back z =
     record { before = x ∷ rest.before; after = rest.after; is = ap (λ (l : List Pipeline). x ∷ l) rest.is; same_before = (z.0, rest.same_before); same = (z.0, rest.same) }
 
 module _ (row_is : (row other : List Val) → is_same_row row other ≡ true → row ≡ other) (value_is : (a : Val) → value_order a a ≡ ordering.Equal)
-    (parts : QueryParts) (kept columns : List ReadColumn) (made : List coded.Pipeline) (are : AreColumnsOf parts kept columns) (of : ArePipelinesOf parts kept made) (cut : IsPartedOf kept of.node (map pipeline_of made)) where
+    {texts : List (List ℕ)} {layout : Layout} (source : FrontOf texts layout) where
   abbrev query : Specification
-  query = query_of parts
+  query = query_of source.parts
 
   -- the well placed plan, but for its select list
   abbrev below : Node
   below = keyed true (sifted true [] (filter query.conjuncts (from_written query.sources)))
 
-  spelled_are : all_spelled kept 0 (pipelines of.node) ≡ all_spelled kept 0 (pipelines (placed query))
-  spelled_are = ap (λ (n : Node). all_spelled kept 0 (pipelines n)) of.placed
+  spelled_are : all_spelled source.kept 0 (pipelines source.of.node) ≡ all_spelled source.kept 0 (pipelines (placed query))
+  spelled_are = ap (λ (n : Node). all_spelled source.kept 0 (pipelines n)) source.of.placed
 
   -- all that are spelled out are the code's
-  same_whole : AllZip IsSamePipeline (all_spelled kept 0 (pipelines (placed query))) (cut.building ++ cut.last ∷ [])
+  same_whole : AllZip IsSamePipeline (all_spelled source.kept 0 (pipelines (placed query))) (source.building ++ source.last ∷ [])
   same_whole =
-      subst (λ (ps : List Pipeline). AllZip IsSamePipeline ps (cut.building ++ cut.last ∷ [])) spelled_are
-      (subst (AllZip IsSamePipeline (all_spelled kept 0 (pipelines of.node))) cut.whole of.same)
+      subst (λ (ps : List Pipeline). AllZip IsSamePipeline ps (source.building ++ source.last ∷ [])) spelled_are
+      (subst (AllZip IsSamePipeline (all_spelled source.kept 0 (pipelines source.of.node))) source.whole source.of.same)
 
   -- a table for each join
-  pub built_many : length cut.building ≡ table_count (placed (query_of parts))
+  pub built_many : length source.building ≡ table_count (placed (query_of source.parts))
   built_many =
-      let count : length (all_spelled kept 0 (pipelines (placed query))) ≡ table_count (placed query) + 1 = all_count row_is value_is kept [] below query.items in
-      let long = zip_long IsSamePipeline (all_spelled kept 0 (pipelines (placed query))) (cut.building ++ cut.last ∷ []) same_whole in
-      let both = length-append cut.building (cut.last ∷ []) in
-      summed (length (all_spelled kept 0 (pipelines (placed query)))) (table_count (placed query)) (length (cut.building ++ cut.last ∷ [])) (length cut.building) count long both
+      let count : length (all_spelled source.kept 0 (pipelines (placed query))) ≡ table_count (placed query) + 1 = all_count row_is value_is source.kept [] below query.items in
+      let long = zip_long IsSamePipeline (all_spelled source.kept 0 (pipelines (placed query))) (source.building ++ source.last ∷ []) same_whole in
+      let both = length-append source.building (source.last ∷ []) in
+      summed (length (all_spelled source.kept 0 (pipelines (placed query)))) (table_count (placed query)) (length (source.building ++ source.last ∷ [])) (length source.building) count long both
     where
       summed : (whole tables parts n : ℕ) → whole ≡ tables + 1 → whole ≡ parts → parts ≡ n + 1 → n ≡ tables
       summed whole tables parts n e f g = omega (arith, e, f, g)
 
-  pub typed_builds : AllByRecursion IsTypedPhysical cut.building
-  typed_builds = all_front IsTypedPhysical cut.building (cut.last ∷ []) (subst (AllByRecursion IsTypedPhysical) cut.whole of.typed)
+  pub typed_builds : AllByRecursion IsTypedPhysical source.building
+  typed_builds = all_front IsTypedPhysical source.building (source.last ∷ []) (subst (AllByRecursion IsTypedPhysical) source.whole source.of.typed)
 
-  pub scans_whole : AllByRecursion (ScansOne (entries_of (query_of parts).sources)) (cut.building ++ cut.last ∷ [])
-  scans_whole = subst (AllByRecursion (ScansOne (entries_of query.sources))) cut.whole (all_scan parts kept columns made are of)
+  pub scans_whole : AllByRecursion (ScansOne (entries_of (query_of source.parts).sources)) (source.building ++ source.last ∷ [])
+  scans_whole = subst (AllByRecursion (ScansOne (entries_of query.sources))) source.whole (all_scan source.parts source.kept source.columns source.ps source.are source.of)
+
+  pub last_scans : ScansOne (entries_of (query_of source.parts).sources) source.last
+  last_scans = (all_back (ScansOne (entries_of query.sources)) source.building (source.last ∷ []) scans_whole).0
 
   -- an entry is no greater than a result row would be, or the greatest of the plan's tables
-  pub builds_size : AllByRecursion (λ (p : Pipeline). sink_size p.sink ≤ greatest (query_of parts)) cut.building
+  pub builds_size : AllByRecursion (λ (p : Pipeline). sink_size p.sink ≤ greatest (query_of source.parts)) source.building
   builds_size =
-      let few = greatest_few parts kept are.kept_once are.named in
-      all_front (λ (p : Pipeline). sink_size p.sink ≤ greatest (query_of parts)) cut.building (cut.last ∷ [])
-      (zip_all IsSamePipeline (λ p. sink_size p.sink ≤ greatest (query_of parts)) (λ p. sink_size p.sink ≤ greatest (query_of parts))
-      (λ p q z h. let same = size_same p.sink q.sink z.sink in omega (arith, h, same)) (all_spelled kept 0 (pipelines (placed query))) (cut.building ++ cut.last ∷ []) same_whole
-      (more (max (row_size (length query.items)) (greatest_entry (kept_of kept) (placed query))) (greatest query) (all_spelled kept 0 (pipelines (placed query))) few (all_sizes row_is value_is kept [] below query.items)))
+      let few = greatest_few source.parts source.kept source.are.kept_once source.are.named in
+      all_front (λ (p : Pipeline). sink_size p.sink ≤ greatest (query_of source.parts)) source.building (source.last ∷ [])
+      (zip_all IsSamePipeline (λ p. sink_size p.sink ≤ greatest (query_of source.parts)) (λ p. sink_size p.sink ≤ greatest (query_of source.parts))
+      (λ p q z h. let same = size_same p.sink q.sink z.sink in omega (arith, h, same)) (all_spelled source.kept 0 (pipelines (placed query))) (source.building ++ source.last ∷ []) same_whole
+      (more (max (row_size (length query.items)) (greatest_entry (kept_of source.kept) (placed query))) (greatest query) (all_spelled source.kept 0 (pipelines (placed query))) few (all_sizes row_is value_is source.kept [] below query.items)))
     where
       more : (most other : ℕ) (ps : List Pipeline) → most ≤ other → AllByRecursion (λ (p : Pipeline). sink_size p.sink ≤ most) ps → AllByRecursion (λ (p : Pipeline). sink_size p.sink ≤ other) ps
       more most other [] less h = tt
       more most other (p ∷ ps) less h = (omega (arith, less, h.0), more most other ps less h.1)
 
   -- ---- over tables
-  module _ (tables : List (List (List Val))) (loaded : AreOfEntries (entries_of (query_of parts).sources) tables) where
-    pub plan : IsPlanned (query_of parts) tables kept of.node
-    plan = planned parts kept columns made are of tables loaded
+  module _ (tables : List (List (List Val))) (loaded : AreOfEntries (entries_of (query_of source.parts).sources) tables) where
+    pub plan : IsPlanned (query_of source.parts) tables source.kept source.of.node
+    plan = planned source.parts source.kept source.columns source.ps source.are source.of tables loaded
 
-    pub cost_within : (front back : List Pipeline) (more : List (List (List Val))) → all_spelled kept 0 (pipelines of.node) ≡ front ++ back → AreBuilt tables [] front more → costs tables [] (front ++ back) more ≤ units (query_of parts) tables
+    pub cost_within : (front back : List Pipeline) (more : List (List (List Val))) → all_spelled source.kept 0 (pipelines source.of.node) ≡ front ++ back → AreBuilt tables [] front more → costs tables [] (front ++ back) more ≤ units (query_of source.parts) tables
     cost_within front back more is built =
-        costs_bounded row_is value_is kept tables query front back more are.specification loaded of.sized are.reads plan.scaled (sym spelled_are ∙ is) built
+        costs_bounded row_is value_is source.kept tables query front back more source.are.specification loaded source.of.sized source.are.reads plan.scaled (sym spelled_are ∙ is) built
 
     -- tables of joins hold no more than those of the plan
-    pub builds_within : (front back : List Pipeline) (more : List (List (List Val))) → cut.building ≡ front ++ back → AreBuilt tables [] front more
-        → held tables [] (front ++ back) more ≤ table_octets (kept_by (query_of parts)) tables (placed (query_of parts))
+    pub builds_within : (front back : List Pipeline) (more : List (List (List Val))) → source.building ≡ front ++ back → AreBuilt tables [] front more
+        → held tables [] (front ++ back) more ≤ table_octets (kept_by (query_of source.parts)) tables (placed (query_of source.parts))
     builds_within front back more is built =
-        let half = halves IsSamePipeline (builds_of kept of.node) front back (subst (AllZip IsSamePipeline (builds_of kept of.node)) is cut.same) in
+        let half = halves IsSamePipeline (builds_of source.kept source.of.node) front back (subst (AllZip IsSamePipeline (builds_of source.kept source.of.node)) is (cut source).same) in
         let spelled : AreBuilt tables [] half.before more = built_alike IsSamePipeline tables (λ p q z b. pipeline_fed_same b tables p q z) [] half.before front more half.same_before built in
-        let spelled_is : all_spelled kept 0 (split 0 (placed query)).builds ≡ half.before ++ half.after = ap (λ (n : Node). all_spelled kept 0 (split 0 n).builds) (sym of.placed) ∙ half.is in
-        cancelled (held tables [] (half.before ++ half.after) more) (held tables [] (front ++ back) more) (table_octets (kept_of kept) tables (placed query)) (table_octets (kept_by query) tables (placed query))
+        let spelled_is : all_spelled source.kept 0 (split 0 (placed query)).builds ≡ half.before ++ half.after = ap (λ (n : Node). all_spelled source.kept 0 (split 0 n).builds) (sym source.of.placed) ∙ half.is in
+        cancelled (held tables [] (half.before ++ half.after) more) (held tables [] (front ++ back) more) (table_octets (kept_of source.kept) tables (placed query)) (table_octets (kept_by query) tables (placed query))
         (length (node_flow tables (placed query)).rows * row_size (length query.items))
-        (builds_held row_is value_is kept tables query half.before half.after more are.specification loaded of.sized are.reads plan.scaled spelled_is spelled)
-        (held_same tables [] (half.before ++ half.after) (front ++ back) more half.same) (stored_few parts kept are.kept_once are.named tables)
+        (builds_held row_is value_is source.kept tables query half.before half.after more source.are.specification loaded source.of.sized source.are.reads plan.scaled spelled_is spelled)
+        (held_same tables [] (half.before ++ half.after) (front ++ back) more half.same) (stored_few source.parts source.kept source.are.kept_once source.are.named tables)
       where
         cancelled : (h g a b r : ℕ) → h ≤ a → h ≡ g → a + r ≤ b + r → g ≤ b
         cancelled h g a b r less same few = omega (arith, less, same, few)
 
     -- the last one feeds the rows that reach the groups, and raises what is raised before
-    pub fed_alike : (stoods : List Stood) → AreStood tables [] cut.building stoods → Alike (fed_over tables stoods cut.last) (flow (query_of parts) tables)
+    pub fed_alike : (stoods : List Stood) → AreStood tables [] source.building stoods → Alike (fed_over tables stoods source.last) (flow (query_of source.parts) tables)
     fed_alike stoods stood =
-        let built = spelled_built query tables kept of.node plan cut.building cut.last cut.same cut.same_last (builds_of kept of.node) cut.building stoods cut.same stood in
-        subst (λ (f : Flow (List Val)). Alike f (flow query tables)) (pipeline_fed_same (built_of stoods) tables (last_of kept of.node) cut.last cut.same_last) (last_alike query tables kept of.node plan (built_of stoods) built)
+        let built = spelled_built query tables source.kept source.of.node plan source.building source.last (cut source).same (cut source).same_last (builds_of source.kept source.of.node) source.building stoods (cut source).same stood in
+        subst (λ (f : Flow (List Val)). Alike f (flow query tables)) (pipeline_fed_same (built_of stoods) tables (last_of source.kept source.of.node) source.last (cut source).same_last) (last_alike query tables source.kept source.of.node plan (built_of stoods) built)
 
-    pub rows_planned : (stoods : List Stood) → AreStood tables [] cut.building stoods → IsPermutation (fed_over tables stoods cut.last).rows (planned_rows (query_of parts) tables)
+    pub rows_planned : (stoods : List Stood) → AreStood tables [] source.building stoods → IsPermutation (fed_over tables stoods source.last).rows (planned_rows (query_of source.parts) tables)
     rows_planned stoods stood =
-        subst (λ (f : Flow (List Val)). IsPermutation (fed_over tables stoods cut.last).rows f.rows) (sym (flow_of_query query tables (placed query) are.specification loaded of.sized refl)) (fed_alike stoods stood).0
+        subst (λ (f : Flow (List Val)). IsPermutation (fed_over tables stoods source.last).rows f.rows) (sym (flow_of_query query tables (placed query) source.are.specification loaded source.of.sized refl)) (fed_alike stoods stood).0

@@ -1,38 +1,47 @@
 -- The pipelines of what reaches a query's groups are within bounds of units and pages that leave room for the groups and for the result: each that builds a
 -- table finds what it looks up and what it puts into memory is paid for; and so many octets more are paid for behind all of them.
-use Rattle.std.proofs.Common.{◌≡◌, ◌∙◌, ◌≤◌, ◌<◌, ℕ, suc, ◌+◌, ◌*◌, ◌/◌, List, [], ◌∷◌, ◌++◌, length, map, sym, ap, subst, append_assoc, append-nil, arith}
+use Rattle.std.proofs.Common.{◌≡◌, ◌∙◌, ◌≤◌, ◌<◌, ℕ, suc, ◌+◌, ◌-◌, ◌*◌, ◌/◌, max, true, List, [], ◌∷◌, ◌++◌, length, map, sym, ap, subst, append_assoc, append-nil, arith}
 use Rattle.std.proofs.Math.Nat.{add-mul}
-use Rattle.std.specs.List.{AllByRecursion, AllZip}
+use Rattle.std.specs.List.{AllByRecursion}
 use Rattle.qw_types.specs.declared.value.Val.{Val}
 use Rattle.qw_linear.specs.Memory.{page}
-use Rattle.qw_meaning.specs.Select.{Entry, Specification, entries_of}
-use Rattle.qw_algebra.specs.Node.{Node}
-use Rattle.qw_pipe.specs.Pipes.{pipelines}
+use Rattle.qw_meaning.specs.Select.{AreOfEntries, Entry, Specification, entries_of}
 use Rattle.qw_read.specs.Reading.{known_of}
-use Rattle.qw_read.specs.declared.constant.Word.{Word}
-use Rattle.qw_physical.specs.Courses.{AreBuilt, costs, pipeline_fed}
+use Rattle.qw_physical.specs.Courses.{AreBuilt, pipeline_cost, pipeline_fed}
 use Rattle.qw_physical.specs.Held.{held, sink_octets, sink_size}
 use Rattle.qw_physical.specs.Physical.{Pipeline, Sink}
-use Rattle.qw_physical.specs.Sides.{IsPlanned, builds_of, last_of}
-use Rattle.qw_physical.specs.Spelled.{IsSamePipeline, all_spelled}
-use Rattle.qw_physical.specs.Typed.{IsTypedPhysical}
-use Rattle.qw_physical.specs.declared.pipeline.ReadColumn.{ReadColumn}
+use Rattle.qw_physical.specs.Sides.{IsPlanned, builds_of}
 use Rattle.qw_physical.proofs.Permuted.{built_in_order}
 use Rattle.qw_physical.proofs.QueryScans.{ScansOne}
 use Rattle.qw_operator.specs.Takes.{CanCarry}
-use Rattle.qw_operator.proofs.PairRows.{AreDistinct}
 use Rattle.qw_operator.proofs.Stood.{Stood, built_of}
 use Rattle.qw_compile.proofs.Budgets.{pages_pay, spent}
-use Rattle.qw_compile.proofs.LocalsPlaced.{literal_count, literals_known}
-use Rattle.qw_compile.proofs.PipelineRuns.{AreStood, entry_width, fed_over, readers_of}
+use Rattle.qw_compile.proofs.PipelineRuns.{AreStood, Finds, entry_width, fed_over, readers_of}
 use Rattle.qw_compile.proofs.QueryBounded.{built_pays}
-use Rattle.qw_compile.proofs.QueryCan.{HasEach}
-use Rattle.qw_compile.proofs.QueryFinds.{build_finds, one_at}
+use Rattle.qw_compile.proofs.QueryFinds.{build_finds, last_finds, one_at}
 use Rattle.qw_compile.proofs.QueryReach.{code_builds, scan_column, scan_table, stoods_long, table_of, width_is}
 use Rattle.qw_compile.proofs.QueryRuns.{Reach}
-use Rattle.qw_compile.proofs.QueryTold.{cost}
+use Rattle.qw_compile.proofs.QueryTold.{cost, cost_last, spelled_built, told, told_last}
 use Rattle.qw_compile.proofs.Spent.{spent_front, spent_next}
 use Rattle.qw_compile.proofs.StoodBuilt.{stood_built}
+use Rattle.std.specs.declared.cmp.Ordering.TheVariants as ordering
+use Rattle.qw_types.specs.ValueOrder.{is_same_row, value_order}
+use Rattle.qw_map.specs.Layout.{Layout}
+use Rattle.qw_meaning.proofs.ListLemmas.{all_more}
+use Rattle.qw_meaning.specs.Outcome.{outcome}
+use Rattle.qw_meaning.specs.Query.{query_of}
+use Rattle.qw_leaves.proofs.LeafLists.{all_front}
+use Rattle.qw_pipe.specs.Octets.{greatest_entry, table_octets}
+use Rattle.qw_feed.specs.Feeds.{Tells}
+use Rattle.qw_physical.proofs.Results.{entries_stored}
+use Rattle.qw_emit.proofs.Answered.{IsTold}
+use Rattle.qw_group_sink.specs.Carrying.{pipeline_cost_to}
+use Rattle.qw_compile.specs.PlannedQueries.{greatest, kept_by, placed, units}
+use Rattle.qw_compile.proofs.Planned.{are_distinct}
+use Rattle.qw_compile_whole.proofs.FrontLed.{FrontOf, cut, end_takes, front_at, front_count, front_takes, front_words, literals_over}
+use Rattle.qw_compile_whole.proofs.GroupCosts.{pipeline_to_less, present_served, stoods_have}
+use Rattle.qw_compile_whole.proofs.GroupPlanned.{builds_size, builds_within, cost_within, plan, scans_whole, typed_builds}
+use Rattle.qw_compile_whole.proofs.GroupTotals.{total}
 
 -- ---- what is held
 
@@ -53,9 +62,6 @@ held_last tables built (q ∷ ps) p (e ∷ more) h =
     omega (arith, rest, same)
 
 -- ---- pages
-one_more : (n u : ℕ) → suc n * u ≡ u + n * u
-one_more n u = omega (arith, add-mul 1 n u)
-
 more_pages : (tables k q u : ℕ) → (2 + 2 * tables + q + 1) * u ≤ (2 + 2 * (tables + k) + q + 1) * u
 more_pages tables k q u =
     let parts : (2 + 2 * (tables + k) + q + 1) * u ≡ (2 * k) * u + (2 + 2 * tables + q + 1) * u = ap (λ (n : ℕ). n * u) (regrouped tables k q) ∙ add-mul (2 * k) (2 + 2 * tables + q + 1) u in
@@ -93,52 +99,107 @@ module _ (u S : ℕ) (some : 0 < u) (tables : List (List (List Val))) (building 
       added : (b t h o w v m : ℕ) → b ≡ t + h → w ≡ t + v → (w + (h + o)) + 2 * u < m → b + v + o + 2 * u < m
       added b t h o w v m e g p = omega (arith, e, g, p)
 
--- ---- pipelines that build tables
-module _ (query : Specification) (tables : List (List (List Val))) (columns : List ReadColumn) (node : Node) (planned : IsPlanned query tables columns node) (building : List Pipeline) (last : Pipeline)
-    (same : AllZip IsSamePipeline (builds_of columns node) building) (same_last : IsSamePipeline (last_of columns node) last) (typed : AllByRecursion IsTypedPhysical building) (distinct : AreDistinct columns)
-    (scans : AllByRecursion (ScansOne (entries_of query.sources)) building) (read : List ReadColumn) (each : HasEach read (length (entries_of query.sources))) (T at : ℕ) (texts : List (List ℕ)) (words : List Word) where
-  abbrev n : ℕ
-  n = literal_count texts words
+-- ---- pipelines that build tables, and the last one
+module _ (row_is : (row other : List Val) → is_same_row row other ≡ true → row ≡ other) (value_is : (a : Val) → value_order a a ≡ ordering.Equal)
+    {texts : List (List ℕ)} {layout : Layout} (source : FrontOf texts layout) (widest : ℕ) (widest_low : widest ≤ 24216) (rows_fit : 8 + 16 * length (query_of source.parts).items ≤ widest) (joins_fit : greatest_entry (kept_by (query_of source.parts)) (placed (query_of source.parts)) ≤ widest)
+    (T : ℕ) (room : length source.ps ≤ T) (tables : List (List (List Val))) (loaded : AreOfEntries (entries_of (query_of source.parts).sources) tables) (units_for octets_for S beside N : ℕ) (units_within : 1 + (units (query_of source.parts) tables + units_for) ≤ N)
+    (octets_within : table_octets (kept_by (query_of source.parts)) tables (placed (query_of source.parts)) + octets_for ≤ S) where
+  abbrev spec : Specification
+  spec = query_of source.parts
 
   abbrev entries : List Entry
-  entries = entries_of query.sources
+  entries = entries_of (query_of source.parts).sources
 
-  abbrev pub IsTakenBy : Pipeline → Type 0
-  IsTakenBy p = CanCarry (literals_known T at texts words ++ map known_of (readers_of T n read p.entry)) p.operators p.sink
+  -- what may be given up of a page
+  abbrev u : ℕ
+  u = page - widest
 
-  module _ (can : AllByRecursion IsTakenBy building) (units : ℕ)
-      (bounded : (front back : List Pipeline) (more : List (List (List Val))) → all_spelled columns 0 (pipelines node) ≡ front ++ back → AreBuilt tables [] front more → costs tables [] (front ++ back) more ≤ units) (N : ℕ) (units_less : 1 + units ≤ N) (u S groups : ℕ) (some : 0 < u)
-      (within : (front back : List Pipeline) (more : List (List (List Val))) → building ≡ front ++ back → AreBuilt tables [] front more → held tables [] (front ++ back) more ≤ S) (fit : AllByRecursion (λ (p : Pipeline). sink_size p.sink + u ≤ page) building) where
-    pub reach : (front : List Pipeline) (p : Pipeline) (back : List Pipeline) (stoods : List Stood) → building ≡ front ++ p ∷ back → AreStood tables [] front stoods
-        → Reach T n read (literals_known T at texts words) tables u (most u S groups building) N (table_of entries) stoods p (budget u tables building (length front)) (budget u tables building (suc (length front)))
-    reach front p back stoods parts are =
-        let b = code_builds columns node building same front p back parts in
-        let scan : ScansOne entries p = one_at (ScansOne entries) front p back (subst (AllByRecursion (ScansOne entries)) parts scans) in
-        let built = stood_built tables [] front stoods are in
-        let rows : ℕ = length (fed_over tables stoods p).rows in
-        let paid_for = cost query tables columns node planned building last same same_last units bounded front p back stoods parts are in
-        let size : entry_width b.made ≡ sink_size p.sink = width_is b.made ∙ ap sink_size (sym b.sink_is) in
-        let room = one_at (λ (q : Pipeline). sink_size q.sink + u ≤ page) front p back (subst (AllByRecursion (λ (q : Pipeline). sink_size q.sink + u ≤ page)) parts fit) in
-        let octets : sink_octets p.sink rows ≡ 4096 + rows * entry_width b.made = ap (λ (s : Sink). sink_octets s rows) b.sink_is ∙ ap (λ (k : ℕ). 4096 + rows * k) (sym (width_is b.made)) in
-        let next : budget u tables building (suc (length front)) ≡ budget u tables building (length front) + (u + sink_octets p.sink rows) =
-        subst (λ (l : List Pipeline). spent u l (built_in_order tables [] l) (suc (length front)) ≡ spent u l (built_in_order tables [] l) (length front) + (u + sink_octets p.sink rows)) (sym parts)
-        (spent_next u tables front p back [] [] (built_of stoods) tt built) in
-        let pays : budget u tables building (suc (length front)) + 2 * u < (2 + 2 * length building + S / u + 1) * u =
-        subst (λ (l : List Pipeline). spent u l (built_in_order tables [] l) (suc (length front)) + 2 * u < (2 + 2 * length building + S / u + 1) * u) (sym parts)
-        (built_pays u S (length building) some tables front p back back (built_of stoods) built (within front (p ∷ back) (built_of stoods) parts built) (ap (λ (l : List Pipeline). length l) (sym parts))) in
-        let more = more_pages (length building) groups (S / u) u in
-        record {
-          made = b.made;
-          sink_is = b.sink_is;
-          number_is = b.number_is ∙ stoods_long tables [] front stoods are;
-          table_is = scan_table entries p scan;
-          has_column = scan_column entries read each p scan;
-          finds = build_finds query tables columns node planned building last same same_last typed distinct read T n at texts words N front p back stoods parts are
-              (one_at IsTakenBy front p back (subst (AllByRecursion IsTakenBy) parts can)) (omega (arith, paid_for, units_less));
-          fits = omega (arith, size, room);
-          grows = omega (arith, next, octets);
-          enough = less_then (budget u tables building (suc (length front)) + 2 * u) ((2 + 2 * length building + S / u + 1) * u) ((most u S groups building + 1) * u) pays more;
-        }
-      where
-        less_then : (a b c : ℕ) → a < b → b ≤ c → a < c
-        less_then a b c h g = omega (arith, h, g)
+  abbrev IsTaken : Pipeline → Type 0
+  IsTaken p = CanCarry (literals_over source T ++ map known_of (readers_of T (front_count source) source.columns p.entry)) p.operators p.sink
+
+  the_plan : IsPlanned (query_of source.parts) tables source.kept source.of.node
+  the_plan = plan row_is value_is source tables loaded
+
+  some_given : 0 < page - widest
+  some_given = omega (arith, widest_low)
+
+  builds_fit : AllByRecursion (λ (p : Pipeline). sink_size p.sink + u ≤ page) source.building
+  builds_fit =
+      all_more (λ (p : Pipeline). sink_size p.sink ≤ greatest spec) (λ (p : Pipeline). sink_size p.sink + u ≤ page) source.building
+      (λ p h. less (greatest_entry (kept_by spec) (placed spec)) (8 + 16 * length spec.items) (sink_size p.sink) h rows_fit joins_fit) (builds_size row_is value_is source)
+    where
+      less : (e i s : ℕ) → s ≤ max i e → i ≤ widest → e ≤ widest → s + (page - widest) ≤ page
+      less e i s h f g = omega (arith, h, f, g, widest_low)
+
+  pub builds_reach : (front : List Pipeline) (p : Pipeline) (back : List Pipeline) (stoods : List Stood) → source.building ≡ front ++ p ∷ back → AreStood tables [] front stoods →
+      Reach T (front_count source) source.columns (literals_over source T) tables (page - widest) (most (page - widest) S beside source.building) N (table_of (entries_of (query_of source.parts).sources)) stoods p (budget (page - widest) tables source.building (length front))
+      (budget (page - widest) tables source.building (suc (length front)))
+  builds_reach front p back stoods parts are =
+      let b = code_builds source.kept source.of.node source.building (cut source).same front p back parts in
+      let scan : ScansOne entries p = one_at (ScansOne entries) front p back (subst (AllByRecursion (ScansOne entries)) parts (all_front (ScansOne entries) source.building (source.last ∷ []) (scans_whole row_is value_is source))) in
+      let built = stood_built tables [] front stoods are in
+      let rows : ℕ = length (fed_over tables stoods p).rows in
+      let paid_for = cost spec tables source.kept source.of.node the_plan source.building source.last (cut source).same (cut source).same_last (units spec tables) (cost_within row_is value_is source tables loaded) front p back stoods parts are in
+      let size : entry_width b.made ≡ sink_size p.sink = width_is b.made ∙ ap sink_size (sym b.sink_is) in
+      let fit = one_at (λ (q : Pipeline). sink_size q.sink + u ≤ page) front p back (subst (AllByRecursion (λ (q : Pipeline). sink_size q.sink + u ≤ page)) parts builds_fit) in
+      let octets : sink_octets p.sink rows ≡ 4096 + rows * entry_width b.made = ap (λ (s : Sink). sink_octets s rows) b.sink_is ∙ ap (λ (k : ℕ). 4096 + rows * k) (sym (width_is b.made)) in
+      let next : budget u tables source.building (suc (length front)) ≡ budget u tables source.building (length front) + (u + sink_octets p.sink rows) =
+      subst (λ (l : List Pipeline). spent u l (built_in_order tables [] l) (suc (length front)) ≡ spent u l (built_in_order tables [] l) (length front) + (u + sink_octets p.sink rows)) (sym parts)
+      (spent_next u tables front p back [] [] (built_of stoods) tt built) in
+      let joins = builds_within row_is value_is source tables loaded front (p ∷ back) (built_of stoods) parts built in
+      let pays : budget u tables source.building (suc (length front)) + 2 * u < (2 + 2 * length source.building + S / u + 1) * u =
+      subst (λ (l : List Pipeline). spent u l (built_in_order tables [] l) (suc (length front)) + 2 * u < (2 + 2 * length source.building + S / u + 1) * u) (sym parts)
+      (built_pays u S (length source.building) some_given tables front p back back (built_of stoods) built (omega (arith, joins, octets_within)) (ap (λ (l : List Pipeline). length l) (sym parts))) in
+      let more = more_pages (length source.building) beside (S / u) u in
+      record {
+        made = b.made;
+        sink_is = b.sink_is;
+        number_is = b.number_is ∙ stoods_long tables [] front stoods are;
+        table_is = scan_table entries p scan;
+        has_column = scan_column entries source.columns source.are.each p scan;
+        finds = build_finds spec tables source.kept source.of.node the_plan source.building source.last (cut source).same (cut source).same_last (typed_builds row_is value_is source) (are_distinct source.kept source.are.kept_once) source.columns T (front_count source) (front_at source) texts (front_words source) N front p back stoods parts are
+            (one_at IsTaken front p back (subst (AllByRecursion IsTaken) parts (front_takes source T room))) (omega (arith, paid_for, units_within));
+        fits = omega (arith, size, fit);
+        grows = omega (arith, next, octets);
+        enough = less_then (budget u tables source.building (suc (length front)) + 2 * u) ((2 + 2 * length source.building + S / u + 1) * u) ((most u S beside source.building + 1) * u) pays more;
+      }
+    where
+      less_then : (a b c : ℕ) → a < b → b ≤ c → a < c
+      less_then a b c h g = omega (arith, h, g)
+
+  -- what is told of them
+  module _ (Told : ℕ → Type 0) (front_tells : (raised : ℕ) → IsTold (outcome (query_of source.parts) tables) raised → Told raised) where
+    pub builds_told : (front : List Pipeline) (p : Pipeline) (back : List Pipeline) (stoods : List Stood) → source.building ≡ front ++ p ∷ back → AreStood tables [] front stoods → (raised : ℕ) → Tells (fed_over tables stoods p).codes raised → Told raised
+    builds_told front p back stoods is stood raised tells = front_tells raised (told spec tables source.kept source.of.node the_plan source.building source.last (cut source).same (cut source).same_last front p back stoods is stood raised tells)
+
+    pub last_told : (stoods : List Stood) → AreStood tables [] source.building stoods → (raised : ℕ) → Tells (fed_over tables stoods source.last).codes raised → Told raised
+    last_told stoods stood raised tells = front_tells raised (told_last spec tables source.kept source.of.node the_plan source.building source.last (cut source).same (cut source).same_last stoods stood raised tells)
+
+  -- ---- the last one, where the tables of joins stand
+  module _ (stoods : List Stood) (stood : AreStood tables [] source.building stoods) where
+    last_cost : pipeline_cost tables (built_of stoods) source.last ≤ units spec tables
+    last_cost = cost_last spec tables source.kept source.of.node the_plan source.building source.last (cut source).same (cut source).same_last (units spec tables) (cost_within row_is value_is source tables loaded) stoods stood
+
+    pub finds : Finds T (front_count source) source.columns (literals_over source T) tables N stoods source.last
+    finds =
+        last_finds spec tables source.kept source.of.node the_plan source.building source.last (cut source).same (cut source).same_last (typed_builds row_is value_is source) (are_distinct source.kept source.are.kept_once) source.columns T (front_count source) (front_at source) texts (front_words source) N stoods stood
+        (end_takes source T room) (let taken = last_cost in omega (arith, taken, units_within))
+
+    -- with what is done at each row that comes of it
+    pub turned_cost : (turn : List Val → ℕ) → total turn (fed_over tables stoods source.last).rows ≤ units_for → 1 + pipeline_cost_to source.group.values turn tables (built_of stoods) source.last ≤ N
+    turned_cost turn turns =
+        let built = spelled_built spec tables source.kept source.of.node the_plan source.building source.last (cut source).same (cut source).same_last (builds_of source.kept source.of.node) source.building stoods (cut source).same stood in
+        let stored = entries_stored spec tables source.kept source.of.node the_plan (builds_of source.kept source.of.node) [] (built_of stoods) (sym (append-nil (builds_of source.kept source.of.node))) built in
+        let present = present_served stoods (stoods_have tables (builds_of source.kept source.of.node) source.building stoods [] (cut source).same stood stored) source.last.operators finds.served in
+        let less = pipeline_to_less source.group.values turn (built_of stoods) tables source.last source.values_are present in
+        let taken = last_cost in
+        omega (arith, less, taken, turns, units_within)
+
+    pub pays : (octets : ℕ) → table_octets (kept_by (query_of source.parts)) tables (placed (query_of source.parts)) + octets ≤ S →
+        budget (page - widest) tables source.building (length source.building) + beside * (page - widest) + octets + 2 * (page - widest) < (most (page - widest) S beside source.building + 1) * (page - widest)
+    pays octets h =
+        let built = stood_built tables [] source.building stoods stood in
+        let low : held tables [] source.building (built_of stoods) ≤ table_octets (kept_by spec) tables (placed spec) =
+        subst (λ (ps : List Pipeline). held tables [] ps (built_of stoods) ≤ table_octets (kept_by spec) tables (placed spec)) (append-nil source.building)
+        (builds_within row_is value_is source tables loaded source.building [] (built_of stoods) (sym (append-nil source.building)) built) in
+        paid u S some_given tables source.building beside (built_of stoods) built source.last octets (omega (arith, low, h))

@@ -83,10 +83,7 @@ module _ (query : Grouped) (rows : List (List Val)) where
   abbrev functions : List SetFunctionKind
   functions = kinds_of query.functions
 
-  -- how many entries are in a row's slot at last, what MIN and MAX compare at it, and what it takes in all
-  abbrev pub entries_at : List Val → ℕ
-  entries_at row = length (in_slot slot (slot (key_of (length query.columns) row)) (keys (length query.columns) rows))
-
+  -- what MIN and MAX compare at a row, and what it takes in all
   abbrev pub chosen_at : List Val → ℕ
   chosen_at row = chosen_units (length query.columns) (kinds_of query.functions) rows row
 

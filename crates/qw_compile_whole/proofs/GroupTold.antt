@@ -11,14 +11,14 @@ use Rattle.qw_meaning.specs.Flow.{Flow, codes_given, kept}
 use Rattle.qw_meaning.specs.Outcome.{IsSameOutcome, Raises, Rows, ended, flow, outcome}
 use Rattle.qw_grouped.specs.Grouped.{Grouped, front, kinds_of}
 use Rattle.qw_grouped.specs.Groups.{behind_front, group_row, grouped_flow, grouped_table, groups_unless}
-use Rattle.qw_grouped.specs.Whole.{Whole, grouped, whole_outcome}
+use Rattle.qw_grouped.specs.Whole.{grouped, whole_outcome}
 use Rattle.qw_grouped.proofs.OrderLemmas as order
 use Rattle.qw_feed.specs.Feeds.{Tells}
 use Rattle.qw_physical.proofs.Orders.{Alike}
 use Rattle.qw_emit.proofs.Answered.{IsTold}
 
 -- ---- lists
-none_left : (cs : List Code) → IsPermutation [] cs → cs ≡ []
+pub none_left : (cs : List Code) → IsPermutation [] cs → cs ≡ []
 none_left [] p = refl
 none_left (c ∷ cs) p = absurd (let long = length_permutation [] (c ∷ cs) p in omega (arith, long))
 
@@ -30,14 +30,21 @@ some_raised : (rows : List (List Val)) (cs : List Code) (code : Code) → Contai
 some_raised rows [] code h = absurd (omega (arith, h.1))
 some_raised rows (c ∷ cs) code h = refl
 
+-- which rows there are makes no difference where an exception was raised
+pub told_any : (rows others : List (List Val)) (cs : List Code) (raised : ℕ) → IsTold (ended rows cs) raised → IsTold (ended others cs) raised
+told_any rows others cs raised told =
+    ⊎_elim inl
+    (λ it.
+    let codes_are : cs ≡ it.0 = raises_is rows cs it.0 it.2 in
+    let there : Contains cs it.1 = subst (λ (l : List Code). Contains l it.1) (sym codes_are) it.3 in
+    inr (cs, it.1, some_raised others cs it.1 there, there, it.4))
+    told
+
 -- a bag of rows is an outcome's where it raised nothing
 ended_rows : (rows others : List (List Val)) (cs : List Code) → cs ≡ [] → IsPermutation rows others → IsSameOutcome (ended rows cs) (Rows others)
 ended_rows rows others cs none p = subst (λ (l : List Code). IsSameOutcome (ended rows l) (Rows others)) (sym none) p
 
 module _ (query : Grouped) (tables : List (List (List Val))) where
-  abbrev pub asked : Whole
-  asked = record { body = grouped query; distinct = false }
-
   -- ---- what reaches the groups
   front_codes : (before : Flow (List Val)) (code : Code) → Contains before.codes code → Contains (behind_front query before).codes code
   front_codes before code h =
@@ -59,9 +66,6 @@ module _ (query : Grouped) (tables : List (List (List Val))) where
 
   -- ---- the walk, where what reaches the groups raised nothing
   module _ (fed : Flow (List Val)) (alike : Alike fed (flow (front query) tables)) (none : fed.codes ≡ []) where
-    abbrev unraised : Flow (List Val)
-    unraised = record { rows = fed.rows; codes = [] }
-
     quiet : (flow (front query) tables).codes ≡ []
     quiet = none_left (flow (front query) tables).codes (subst (λ (cs : List Code). IsPermutation cs (flow (front query) tables).codes) none alike.1)
 

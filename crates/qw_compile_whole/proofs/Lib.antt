@@ -6,9 +6,7 @@ mod CompiledMore
 mod DistinctColumns
 pub mod DistinctCompiled
 pub mod DistinctEnds
-mod DistinctFinished
 pub mod DistinctTogether
-pub mod DistinctTyped
 mod DistinctWhole
 pub mod EnterBounded
 pub mod EnterPlaced
@@ -21,7 +19,7 @@ pub mod FoldedBehind
 pub mod FoldedUnits
 pub mod FrontCopies
 pub mod FrontEnds
-pub mod FrontLed
+mod FrontLed
 pub mod Gathered
 pub mod GatheringLengths
 pub mod GatheringPlaced
@@ -42,16 +40,14 @@ mod GroupTold
 mod GroupTotals
 mod GroupTyped
 mod GroupUtf8
-pub mod GroupedFinished
+mod GroupedFinished
 pub mod GroupedPlacing
 pub mod GroupedReady
 pub mod GroupedStands
-pub mod GroupedTyped
+mod GroupedTyped
 pub mod GuardedCompiled
 pub mod GuardedEnds
-pub mod GuardedFinished
 pub mod GuardedFronts
-pub mod GuardedTyped
 mod HeldGroups
 mod HeldRows
 pub mod LongFronts
@@ -61,6 +57,7 @@ pub mod OneDistinct
 pub mod RunsInto
 pub mod ScanPlaced
 mod ShortDistinct
+mod StatementParts
 pub mod ShortGrouped
 mod PlainDistinctFinished
 mod PlainDistinctReady
@@ -70,26 +67,23 @@ pub mod SingleCompiled
 mod SingleDistinct
 pub mod SingleEnds
 mod SingleKept
-pub mod SingleTyped
 pub mod Taken
 pub mod Walked
 pub mod WalkedInto
+mod WhichCounted
 mod WholeBehind
 mod WholeCompiled
-pub mod WholeFinished
+mod WholeFinished
 mod WholeKept
 mod WholeOnce
 pub mod Widened
 pub mod FieldCounts
 pub mod FirstTaken
 pub mod FirstTakenBounded
-pub mod SingleFinished
 pub mod SingleLong
 pub mod SingleLongCompiled
-pub mod SingleLongFinished
-pub mod SingleLongTyped
 pub mod SinglePlacing
 pub mod SingleStands
-pub mod SingleWhole
+mod SingleWhole
 pub mod TakingLengths
 pub mod TakingPlaced

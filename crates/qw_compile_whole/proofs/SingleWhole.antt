@@ -1,5 +1,5 @@
 -- The module around the steps of a query with set functions and no GROUP BY is the compiled form of what is promised of the query.
-use Rattle.std.proofs.Common.{◌≡◌, ◌∙◌, ◌≤◌, ◌<◌, ℕ, ◌+◌, ◌^◌, true, false, IsUtf8, Option, Some, None, List, [], ◌∷◌, ◌++◌, length, refl, sym, ap, subst, arith}
+use Rattle.std.proofs.Common.{◌≡◌, ◌∙◌, ◌≤◌, ℕ, ◌+◌, ◌^◌, true, false, Option, Some, None, List, [], ◌∷◌, ◌++◌, length, refl, ap, subst, subst₂, arith}
 use Rattle.std.specs.List.{AllByRecursion}
 use Rattle.std.specs.declared.cmp.Ordering.TheVariants as ordering
 use Rattle.qw_types.specs.Value.{IsSized}
@@ -11,50 +11,54 @@ use Rattle.qw_module.specs.declared.instruction.ValType.{ValType}
 use Rattle.qw_module.specs.declared.instruction.ValType.TheVariants.{I32}
 use Rattle.qw_module.specs.declared.module.Module.{Module}
 use Rattle.qw_map.specs.Layout.{Layout, descriptor_size, entry_offset}
-use Rattle.qw_meaning.specs.Outcome.{IsSameOutcome, Rows, flow}
 use Rattle.qw_meaning.specs.Query.{query_of}
-use Rattle.qw_meaning.specs.Select.{AreOfEntries, Entry, Source, Specification, entries_of}
-use Rattle.qw_grouped.specs.Grouped.{Grouped, IsGrouped, arguments_of, front}
+use Rattle.qw_meaning.specs.Select.{Entry, entries_of}
+use Rattle.qw_grouped.specs.Grouped.{Grouped, IsGrouped}
 use Rattle.qw_grouped.specs.Query.{GroupedParts, grouped_of}
-use Rattle.qw_grouped.specs.Whole.{Whole, whole_outcome}
+use Rattle.qw_grouped.specs.Whole.{Whole}
 use Rattle.qw_grouped.specs.Whole as asked
-use Rattle.qw_leaves.specs.Leaves.{HasLeaves, OfText}
-use Rattle.qw_leaves.proofs.LeafLists.{all_front}
 use Rattle.qw_low.specs.declared.step.LowStep.{LowStep}
 use Rattle.qw_low.specs.Size.{size}
 use Rattle.qw_low.specs.Steps.{steps_of}
 use Rattle.qw_low.specs.Syntax.{Statement}
 use Rattle.qw_low.specs.Typing.{IsTyped}
-use Rattle.qw_pipe.specs.General.{general_hashing}
-use Rattle.qw_operator.proofs.Stood.{Stood}
-use Rattle.qw_promise.specs.Compiled.{IsCompiled}
+use Rattle.qw_read.specs.Texts.{LeadsToAll}
+use Rattle.qw_read.specs.declared.constant.Word.{Word}
+use Rattle.qw_physical.specs.Coded.{pipeline_of}
+use Rattle.qw_physical.specs.Physical.{Operator, Sink, filter, select}
+use Rattle.qw_physical.specs.declared.pipeline.Pipeline as coded
+use Rattle.qw_operator.specs.Carries.{directory}
+use Rattle.qw_operator.proofs.CarriedTyped.{AreLed}
+use Rattle.qw_promise.specs.Compiled.{GoesWith, IsCompiled}
 use Rattle.qw_emit.specs.Alike.{AreAlike}
 use Rattle.qw_emit.specs.RunsOf.{IsMadeOf}
-use Rattle.qw_emit.proofs.Answered.{IsTold}
-use Rattle.qw_physical.specs.Coded.{pipeline_of}
+use Rattle.qw_group_pipeline.specs.Groups.{InSink, IsOneRow}
+use Rattle.qw_group_pipeline.specs.declared.columns.ValueColumn.{ValueColumn}
 use Rattle.qw_compile.specs.QueryLiterals.{query_words}
-use Rattle.qw_compile.proofs.LocalsPlaced.{literal_count}
-use Rattle.qw_compile.proofs.PipelineRuns.{AreStood, fed_over}
-use Rattle.qw_compile.proofs.Planned.{as_many}
+use Rattle.qw_compile.specs.QueryLocals.{own_start, query_locals}
+use Rattle.qw_compile.specs.QueryMade.{literal_locals, literals_by, readers_by, texts_by}
+use Rattle.qw_compile.specs.Statements.{AreCourses}
 use Rattle.qw_compile.proofs.QueryReach.{table_of}
-use Rattle.qw_whole.specs.WholePromises.{promise_of_whole, whole_pages, whole_units}
-use Rattle.qw_compile_whole.specs.GroupColumns.{value_columns}
+use Rattle.qw_compile.proofs.QueryTyped.{types}
+use Rattle.qw_whole.specs.WholePromises.{promise_of_whole}
+use Rattle.qw_compile_whole.specs.GroupColumns.{key_columns, value_columns}
+use Rattle.qw_compile_whole.specs.GuardedSingles.{IsTakingBy, one_group_block_by}
 use Rattle.qw_compile_whole.specs.GuardedStatements.{guard_for}
 use Rattle.qw_compile_whole.specs.SingleOf.{IsSingleOf}
-use Rattle.qw_compile_whole.specs.WholeTexts.{front_texts, texts_of_grouped}
-use Rattle.qw_compile_whole.proofs.FirstTakenBounded.{IsLongBounded}
-use Rattle.qw_compile_whole.proofs.FoldedBehind.{behind_folded, with_behind}
-use Rattle.qw_compile_whole.proofs.FoldedUnits.{units_folded}
-use Rattle.qw_compile_whole.proofs.GroupBounded.{rows_met, walked_of}
-use Rattle.qw_compile_whole.proofs.GroupFew.{pairs_few}
-use Rattle.qw_compile_whole.proofs.GroupKept.{given_up}
-use Rattle.qw_compile_whole.proofs.GroupTexts.{argument_texts}
-use Rattle.qw_compile_whole.proofs.GroupedReady.{follow_long, values_long}
-use Rattle.qw_compile_whole.proofs.SingleBounded.{IsSingleBounded}
-use Rattle.qw_compile_whole.proofs.SingleFinished.{alone, cut, single_finished, takes_building, takes_last}
-use Rattle.qw_compile_whole.proofs.SingleKept.{long_kept, single_kept, single_rows}
-use Rattle.qw_compile_whole.proofs.SingleLongFinished.{single_long_finished}
-use Rattle.qw_compile_whole.proofs.WholeFinished.{counted_there, uncounted_few}
+use Rattle.qw_compile_whole.specs.WholeTexts.{texts_of_grouped}
+use Rattle.qw_compile_whole.proofs.ColumnTypes.{values_of_kinds}
+use Rattle.qw_compile_whole.proofs.FoldedBehind.{kinds_folded}
+use Rattle.qw_compile_whole.proofs.FrontLed.{built_low, columns_many, end_leads, front_leads, laid_columns, literals_over}
+use Rattle.qw_compile_whole.proofs.GroupKept.{given_up, walked_rows}
+use Rattle.qw_compile_whole.proofs.GroupedFinished.{MakesModule, few_steps}
+use Rattle.qw_compile_whole.proofs.StatementParts.{PartsOf, parts_by, all_small, alone, behind_leads, fewer, folded_kinds, folded_query, goes_with, groups_can}
+use Rattle.qw_compile_whole.proofs.GroupedReady.{key_long}
+use Rattle.qw_compile_whole.proofs.GroupedTyped.{single_typed}
+use Rattle.qw_compile_whole.proofs.SingleBounded.{GoAlone}
+use Rattle.qw_compile_whole.proofs.SingleCompiled.{single_compiled}
+use Rattle.qw_compile_whole.proofs.SingleKept.{long_kept, single_kept}
+use Rattle.qw_compile_whole.proofs.SingleLongCompiled.{single_long_compiled}
+use Rattle.qw_compile_whole.proofs.WhichCounted.{counted_there}
 
 module _ (row_is : (row other : List Val) → is_same_row row other ≡ true → row ≡ other) (value_is : (a : Val) → value_order a a ≡ ordering.Equal)
     (parts : GroupedParts) (grouped : IsGrouped (grouped_of parts)) (none : length parts.columns ≡ 0)
@@ -63,90 +67,97 @@ module _ (row_is : (row other : List Val) → is_same_row row other ≡ true →
   abbrev query : Grouped
   query = grouped_of parts
 
-  abbrev at : ℕ
-  at = entry_offset (length layout.columns)
+  columns_is : s.group.columns ≡ length (key_columns (grouped_of parts))
+  columns_is = let keyed = key_long 0 query.columns in let no_columns = s.made.no_columns in omega (arith, keyed, no_columns, none)
+
+  abbrev given : PartsOf parts layout
+  given =
+      parts_by parts layout s.before s.before_is s.before_texts s.kept s.columns s.are s.used s.used_at s.made.columns_are s.ps s.of s.behind s.behind_is s.among s.made.building s.made.taking s.made.pipelines_are s.group s.made.values_are columns_is s.made.functions_are s.made.utf8
+
+  abbrev T : ℕ
+  T = length s.ps
+
+  abbrev texts : List (List ℕ)
+  texts = texts_of_grouped parts
+
+  abbrev words : List Word
+  words = query_words (s.ps ++ s.behind ∷ [])
+
+  abbrev all : List coded.Pipeline
+  all = s.ps ++ s.behind ∷ []
+
+  abbrev values : List ValueColumn
+  values = value_columns query
 
   abbrev whole : Whole
   whole = record { body = asked.grouped (grouped_of parts); distinct = false }
 
-  sources_are : (query_of s.before).sources ≡ query.sources
-  sources_are = ap (λ (f : Specification). f.sources) s.before_is
+  abbrev up : ℕ
+  up = given_up row_is value_is parts grouped given
 
-  utf8 : AllByRecursion (HasLeaves (OfText IsUtf8)) (arguments_of query.functions)
-  utf8 = argument_texts IsUtf8 s.before query s.before_is (subst (AllByRecursion IsUtf8) (sym s.before_texts) (all_front IsUtf8 (front_texts parts) _ s.made.utf8))
+  abbrev own : List ValType
+  own = s.made.builds_own ++ (s.made.takes_own ++ s.made.one_own)
 
-  loaded_front : (tables : List (List (List Val))) → AreOfEntries (entries_of query.sources) tables → AreOfEntries (entries_of (query_of s.before).sources) tables
-  loaded_front tables loaded = subst (λ (ss : List Source). AreOfEntries (entries_of ss) tables) (sym sources_are) loaded
+  goes : GoesWith (promise_of_whole whole) layout
+  goes = goes_with row_is value_is parts grouped given false (kinds_folded query (pipeline_of s.behind) s.behind_is ∙ folded_kinds given s.made.kinds_are) small
 
-  -- a pipeline for each entry of FROM, and a value for each set function
-  entries_many : length s.ps ≡ length (entries_of query.sources)
-  entries_many = as_many s.before s.kept s.columns s.ps s.are s.of ∙ ap (λ (ss : List Source). length (entries_of ss)) sources_are
+  go_alone : GoAlone (folded_query given) s.group values (literals_over given.source T)
+  go_alone = alone row_is value_is parts grouped given T none
 
-  values_many : length (value_columns query) ≡ length query.functions
-  values_many = values_long (length query.columns) query.functions
+  -- ---- with the columns of the layout
+  abbrev first : ℕ
+  first = own_start T (literal_locals texts all) (length s.columns)
 
-  -- the row of the one group is the query's
-  rows_same : (tables : List (List (List Val))) (stoods : List Stood) → AreOfEntries (entries_of query.sources) tables → AreStood tables [] s.made.building stoods → (fed_over tables stoods s.made.taking).codes ≡ [] →
-      (walked_of (with_behind query s.behind_is.having s.behind_is.items) (rows_met tables stoods s.made.taking)).codes ≡ [] → IsSameOutcome (whole_outcome whole tables) (Rows (walked_of (with_behind query s.behind_is.having s.behind_is.items) (rows_met tables stoods s.made.taking)).rows)
-  rows_same tables stoods loaded built quiet over =
-      single_rows row_is value_is s.before s.kept s.columns s.ps s.are s.of (cut row_is value_is parts grouped none layout code locals s small) query grouped s.before_is (length s.ps) at (texts_of_grouped parts) (query_words (s.ps ++ s.behind ∷ [])) s.group (value_columns query) s.behind_is.having s.behind_is.items
-      (alone row_is value_is parts grouped none layout code locals s small) s.made.values_are refl (behind_folded query (pipeline_of s.behind) s.behind_is) (units_folded query (pipeline_of s.behind) s.behind_is general_hashing) (follow_long query.items s.behind_is.items s.behind_is.items_follow) utf8
-      (takes_building row_is value_is parts grouped none layout code locals s small) (takes_last row_is value_is parts grouped none layout code locals s small) tables (loaded_front tables loaded) stoods built quiet over
+  leads_at : LeadsToAll (texts_by T (length layout.columns) texts) s.made.leads
+  leads_at = subst (λ (k : ℕ). LeadsToAll (texts_by T k texts) s.made.leads) (columns_many given.source) s.made.leads_all
 
-  -- ---- rows aren't counted: of at most two entries there are few
-  module _ (uncounted : guard_for (length s.ps) (length (value_columns (grouped_of parts))) ≡ None) where
-    fewer : (tables : List (List (List Val))) → AreOfEntries (entries_of query.sources) tables → 1 ≤ length query.functions → length (flow (front query) tables).rows < 10 ^ 18
-    fewer tables loaded h =
-        let few = uncounted_few (length s.ps) (length (value_columns query)) uncounted (let values = values_many in omega (arith, h, values)) in
-        pairs_few (front query) tables loaded (let entries = entries_many in omega (arith, few, entries))
+  built_at : AreCourses (literals_by T (length layout.columns) texts all) (readers_by T texts all s.columns) first s.made.building s.made.builds s.made.builds_own
+  built_at = subst (λ (k : ℕ). AreCourses (literals_by T k texts all) (readers_by T texts all s.columns) first s.made.building s.made.builds s.made.builds_own) (columns_many given.source) s.made.built
 
-    whole_uncounted : AreAlike (entries_of (grouped_of parts).sources) → length code ≤ 2097152 → (m : Module) → ((st : Statement) → code ≡ steps_of st → IsTyped (I32 ∷ locals) st → size st ≤ 2 ^ 22 → IsMadeOf m st (length locals)) →
-        IsCompiled (promise_of_whole (record { body = asked.grouped (grouped_of parts); distinct = false })) layout m
-    whole_uncounted alike short m made =
-        let c = cut row_is value_is parts grouped none layout code locals s small in
-        let t = alone row_is value_is parts grouped none layout code locals s small in
-        let one = takes_building row_is value_is parts grouped none layout code locals s small in
-        let last = takes_last row_is value_is parts grouped none layout code locals s small in
-        let behind = pipeline_of s.behind in
-        let same_items = follow_long query.items s.behind_is.items s.behind_is.items_follow in
-        let T = length s.ps in
-        let texts = texts_of_grouped parts in
-        let words = query_words (s.ps ++ s.behind ∷ []) in
-        single_finished row_is value_is parts grouped none layout code locals s small uncounted (promise_of_whole (record { body = asked.grouped (grouped_of parts); distinct = false })) refl refl sized alike short m made
-        (λ tables. given_up row_is value_is s.before s.kept s.columns s.ps s.are s.of c query grouped s.before_is)
-        (λ tables loaded. subst (λ (ss : List Source). IsSingleBounded T (literal_count texts words) s.columns texts words at (table_of (entries_of ss)) s.made.building s.made.taking (with_behind query s.behind_is.having s.behind_is.items) s.group (value_columns query)
-        (λ raised. IsTold (whole_outcome whole tables) raised) (given_up row_is value_is s.before s.kept s.columns s.ps s.are s.of c query grouped s.before_is) (whole_pages whole tables) (1 + whole_units whole tables) tables) sources_are
-        (single_kept row_is value_is s.before s.kept s.columns s.ps s.are s.of c query grouped s.before_is T at texts words s.group (value_columns query) s.behind_is.having s.behind_is.items t s.made.values_are refl
-        (behind_folded query behind s.behind_is) (units_folded query behind s.behind_is general_hashing) same_items utf8 one last tables (loaded_front tables loaded) (fewer tables loaded)))
-        rows_same
+  abbrev Makes : ℕ → List Operator → Sink → Type 0
+  Makes k os snk = IsOneRow (InSink os snk) (literals_by T k texts all) (directory (length s.made.building)) (first + length s.made.builds_own + length s.made.takes_own) values s.made.one s.made.one_own
 
-  -- ---- rows are counted: there may be any number
-  module _ (counts : guard_for (length s.ps) (length (value_columns (grouped_of parts))) ≡ Some 4) where
-    whole_counted : AreAlike (entries_of (grouped_of parts).sources) → length code ≤ 2097152 → (m : Module) → ((st : Statement) → code ≡ steps_of st → IsTyped (I32 ∷ locals) st → size st ≤ 2 ^ 22 → IsMadeOf m st (length locals)) →
-        IsCompiled (promise_of_whole (record { body = asked.grouped (grouped_of parts); distinct = false })) layout m
-    whole_counted alike short m made =
-        let c = cut row_is value_is parts grouped none layout code locals s small in
-        let t = alone row_is value_is parts grouped none layout code locals s small in
-        let one = takes_building row_is value_is parts grouped none layout code locals s small in
-        let last = takes_last row_is value_is parts grouped none layout code locals s small in
-        let behind = pipeline_of s.behind in
-        let same_items = follow_long query.items s.behind_is.items s.behind_is.items_follow in
-        let T = length s.ps in
-        let texts = texts_of_grouped parts in
-        let words = query_words (s.ps ++ s.behind ∷ []) in
-        single_long_finished row_is value_is parts grouped none layout code locals s small counts (promise_of_whole (record { body = asked.grouped (grouped_of parts); distinct = false })) refl refl sized alike short m made
-        (λ tables. given_up row_is value_is s.before s.kept s.columns s.ps s.are s.of c query grouped s.before_is)
-        (λ tables loaded. subst (λ (ss : List Source). IsLongBounded T (literal_count texts words) s.columns texts words at (table_of (entries_of ss)) s.made.building s.made.taking (with_behind query s.behind_is.having s.behind_is.items) s.group (value_columns query)
-        (λ raised. IsTold (whole_outcome whole tables) raised) (given_up row_is value_is s.before s.kept s.columns s.ps s.are s.of c query grouped s.before_is) (whole_pages whole tables) (1 + whole_units whole tables) tables) sources_are
-        (long_kept row_is value_is s.before s.kept s.columns s.ps s.are s.of c query grouped s.before_is T at texts words s.group (value_columns query) s.behind_is.having s.behind_is.items t s.made.values_are refl
-        (behind_folded query behind s.behind_is) (units_folded query behind s.behind_is general_hashing) same_items utf8 one last tables (loaded_front tables loaded)))
-        rows_same
+  made_at : Makes (length layout.columns) (filter s.behind_is.having ∷ []) (select s.behind_is.items)
+  made_at =
+      subst₂ (λ (os : List Operator) (k : Sink). Makes (length layout.columns) os k) s.behind_is.operators_are s.behind_is.sink_is
+      (subst (λ (k : ℕ). Makes k (pipeline_of s.behind).operators (pipeline_of s.behind).sink) (columns_many given.source) s.made.made)
 
-  pub single_whole : AreAlike (entries_of (grouped_of parts).sources) → length code ≤ 2097152 → (m : Module) → ((st : Statement) → code ≡ steps_of st → IsTyped (I32 ∷ locals) st → size st ≤ 2 ^ 22 → IsMadeOf m st (length locals)) →
-      IsCompiled (promise_of_whole (record { body = asked.grouped (grouped_of parts); distinct = false })) layout m
-  single_whole alike short m made = by_guard (guard_for (length s.ps) (length (value_columns (grouped_of parts)))) refl
+  -- ---- rows are counted or not
+  abbrev block : Option ℕ → Statement
+  block g = one_group_block_by g T (descriptor_size layout) s.made.leads s.made.sets s.made.builds (length s.made.building) (length s.group.functions) s.made.takes s.made.one
+
+  module _ (guard : Option ℕ) (guard_is : guard_for T (length values) ≡ guard) where
+    taken_at : IsTakingBy guard (literals_by T (length layout.columns) texts all) (readers_by T texts all s.columns) (first + length s.made.builds_own) s.made.taking s.group s.made.fields s.made.takes s.made.takes_own
+    taken_at =
+        subst₂ (λ (g : Option ℕ) (k : ℕ). IsTakingBy g (literals_by T k texts all) (readers_by T texts all s.columns) (first + length s.made.builds_own) s.made.taking s.group s.made.fields s.made.takes s.made.takes_own) guard_is (columns_many given.source) s.made.taken
+
+    code_by : code ≡ steps_of (block guard)
+    code_by = s.made.code_is ∙ ap (λ (g : Option ℕ). steps_of (block g)) guard_is
+
+    few_by : length code ≤ 2097152 → size (block guard) ≤ 2 ^ 22
+    few_by short = few_steps code (block guard) code_by short
+
+  pub single_whole : AreAlike (entries_of (grouped_of parts).sources) → length code ≤ 2097152 → (m : Module) → MakesModule code locals m → IsCompiled (promise_of_whole (record { body = asked.grouped (grouped_of parts); distinct = false })) layout m
+  single_whole alike short m made = by_guard (guard_for T (length values)) refl
     where
-      by_guard : (guard : Option ℕ) → guard_for (length s.ps) (length (value_columns (grouped_of parts))) ≡ guard → IsCompiled (promise_of_whole (record { body = asked.grouped (grouped_of parts); distinct = false })) layout m
-      by_guard None uncounted = whole_uncounted uncounted alike short m made
+      led : AreLed (types T (entry_offset (length s.columns)) s.columns texts words own) s.made.taking.operators
+      led = end_leads given.source T (omega arith) own
+
+      is_made : (guard : Option ℕ) (is : guard_for T (length values) ≡ guard) → IsMadeOf m (block guard) (length (query_locals T (length texts) (length words) s.columns own))
+      is_made guard is =
+          subst (λ (l : List ValType). IsMadeOf m (block guard) (length l)) s.made.locals_are
+          (made (block guard) (code_by guard is)
+          (subst (λ (g : Option ℕ). IsTyped (I32 ∷ locals) (block g)) is
+          (single_typed T texts s.ps s.behind s.columns s.used layout code locals small (all_small row_is value_is parts grouped given) s.group values s.made (built_low given.source) (groups_can row_is value_is parts grouped given) (values_of_kinds query grouped)
+          (front_leads given.source T (omega arith) own) led (behind_leads row_is value_is parts grouped given T (omega arith) own))) (few_by guard is short))
+
+      by_guard : (guard : Option ℕ) → guard_for T (length values) ≡ guard → IsCompiled (promise_of_whole whole) layout m
+      by_guard None uncounted =
+          single_compiled (promise_of_whole whole) layout T s.columns texts words (table_of (entries_of (query_of s.before).sources)) (laid_columns given.source) s.made.octets_are s.made.utf8 (all_small row_is value_is parts grouped given) s.made.leads s.made.sets s.made.building s.made.taking (folded_query given)
+          s.group values s.made.fields s.made.field_kinds s.made.values_are (folded_kinds given s.made.kinds_are) s.made.table_is (built_low given.source) s.made.builds s.made.takes s.made.one s.made.builds_own s.made.takes_own s.made.one_own goes leads_at s.made.sets_all go_alone built_at (taken_at None uncounted) made_at (few_by None uncounted short) alike (λ tables. up)
+          (λ tables loaded. single_kept row_is value_is parts grouped given T (omega arith) go_alone tables loaded (fewer given tables loaded uncounted)) (λ tables stoods loaded. walked_rows row_is value_is parts grouped given tables loaded stoods) m (is_made None uncounted)
       by_guard (Some z) is =
-          whole_counted (is ∙ ap (λ (x : ℕ). Some x) (counted_there (length s.ps) (length (value_columns (grouped_of parts))) z is)) alike short m made
+          let counts : guard_for T (length values) ≡ Some 4 = counted_there T (length values) z is in
+          single_long_compiled (promise_of_whole whole) layout T s.columns texts words (table_of (entries_of (query_of s.before).sources)) (laid_columns given.source) s.made.octets_are s.made.utf8 (all_small row_is value_is parts grouped given) s.made.leads s.made.sets s.made.building s.made.taking (folded_query given)
+          s.group values s.made.fields s.made.field_kinds s.made.values_are (folded_kinds given s.made.kinds_are) s.made.table_is (built_low given.source) s.made.builds s.made.takes s.made.one s.made.builds_own s.made.takes_own s.made.one_own goes leads_at s.made.sets_all go_alone built_at (taken_at (Some 4) counts) made_at led (few_by (Some 4) counts short) alike (λ tables. up)
+          (λ tables loaded. long_kept row_is value_is parts grouped given T (omega arith) go_alone tables loaded) (λ tables stoods loaded. walked_rows row_is value_is parts grouped given tables loaded stoods) m (is_made (Some 4) counts)

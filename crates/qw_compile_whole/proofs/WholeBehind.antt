@@ -15,7 +15,7 @@ use Rattle.qw_meaning.specs.Flow.{Flow, codes_given, each, kept, rows_given, sel
 use Rattle.qw_meaning.specs.From.{from_sources}
 use Rattle.qw_meaning.specs.Outcome.{flow}
 use Rattle.qw_meaning.specs.Select.{Specification}
-use Rattle.qw_grouped.specs.Grouped.{Grouped, expression_of_column}
+use Rattle.qw_grouped.specs.Grouped.{expression_of_column}
 use Rattle.qw_grouped.specs.Groups.{Group, behind_front, group_row, grouped_table, groups, key_of, keys, members, once}
 use Rattle.qw_grouped.specs.declared.query.GroupedColumn.{GroupedColumn}
 use Rattle.qw_grouped.proofs.TypedGroups.{all_once}
@@ -110,9 +110,6 @@ rows_long query tables =
 
 -- ---- a query
 module _ (query : Specification) (some : 1 ≤ length query.items) where
-  abbrev asked : Grouped
-  asked = distinct_grouping query
-
   many : length (distinct_columns 0 query.items) ≡ length query.items
   many = columns_many 0 query.items
 

@@ -1,6 +1,6 @@
 -- The pipelines that are made of a query with DISTINCT keep what is promised of it: the rows of its select list go into groups over all their columns, and the
 -- walk over the groups makes each of them once (ISO/IEC 9075:1992, 7.9).
-use Rattle.std.proofs.Common.{◌≡◌, ◌∙◌, ◌≤◌, ◌<◌, ℕ, ◌+◌, ◌-◌, ◌*◌, ◌/◌, ◌^◌, max, true, false, inl, inr, Contains, List, [], ◌∷◌, ◌++◌, length, map, Result, Ok, refl, sym, ap, subst, ⊎_elim, arith}
+use Rattle.std.proofs.Common.{◌≡◌, ◌∙◌, ◌≤◌, ◌<◌, ℕ, ◌+◌, ◌-◌, ◌*◌, ◌/◌, ◌^◌, max, true, false, inl, List, [], ◌∷◌, length, map, Result, Ok, refl, sym, ap, subst, ⊎_elim, arith}
 use Rattle.std.specs.List.{AllByRecursion, AllZip}
 use Rattle.std.specs.List.Sorted.{IsPermutation}
 use Rattle.std.proofs.ByRecursion.{all_shuffled}
@@ -15,8 +15,8 @@ use Rattle.qw_layout.specs.Row.{entry_size}
 use Rattle.qw_scalar.specs.Expression.{Expression}
 use Rattle.qw_scalar.specs.Typing.{kind_of}
 use Rattle.qw_meaning.specs.Flow.{Flow}
-use Rattle.qw_meaning.specs.Outcome.{IsSameOutcome, Outcome, Raises, Rows, ended, flow, outcome}
-use Rattle.qw_meaning.specs.Query.{QueryParts, query_of}
+use Rattle.qw_meaning.specs.Outcome.{IsSameOutcome, Outcome, Rows, ended, flow}
+use Rattle.qw_meaning.specs.Query.{query_of}
 use Rattle.qw_meaning.specs.Select.{AreOfEntries, Specification, entries_of}
 use Rattle.qw_rewrite.proofs.Grounds.{flow_of_query}
 use Rattle.qw_grouped.specs.Grouped.{Grouped, expression_of_column, kinds_of, widest}
@@ -27,29 +27,16 @@ use Rattle.qw_grouped.proofs.TypedGroups.{all_once}
 use Rattle.qw_meaning.proofs.ListLemmas.{all_more}
 use Rattle.qw_pipe.specs.General.{general_hashing}
 use Rattle.qw_pipe.specs.Octets.{greatest_entry, table_octets}
-use Rattle.qw_map.specs.Layout.{row_size}
+use Rattle.qw_map.specs.Layout.{Layout, row_size}
 use Rattle.qw_feed.specs.Feeds.{Tells}
-use Rattle.qw_read.specs.Reading.{known_of}
-use Rattle.qw_read.specs.declared.constant.Word.{Word}
-use Rattle.qw_physical.specs.Coded.{pipeline_of}
-use Rattle.qw_physical.specs.Physical.{Pipeline, select}
-use Rattle.qw_physical.specs.declared.pipeline.Pipeline as coded
-use Rattle.qw_physical.specs.declared.pipeline.ReadColumn.{ReadColumn}
 use Rattle.qw_physical.proofs.Orders.{Alike}
-use Rattle.qw_operator.specs.Takes.{CanCarry}
 use Rattle.qw_operator.proofs.PairRows.{AreStored, IsHeld}
 use Rattle.qw_operator.proofs.Stood.{Stood}
 use Rattle.qw_emit.proofs.Answered.{IsTold}
-use Rattle.qw_group_sink.specs.Grouping.{Group}
-use Rattle.qw_group_pipeline.specs.declared.columns.ValueColumn.{ValueColumn}
 use Rattle.qw_group_pipeline.proofs.ValuesCome.{AreRead}
-use Rattle.qw_compile.specs.QueryColumns.{AreColumnsOf}
-use Rattle.qw_compile.specs.QueryPasses.{ArePipelinesOf}
 use Rattle.qw_compile.specs.PlannedQueries.{kept_by, placed}
 use Rattle.qw_compile.proofs.Greatest.{greatest_small}
-use Rattle.qw_compile.proofs.LocalsPlaced.{literal_count, literals_known}
-use Rattle.qw_compile.proofs.PipelineRuns.{AreStood, fed_over, readers_of}
-use Rattle.qw_compile.proofs.Planned.{IsPartedOf}
+use Rattle.qw_compile.proofs.PipelineRuns.{AreStood, fed_over}
 use Rattle.qw_compile.proofs.QueryReach.{table_of}
 use Rattle.qw_whole.specs.GroupTables.{distinct_octets, distinct_size, distinct_units, group_octets, group_size, group_units}
 use Rattle.qw_whole.specs.WholePromises.{planned_rows, whole_pages, whole_units}
@@ -62,33 +49,11 @@ use Rattle.qw_compile_whole.proofs.GroupBounded.{GoTogether, IsGroupBounded, wal
 use Rattle.qw_compile_whole.proofs.GroupCore.{group_bounded}
 use Rattle.qw_compile_whole.proofs.GroupPlanned.{built_many, fed_alike}
 use Rattle.qw_compile_whole.proofs.GroupReach.{most}
+use Rattle.qw_compile_whole.proofs.GroupTold.{none_left, told_any}
+use Rattle.qw_compile_whole.proofs.FrontLed.{FrontOf, front_at, front_count, front_words, literals_over}
 
 abbrev pub asked_once : Specification → Whole
 asked_once query = record { body = plain query; distinct = true }
-
--- ---- what is told
-pub raises_is : (rows : List (List Val)) (cs codes : List Code) → ended rows cs ≡ Raises codes → cs ≡ codes
-raises_is rows [] codes e = absurd cc
-raises_is rows (c ∷ cs) codes e = cc
-
-pub some_raised : (rows : List (List Val)) (cs : List Code) (code : Code) → Contains cs code → ended rows cs ≡ Raises cs
-some_raised rows [] code h = absurd (omega (arith, h.1))
-some_raised rows (c ∷ cs) code h = refl
-
-none_left : (cs : List Code) → IsPermutation [] cs → cs ≡ []
-none_left [] p = refl
-none_left (c ∷ cs) p = absurd (let long = length_permutation [] (c ∷ cs) p in omega (arith, long))
-
--- which rows there are makes no difference where an exception was raised
-pub once_told : (query : Specification) (tables : List (List (List Val))) (raised : ℕ) → IsTold (outcome query tables) raised → IsTold (whole_outcome (asked_once query) tables) raised
-once_told query tables raised told =
-    ⊎_elim inl
-    (λ it.
-    let codes : List Code = (flow query tables).codes in
-    let codes_are : codes ≡ it.0 = raises_is (flow query tables).rows codes it.0 it.2 in
-    let there : Contains codes it.1 = subst (λ (cs : List Code). Contains cs it.1) (sym codes_are) it.3 in
-    inr (codes, it.1, some_raised (once (flow query tables).rows) codes it.1 there, there, it.4))
-    told
 
 pub refused_alone : (out : Outcome) (raised : ℕ) → Tells [] raised → IsTold out raised
 refused_alone out raised tells = ⊎_elim inl (λ it. absurd (omega (arith, it.1.1))) tells
@@ -105,159 +70,138 @@ no_values [] e = tt
 no_values (v ∷ vs) e = absurd cc
 
 module _ (row_is : (row other : List Val) → is_same_row row other ≡ true → row ≡ other) (value_is : (a : Val) → value_order a a ≡ ordering.Equal)
-    (parts : QueryParts) (kept columns : List ReadColumn) (made : List coded.Pipeline) (are : AreColumnsOf parts kept columns) (of : ArePipelinesOf parts kept made) (cut : IsPartedOf kept of.node (map pipeline_of made)) where
+    {texts : List (List ℕ)} {layout : Layout} (source : FrontOf texts layout) where
   abbrev spec : Specification
-  spec = query_of parts
+  spec = query_of source.parts
 
   abbrev cells : ℕ
-  cells = length (query_of parts).items
+  cells = length (query_of source.parts).items
 
-  many : length (distinct_columns 0 (query_of parts).items) ≡ length (query_of parts).items
-  many = columns_many 0 (query_of parts).items
+  many : length (distinct_columns 0 (query_of source.parts).items) ≡ length (query_of source.parts).items
+  many = columns_many 0 (query_of source.parts).items
 
-  some_item : 1 ≤ length (query_of parts).items
-  some_item = are.specification.some_item
+  some_item : 1 ≤ length (query_of source.parts).items
+  some_item = source.are.specification.some_item
 
   -- what may be given up of a page
   abbrev pub given_up_once : ℕ
-  given_up_once = page - max (row_size (length (query_of parts).items)) (max (distinct_size (length (query_of parts).items)) (greatest_entry (kept_by (query_of parts)) (placed (query_of parts))))
+  given_up_once = page - max (row_size (length (query_of source.parts).items)) (max (distinct_size (length (query_of source.parts).items)) (greatest_entry (kept_by (query_of source.parts)) (placed (query_of source.parts))))
 
-  size_is : group_size (distinct_grouping (query_of parts)) ≡ distinct_size (length (query_of parts).items)
+  size_is : group_size (distinct_grouping (query_of source.parts)) ≡ distinct_size (length (query_of source.parts).items)
   size_is = ap (λ (n : ℕ). entry_size n 0 0) many
 
-  cells_are : length (map expression_of_column (distinct_columns 0 (query_of parts).items)) ≡ length (query_of parts).items
-  cells_are = length-map (distinct_columns 0 (query_of parts).items) expression_of_column ∙ many
+  cells_are : length (map expression_of_column (distinct_columns 0 (query_of source.parts).items)) ≡ length (query_of source.parts).items
+  cells_are = length-map (distinct_columns 0 (query_of source.parts).items) expression_of_column ∙ many
 
-  row_less : 8 + 16 * length (query_of parts).items ≤ group_size (distinct_grouping (query_of parts))
+  row_less : 8 + 16 * length (query_of source.parts).items ≤ group_size (distinct_grouping (query_of source.parts))
   row_less = let same = size_is in less (length spec.items) (group_size (distinct_grouping spec)) same
     where
       less : (c s : ℕ) → s ≡ 24 + 16 * (c + 0) + 32 * 0 → 8 + 16 * c ≤ s
       less c s e = omega (arith, e)
 
-  small_group : group_size (distinct_grouping (query_of parts)) ≤ 24216
-  small_group = let same = size_is in less (length spec.items) (group_size (distinct_grouping spec)) same are.specification.few_items
+  widest_low : max (row_size (length (query_of source.parts).items)) (max (distinct_size (length (query_of source.parts).items)) (greatest_entry (kept_by (query_of source.parts)) (placed (query_of source.parts)))) ≤ 24216
+  widest_low = low (length spec.items) (greatest_entry (kept_by spec) (placed spec)) (greatest_small spec source.are.specification) source.are.specification.few_items
     where
-      less : (c s : ℕ) → s ≡ 24 + 16 * (c + 0) + 32 * 0 → c ≤ 512 → s ≤ 24216
-      less c s e h = omega (arith, e, h)
+      low : (c e : ℕ) → max (8 + 16 * c) e ≤ 24216 → c ≤ 512 → max (8 + 16 * c) (max (24 + 16 * (c + 0) + 32 * 0) e) ≤ 24216
+      low c e a b = omega (arith, a, b)
 
-  small_items : row_size (length (map expression_of_column (distinct_columns 0 (query_of parts).items))) ≤ 24216
-  small_items = let same = cells_are in let few = are.specification.few_items in omega (arith, same, few)
-
-  module _ (T at : ℕ) (texts : List (List ℕ)) (words : List Word) (g : Group) (key : List ReadColumn) (values : List ValueColumn) (together : GoTogether (distinct_grouping (query_of parts)) g key values (literals_known T at texts words)) (last_is : cut.last.sink ≡ select g.values)
-      (key_is : key ≡ key_from 0 (distinct_columns 0 (query_of parts).items)) (values_are : values ≡ [])
-      (can : AllByRecursion (λ (p : Pipeline). CanCarry (literals_known T at texts words ++ map known_of (readers_of T (literal_count texts words) columns p.entry)) p.operators p.sink) cut.building)
-      (can_last : CanCarry (literals_known T at texts words ++ map known_of (readers_of T (literal_count texts words) columns cut.last.entry)) cut.last.operators cut.last.sink)
-      (tables : List (List (List Val))) (loaded : AreOfEntries (entries_of (query_of parts).sources) tables)
-      (held : AllByRecursion (λ (row : List Val). AllZip (λ (e : Expression) (v : Val). IsHeld (widest (kind_of e)) false v) (query_of parts).items row) (flow (query_of parts) tables).rows) where
+  module _ (T : ℕ) (room : length source.ps ≤ T) (together : GoTogether (distinct_grouping (query_of source.parts)) source.group (key_from 0 (distinct_columns 0 (query_of source.parts).items)) [] (literals_over source T))
+      (tables : List (List (List Val))) (loaded : AreOfEntries (entries_of (query_of source.parts).sources) tables)
+      (held : AllByRecursion (λ (row : List Val). AllZip (λ (e : Expression) (v : Val). IsHeld (widest (kind_of e)) false v) (query_of source.parts).items row) (flow (query_of source.parts) tables).rows) where
     abbrev asked : Grouped
-    asked = distinct_grouping (query_of parts)
+    asked = distinct_grouping (query_of source.parts)
 
     abbrev planned : List (List Val)
-    planned = planned_rows (query_of parts) tables
+    planned = planned_rows (query_of source.parts) tables
 
-    no_function : 1 ≤ length asked.functions → length (flow (query_of parts) tables).rows < 10 ^ 18
+    no_function : 1 ≤ length asked.functions → length (flow (query_of source.parts) tables).rows < 10 ^ 18
     no_function some = absurd (let none : 1 ≤ 0 = some in omega (arith, none))
 
-    planned_are : planned_rows (query_of parts) tables ≡ (flow (query_of parts) tables).rows
-    planned_are = ap (λ (f : Flow (List Val)). f.rows) (flow_of_query (query_of parts) tables (placed (query_of parts)) are.specification loaded of.sized refl)
+    planned_are : planned_rows (query_of source.parts) tables ≡ (flow (query_of source.parts) tables).rows
+    planned_are = ap (λ (f : Flow (List Val)). f.rows) (flow_of_query (query_of source.parts) tables (placed (query_of source.parts)) source.are.specification loaded source.of.sized refl)
 
     -- ---- rows in another order
-    module _ (rows : List (List Val)) (from : IsPermutation (flow (query_of parts) tables).rows rows) where
-      long : AllByRecursion (λ (r : List Val). length r ≡ length (query_of parts).items) rows
-      long = all_shuffled (λ (r : List Val). length r ≡ length (query_of parts).items) (flow (query_of parts) tables).rows rows from (rows_long (query_of parts) tables)
+    module _ (rows : List (List Val)) (from : IsPermutation (flow (query_of source.parts) tables).rows rows) where
+      long : AllByRecursion (λ (r : List Val). length r ≡ length (query_of source.parts).items) rows
+      long = all_shuffled (λ (r : List Val). length r ≡ length (query_of source.parts).items) (flow (query_of source.parts) tables).rows rows from (rows_long (query_of source.parts) tables)
 
-      keys_are_once : keys (length (distinct_columns 0 (query_of parts).items)) rows ≡ once rows
-      keys_are_once = ap (λ (n : ℕ). keys n rows) many ∙ distinct_keys (length (query_of parts).items) rows long
+      keys_are_once : keys (length (distinct_columns 0 (query_of source.parts).items)) rows ≡ once rows
+      keys_are_once = ap (λ (n : ℕ). keys n rows) many ∙ distinct_keys (length (query_of source.parts).items) rows long
 
-      keys_ok : AllByRecursion (λ (k : List Val). AreStored key k) (keys (length (distinct_columns 0 (query_of parts).items)) rows)
+      keys_ok : AllByRecursion (λ (k : List Val). AreStored (key_from 0 (distinct_columns 0 (query_of source.parts).items)) k) (keys (length (distinct_columns 0 (query_of source.parts).items)) rows)
       keys_ok =
-          subst (AllByRecursion (λ (k : List Val). AreStored key k)) (sym keys_are_once)
-          (subst (λ (cs : List ReadColumn). AllByRecursion (λ (k : List Val). AreStored cs k) (once rows)) (sym key_is)
-          (all_more (λ (row : List Val). AllZip (λ (e : Expression) (v : Val). IsHeld (widest (kind_of e)) false v) (query_of parts).items row) (λ (k : List Val). AreStored (key_from 0 (distinct_columns 0 (query_of parts).items)) k) (once rows)
-          (λ k h. stored_row 0 0 (query_of parts).items k h)
-          (all_once (λ (row : List Val). AllZip (λ (e : Expression) (v : Val). IsHeld (widest (kind_of e)) false v) (query_of parts).items row) rows
-          (all_shuffled (λ (row : List Val). AllZip (λ (e : Expression) (v : Val). IsHeld (widest (kind_of e)) false v) (query_of parts).items row) (flow (query_of parts) tables).rows rows from held))))
+          subst (AllByRecursion (λ (k : List Val). AreStored (key_from 0 (distinct_columns 0 (query_of source.parts).items)) k)) (sym keys_are_once)
+          (all_more (λ (row : List Val). AllZip (λ (e : Expression) (v : Val). IsHeld (widest (kind_of e)) false v) (query_of source.parts).items row) (λ (k : List Val). AreStored (key_from 0 (distinct_columns 0 (query_of source.parts).items)) k) (once rows)
+          (λ k h. stored_row 0 0 (query_of source.parts).items k h)
+          (all_once (λ (row : List Val). AllZip (λ (e : Expression) (v : Val). IsHeld (widest (kind_of e)) false v) (query_of source.parts).items row) rows
+          (all_shuffled (λ (row : List Val). AllZip (λ (e : Expression) (v : Val). IsHeld (widest (kind_of e)) false v) (query_of source.parts).items row) (flow (query_of source.parts) tables).rows rows from held)))
 
-      values_ok : AllByRecursion (λ (k : List Val). (vs : List Val) → function_values (length (distinct_columns 0 (query_of parts).items)) (kinds_of asked.functions) (members (length (distinct_columns 0 (query_of parts).items)) k rows) ≡ Ok vs → AreRead values vs)
-          (keys (length (distinct_columns 0 (query_of parts).items)) rows)
-      values_ok = each (keys (length (distinct_columns 0 (query_of parts).items)) rows)
+      values_ok : AllByRecursion (λ (k : List Val). (vs : List Val) → function_values (length (distinct_columns 0 (query_of source.parts).items)) (kinds_of asked.functions) (members (length (distinct_columns 0 (query_of source.parts).items)) k rows) ≡ Ok vs → AreRead [] vs)
+          (keys (length (distinct_columns 0 (query_of source.parts).items)) rows)
+      values_ok = each (keys (length (distinct_columns 0 (query_of source.parts).items)) rows)
         where
-          each : (ks : List (List Val)) → AllByRecursion (λ (k : List Val). (vs : List Val) → function_values (length (distinct_columns 0 (query_of parts).items)) (kinds_of asked.functions) (members (length (distinct_columns 0 (query_of parts).items)) k rows) ≡ Ok vs → AreRead values vs) ks
+          each : (ks : List (List Val)) → AllByRecursion (λ (k : List Val). (vs : List Val) → function_values (length (distinct_columns 0 (query_of source.parts).items)) (kinds_of asked.functions) (members (length (distinct_columns 0 (query_of source.parts).items)) k rows) ≡ Ok vs → AreRead [] vs) ks
           each [] = tt
-          each (k ∷ ks) = ((λ vs come. subst (λ (cs : List ValueColumn). AreRead cs vs) (sym values_are) (no_values vs come)), each ks)
+          each (k ∷ ks) = (no_values, each ks)
 
-    from_planned : (rows : List (List Val)) → IsPermutation rows (planned_rows (query_of parts) tables) → IsPermutation (flow (query_of parts) tables).rows rows
+    from_planned : (rows : List (List Val)) → IsPermutation rows (planned_rows (query_of source.parts) tables) → IsPermutation (flow (query_of source.parts) tables).rows rows
     from_planned rows p = subst (λ (rs : List (List Val)). IsPermutation rs rows) planned_are (IsPermutation-sym rows planned p)
 
-    units_low : (rows : List (List Val)) → IsPermutation rows (planned_rows (query_of parts) tables) → group_units general_hashing (distinct_grouping (query_of parts)) rows ≤ distinct_units general_hashing (planned_rows (query_of parts) tables)
+    units_low : (rows : List (List Val)) → IsPermutation rows (planned_rows (query_of source.parts) tables) → group_units general_hashing (distinct_grouping (query_of source.parts)) rows ≤ distinct_units general_hashing (planned_rows (query_of source.parts) tables)
     units_low rows p =
-        less (group_units general_hashing asked rows) (distinct_units general_hashing rows) (distinct_units general_hashing planned) (units_once (query_of parts) some_item rows (long rows (from_planned rows p)) general_hashing) (distinct_permuted general_hashing rows planned p)
+        less (group_units general_hashing asked rows) (distinct_units general_hashing rows) (distinct_units general_hashing planned) (units_once (query_of source.parts) some_item rows (long rows (from_planned rows p)) general_hashing) (distinct_permuted general_hashing rows planned p)
       where
         less : (a b c : ℕ) → a ≡ b → b ≡ c → a ≤ c
         less a b c e f = omega (arith, e, f)
 
-    octets_low : (rows : List (List Val)) → IsPermutation rows (planned_rows (query_of parts) tables) → group_octets (distinct_grouping (query_of parts)) rows ≤ distinct_octets (length (query_of parts).items) (planned_rows (query_of parts) tables)
+    octets_low : (rows : List (List Val)) → IsPermutation rows (planned_rows (query_of source.parts) tables) → group_octets (distinct_grouping (query_of source.parts)) rows ≤ distinct_octets (length (query_of source.parts).items) (planned_rows (query_of source.parts) tables)
     octets_low rows p =
-        less (group_octets asked rows) (distinct_octets (length (query_of parts).items) rows) (distinct_octets (length (query_of parts).items) planned) (octets_once (query_of parts) some_item rows (long rows (from_planned rows p))) (distinct_octets_permuted (length (query_of parts).items) rows planned p)
+        less (group_octets asked rows) (distinct_octets (length (query_of source.parts).items) rows) (distinct_octets (length (query_of source.parts).items) planned) (octets_once (query_of source.parts) some_item rows (long rows (from_planned rows p))) (distinct_octets_permuted (length (query_of source.parts).items) rows planned p)
       where
         less : (a b c : ℕ) → a ≡ b → b ≡ c → a ≤ c
         less a b c e f = omega (arith, e, f)
 
-    rows_low : (rows : List (List Val)) → IsPermutation rows (planned_rows (query_of parts) tables) → length (walked_of (distinct_grouping (query_of parts)) rows).rows ≤ length (once (planned_rows (query_of parts) tables))
+    rows_low : (rows : List (List Val)) → IsPermutation rows (planned_rows (query_of source.parts) tables) → length (walked_of (distinct_grouping (query_of source.parts)) rows).rows ≤ length (once (planned_rows (query_of source.parts) tables))
     rows_low rows p =
-        less (length (walked_of asked rows).rows) (length (once rows)) (length (once planned)) (ap (λ (f : Flow (List Val)). length f.rows) (behind_once (query_of parts) some_item rows (long rows (from_planned rows p)))) (length_permutation (once rows) (once planned) (once_permuted rows planned p))
+        less (length (walked_of asked rows).rows) (length (once rows)) (length (once planned)) (ap (λ (f : Flow (List Val)). length f.rows) (behind_once (query_of source.parts) some_item rows (long rows (from_planned rows p)))) (length_permutation (once rows) (once planned) (once_permuted rows planned p))
       where
         less : (a b c : ℕ) → a ≡ b → c ≡ b → a ≤ c
         less a b c e f = omega (arith, e, f)
 
-    walk_tells : (fed : Flow (List Val)) → Alike fed (flow (query_of parts) tables) → fed.codes ≡ [] → (raised : ℕ) → Tells (walked_of (distinct_grouping (query_of parts)) fed.rows).codes raised → IsTold (whole_outcome (asked_once (query_of parts)) tables) raised
+    walk_tells : (fed : Flow (List Val)) → Alike fed (flow (query_of source.parts) tables) → fed.codes ≡ [] → (raised : ℕ) → Tells (walked_of (distinct_grouping (query_of source.parts)) fed.rows).codes raised → IsTold (whole_outcome (asked_once (query_of source.parts)) tables) raised
     walk_tells fed alike none raised tells =
-        let from = IsPermutation-sym fed.rows (flow (query_of parts) tables).rows alike.0 in
-        refused_alone (whole_outcome (asked_once (query_of parts)) tables) raised (subst (λ (f : Flow (List Val)). Tells f.codes raised) (behind_once (query_of parts) some_item fed.rows (long fed.rows from)) tells)
+        let from = IsPermutation-sym fed.rows (flow (query_of source.parts) tables).rows alike.0 in
+        refused_alone (whole_outcome (asked_once (query_of source.parts)) tables) raised (subst (λ (f : Flow (List Val)). Tells f.codes raised) (behind_once (query_of source.parts) some_item fed.rows (long fed.rows from)) tells)
 
     -- ---- all of it
-    abbrev IsKept : (u most N : ℕ) → Type 0
-    IsKept u most N = IsGroupBounded T (literal_count texts words) columns texts words at (table_of (entries_of (query_of parts).sources)) cut.building cut.last (distinct_grouping (query_of parts)) g key values (λ raised. IsTold (whole_outcome (asked_once (query_of parts)) tables) raised) u most N tables
+    abbrev IsKept : (most N : ℕ) → Type 0
+    IsKept pages N = IsGroupBounded T (front_count source) source.columns texts (front_words source) (front_at source) (table_of (entries_of (query_of source.parts).sources)) source.building source.last (distinct_grouping (query_of source.parts)) source.group (key_from 0 (distinct_columns 0 (query_of source.parts).items)) [] (λ raised. IsTold (whole_outcome (asked_once (query_of source.parts)) tables) raised) given_up_once pages N tables
 
-    abbrev stored_for : (cells : ℕ) → ℕ
-    stored_for cells = (table_octets (kept_by (query_of parts)) tables (placed (query_of parts)) + distinct_octets (length (query_of parts).items) (planned_rows (query_of parts) tables)) + length (once (planned_rows (query_of parts) tables)) * row_size cells
+    abbrev stored_once : ℕ
+    stored_once = (table_octets (kept_by (query_of source.parts)) tables (placed (query_of source.parts)) + distinct_octets (length (query_of source.parts).items) (planned_rows (query_of source.parts) tables)) + length (once (planned_rows (query_of source.parts) tables)) * row_size (length (query_of source.parts).items)
 
-    abbrev up_for : (cells size : ℕ) → ℕ
-    up_for cells size = page - max (row_size cells) (max size (greatest_entry (kept_by (query_of parts)) (placed (query_of parts))))
+    pages_are : most given_up_once stored_once 1 source.building ≡ whole_pages (asked_once (query_of source.parts)) tables
+    pages_are = ap (λ (k : ℕ). 2 + 2 * (k + 1) + stored_once / given_up_once) (built_many row_is value_is source)
 
-    abbrev shown : ℕ
-    shown = length (map expression_of_column (distinct_columns 0 (query_of parts).items))
-
-    widest_low : max (row_size shown) (max (group_size asked) (greatest_entry (kept_by (query_of parts)) (placed (query_of parts)))) ≤ 24216
-    widest_low = low (row_size (length spec.items)) (greatest_entry (kept_by spec) (placed spec)) (group_size asked) (row_size shown) (greatest_small spec are.specification) small_group small_items
-      where
-        low : (r e g i : ℕ) → max r e ≤ 24216 → g ≤ 24216 → i ≤ 24216 → max i (max g e) ≤ 24216
-        low r e g i a b c = omega (arith, a, b, c)
-
-    bounded : IsKept (up_for shown (group_size asked)) (most (up_for shown (group_size asked)) (stored_for shown) 1 cut.building) (1 + whole_units (asked_once (query_of parts)) tables)
-    bounded =
-        group_bounded row_is value_is parts kept columns made are of cut (distinct_grouping (query_of parts)) (let same = many in omega (arith, same, some_item)) row_less (max (row_size shown) (max (group_size asked) (greatest_entry (kept_by (query_of parts)) (placed (query_of parts))))) widest_low (omega arith) (omega arith) (omega arith) T at texts words g key values together last_is can can_last tables loaded
-        (λ raised. IsTold (whole_outcome (asked_once (query_of parts)) tables) raised) (once_told (query_of parts) tables) (distinct_units general_hashing planned) (distinct_octets (length (query_of parts).items) planned) units_low octets_low
-        (stored_for shown) 1 (1 + whole_units (asked_once (query_of parts)) tables) (omega arith) (omega arith) (omega arith) no_function walk_tells keys_ok values_ok (length (once planned)) rows_low (omega arith)
-
-    pages_are : most (up_for (length (query_of parts).items) (distinct_size (length (query_of parts).items))) (stored_for (length (query_of parts).items)) 1 cut.building ≡ whole_pages (asked_once (query_of parts)) tables
-    pages_are = ap (λ (k : ℕ). 2 + 2 * (k + 1) + stored_for (length (query_of parts).items) / up_for (length (query_of parts).items) (distinct_size (length (query_of parts).items))) (built_many row_is value_is parts kept columns made are of cut)
-
-    pub distinct_kept : IsGroupBounded T (literal_count texts words) columns texts words at (table_of (entries_of (query_of parts).sources)) cut.building cut.last (distinct_grouping (query_of parts)) g key values (λ raised. IsTold (whole_outcome (asked_once (query_of parts)) tables) raised)
-        given_up_once (whole_pages (asked_once (query_of parts)) tables) (1 + whole_units (asked_once (query_of parts)) tables) tables
+    pub distinct_kept : IsKept (whole_pages (asked_once (query_of source.parts)) tables) (1 + whole_units (asked_once (query_of source.parts)) tables)
     distinct_kept =
-        subst (λ (m : ℕ). IsKept given_up_once m (1 + whole_units (asked_once (query_of parts)) tables)) pages_are
-        (subst (λ (s : ℕ). IsKept (up_for (length (query_of parts).items) s) (most (up_for (length (query_of parts).items) s) (stored_for (length (query_of parts).items)) 1 cut.building) (1 + whole_units (asked_once (query_of parts)) tables)) size_is
-        (subst (λ (c : ℕ). IsKept (up_for c (group_size asked)) (most (up_for c (group_size asked)) (stored_for c) 1 cut.building) (1 + whole_units (asked_once (query_of parts)) tables)) cells_are bounded))
+        let same = many in
+        let size = size_is in
+        let items = cells_are in
+        let cells = ap (λ (c : ℕ). length (once planned) * row_size c) cells_are in
+        subst (λ (m : ℕ). IsKept m (1 + whole_units (asked_once (query_of source.parts)) tables)) pages_are
+        (group_bounded row_is value_is source (distinct_grouping (query_of source.parts)) (omega (arith, same, some_item)) row_less (max (row_size (length (query_of source.parts).items)) (max (distinct_size (length (query_of source.parts).items)) (greatest_entry (kept_by (query_of source.parts)) (placed (query_of source.parts))))) widest_low (omega (arith, items)) (omega (arith, size)) (omega arith) T room (key_from 0 (distinct_columns 0 (query_of source.parts).items)) [] together tables loaded
+        (λ raised. IsTold (whole_outcome (asked_once (query_of source.parts)) tables) raised) (told_any (flow (query_of source.parts) tables).rows (once (flow (query_of source.parts) tables).rows) (flow (query_of source.parts) tables).codes) (distinct_units general_hashing planned) (distinct_octets (length (query_of source.parts).items) planned) units_low octets_low
+        stored_once 1 (1 + whole_units (asked_once (query_of source.parts)) tables) (omega arith) (omega arith) (omega arith) no_function walk_tells keys_ok values_ok (length (once planned)) rows_low (omega (arith, cells)))
 
     -- the rows of the walk are the query's
-    pub distinct_rows : (stoods : List Stood) → AreStood tables [] cut.building stoods → (fed_over tables stoods cut.last).codes ≡ [] →
-        IsSameOutcome (whole_outcome (asked_once (query_of parts)) tables) (Rows (walked_of (distinct_grouping (query_of parts)) (fed_over tables stoods cut.last).rows).rows)
+    pub distinct_rows : (stoods : List Stood) → AreStood tables [] source.building stoods → (fed_over tables stoods source.last).codes ≡ [] →
+        IsSameOutcome (whole_outcome (asked_once (query_of source.parts)) tables) (Rows (walked_of (distinct_grouping (query_of source.parts)) (fed_over tables stoods source.last).rows).rows)
     distinct_rows stoods stood none =
-        let fed : Flow (List Val) = fed_over tables stoods cut.last in
-        let alike = fed_alike row_is value_is parts kept columns made are of cut tables loaded stoods stood in
-        let from = IsPermutation-sym (fed_over tables stoods cut.last).rows (flow (query_of parts) tables).rows alike.0 in
-        let quiet : (flow (query_of parts) tables).codes ≡ [] = none_left (flow (query_of parts) tables).codes (subst (λ (cs : List Code). IsPermutation cs (flow (query_of parts) tables).codes) none alike.1) in
-        let behind = behind_once (query_of parts) some_item fed.rows (long fed.rows from) in
-        subst (λ (rs : List (List Val)). IsSameOutcome (whole_outcome (asked_once (query_of parts)) tables) (Rows rs)) (sym (ap (λ (f : Flow (List Val)). f.rows) behind))
-        (subst (λ (cs : List Code). IsSameOutcome (ended (once (flow (query_of parts) tables).rows) cs) (Rows (once fed.rows))) (sym quiet) (once_permuted (flow (query_of parts) tables).rows fed.rows from))
+        let fed : Flow (List Val) = fed_over tables stoods source.last in
+        let alike = fed_alike row_is value_is source tables loaded stoods stood in
+        let from = IsPermutation-sym (fed_over tables stoods source.last).rows (flow (query_of source.parts) tables).rows alike.0 in
+        let quiet : (flow (query_of source.parts) tables).codes ≡ [] = none_left (flow (query_of source.parts) tables).codes (subst (λ (cs : List Code). IsPermutation cs (flow (query_of source.parts) tables).codes) none alike.1) in
+        let behind = behind_once (query_of source.parts) some_item fed.rows (long fed.rows from) in
+        subst (λ (rs : List (List Val)). IsSameOutcome (whole_outcome (asked_once (query_of source.parts)) tables) (Rows rs)) (sym (ap (λ (f : Flow (List Val)). f.rows) behind))
+        (subst (λ (cs : List Code). IsSameOutcome (ended (once (flow (query_of source.parts) tables).rows) cs) (Rows (once fed.rows))) (sym quiet) (once_permuted (flow (query_of source.parts) tables).rows fed.rows from))

@@ -1,6 +1,6 @@
 -- The pipelines that are made of a grouped query with DISTINCT keep what is promised of it: the rows that HAVING and the select list make go into a second table
 -- of groups, over all their columns, and the walk over that one makes each of them once (ISO/IEC 9075:1992, 7.7 to 7.9).
-use Rattle.std.proofs.Common.{◌≡◌, ◌∙◌, ◌≤◌, ◌<◌, ℕ, suc, ◌+◌, ◌-◌, ◌*◌, ◌/◌, ◌^◌, max, true, false, inl, inr, Contains, IsUtf8, List, [], ◌∷◌, ◌++◌, length, map, Ok, sym, ap, ap₂, subst, ⊎_elim, arith}
+use Rattle.std.proofs.Common.{◌≡◌, ◌∙◌, ◌≤◌, ◌<◌, ℕ, ◌+◌, ◌-◌, ◌*◌, ◌/◌, ◌^◌, max, true, false, List, [], ◌∷◌, ◌++◌, length, Ok, sym, ap, ap₂, subst, subst₂, arith}
 use Rattle.std.specs.List.{AllByRecursion, AllZip}
 use Rattle.std.specs.List.Sorted.{IsPermutation}
 use Rattle.std.proofs.ByRecursion.{all_shuffled}
@@ -13,15 +13,14 @@ use Rattle.qw_types.specs.declared.value.Val.{Val}
 use Rattle.qw_linear.specs.Memory.{page}
 use Rattle.qw_layout.specs.Hash.{slot}
 use Rattle.qw_layout.specs.Row.{entry_size}
-use Rattle.qw_scalar.specs.Expression.{Condition, Expression}
+use Rattle.qw_scalar.specs.Expression.{Expression}
 use Rattle.qw_scalar.specs.Typing.{kind_of}
-use Rattle.qw_leaves.specs.Leaves.{HasLeaves, OfText}
 use Rattle.qw_meaning.specs.Flow as clauses
 use Rattle.qw_meaning.specs.Flow.{Flow, each}
 use Rattle.qw_meaning.specs.Outcome.{IsSameOutcome, Rows, ended, flow, outcome}
-use Rattle.qw_meaning.specs.Query.{QueryParts, query_of}
+use Rattle.qw_meaning.specs.Query.{query_of}
 use Rattle.qw_meaning.specs.Select.{AreOfEntries, Specification, entries_of}
-use Rattle.qw_grouped.specs.Grouped.{Grouped, IsGrouped, arguments_of, expression_of_column, front, kinds_of, widest}
+use Rattle.qw_grouped.specs.Grouped.{Grouped, IsGrouped, expression_of_column, front, kinds_of, widest}
 use Rattle.qw_grouped.specs.Groups.{behind_front, function_values, grouped_flow, grouped_table, key_of, keys, members, once}
 use Rattle.qw_grouped.specs.Whole.{Whole, grouped, whole_outcome}
 use Rattle.qw_grouped.specs.declared.set_function.SetFunctionKind.{SetFunctionKind}
@@ -31,36 +30,25 @@ use Rattle.qw_grouped.proofs.TypedGroups.{all_once}
 use Rattle.qw_meaning.proofs.ListLemmas.{all_more}
 use Rattle.qw_pipe.specs.General.{general_hashing}
 use Rattle.qw_pipe.specs.Octets.{greatest_entry, table_count, table_octets}
-use Rattle.qw_map.specs.Layout.{row_size}
+use Rattle.qw_map.specs.Layout.{Layout, row_size}
 use Rattle.qw_feed.specs.Feeds.{Tells, spend}
-use Rattle.qw_read.specs.Reading.{known_of}
-use Rattle.qw_read.specs.declared.constant.Word.{Word}
 use Rattle.qw_table.specs.Tables.{in_slot}
 use Rattle.qw_physical.specs.Coded.{pipeline_of}
 use Rattle.qw_physical.specs.Courses.{cost}
-use Rattle.qw_physical.specs.Physical.{Pipeline, filter, select}
-use Rattle.qw_physical.specs.declared.pipeline.Pipeline as coded
-use Rattle.qw_physical.specs.declared.pipeline.ReadColumn.{ReadColumn}
+use Rattle.qw_physical.specs.Physical.{filter, select}
 use Rattle.qw_physical.proofs.Orders.{Alike}
-use Rattle.qw_operator.specs.Takes.{CanCarry}
 use Rattle.qw_operator.proofs.PairRows.{AreStored, IsHeld}
 use Rattle.qw_operator.proofs.Stood.{Stood}
 use Rattle.qw_emit.proofs.Answered.{IsTold}
 use Rattle.qw_group_sink.specs.Carrying.{cost_to}
 use Rattle.qw_group_sink.specs.Grouping.{Group, turn_of}
 use Rattle.qw_group_pipeline.specs.Groups.{most_read}
-use Rattle.qw_group_pipeline.specs.declared.columns.ValueColumn.{ValueColumn}
 use Rattle.qw_group_pipeline.proofs.RowFeeds.{by_result}
 use Rattle.qw_group_pipeline.proofs.ValuesCome.{AreRead, functions_of}
-use Rattle.qw_compile.specs.QueryColumns.{AreColumnsOf}
-use Rattle.qw_compile.specs.QueryPasses.{ArePipelinesOf}
 use Rattle.qw_compile.specs.PlannedQueries.{kept_by, placed, units}
 use Rattle.qw_compile.proofs.Greatest.{greatest_small}
-use Rattle.qw_compile.proofs.LocalsPlaced.{literal_count, literals_known}
-use Rattle.qw_compile.proofs.PipelineRuns.{AreStood, fed_over, readers_of}
-use Rattle.qw_compile.proofs.Planned.{IsPartedOf}
+use Rattle.qw_compile.proofs.PipelineRuns.{AreStood, fed_over}
 use Rattle.qw_compile.proofs.QueryReach.{table_of}
-use Rattle.qw_compile.proofs.QueryRuns.{Reach}
 use Rattle.qw_whole.specs.GroupTables.{chosen_units, distinct_octets, distinct_size, distinct_units, group_octets, group_size, group_units, rows_behind}
 use Rattle.qw_whole.specs.WholePromises.{planned_rows, whole_pages, whole_units}
 use Rattle.qw_whole.proofs.EntrySizes.{group_small}
@@ -71,16 +59,22 @@ use Rattle.qw_compile_whole.specs.WholeDistinct.{distinct_columns, distinct_grou
 use Rattle.qw_compile_whole.proofs.EnterBounded.{EnterReach, IsDistinctBounded}
 use Rattle.qw_compile_whole.proofs.FirstBounded.{IsFirstBounded}
 use Rattle.qw_compile_whole.proofs.GroupBounded.{GatherReach, GoTogether, WalkReach, group_width, groups_paid, walked_of}
-use Rattle.qw_compile_whole.proofs.GroupCore.{alike, builds_reach, builds_told, by_plan, first_bounded, from_flow, gather_reach, gather_told, group_octets_less, keys_stored, pays, values_are_read}
-use Rattle.qw_compile_whole.proofs.GroupKept.{few_spec, from_front, from_walk, keys_ok, octets_low, replaced, row_less, some_column, units_low, values_ok, walked_rows}
+use Rattle.qw_compile_whole.proofs.GroupCore.{first_bounded, gather_reach, group_octets_less, keys_stored, values_are_read}
+use Rattle.qw_compile_whole.proofs.GroupKept.{few_spec, from_front, from_walk, keys_ok, octets_low, row_less, some_column, units_low, values_ok, walked_rows}
 use Rattle.qw_compile_whole.proofs.GroupOnce.{enters_less, made_long, turns_once}
-use Rattle.qw_compile_whole.proofs.GroupPlanned.{built_many}
-use Rattle.qw_compile_whole.proofs.GroupReach.{budget, most}
+use Rattle.qw_compile_whole.proofs.GroupPlanned.{built_many, fed_alike, rows_planned}
+use Rattle.qw_compile_whole.proofs.GroupReach.{budget, builds_reach, builds_told, last_told, most, pays}
 use Rattle.qw_compile_whole.proofs.GroupRead.{compared_within, read_less}
 use Rattle.qw_compile_whole.proofs.GroupShares.{groups_within}
+use Rattle.qw_compile_whole.proofs.GroupTold.{told_any}
 use Rattle.qw_compile_whole.proofs.GroupTotals.{total}
 use Rattle.qw_compile_whole.proofs.WholeBehind.{behind_once, columns_many, units_once}
-use Rattle.qw_compile_whole.proofs.WholeKept.{no_values, raises_is, refused_alone, some_raised, stored_row}
+use Rattle.qw_compile_whole.proofs.WholeKept.{no_values, refused_alone, stored_row}
+use Rattle.qw_grouped.specs.Query.{GroupedParts, grouped_of}
+use Rattle.qw_compile_whole.specs.WholeTexts.{texts_of_grouped}
+use Rattle.qw_compile_whole.proofs.FrontLed.{front_at, front_count, front_words, literals_over}
+use Rattle.qw_compile_whole.proofs.FoldedBehind.{behind_folded}
+use Rattle.qw_compile_whole.proofs.StatementParts.{PartsOf, folded_query, items_long, loaded_front}
 
 -- a query, each row of whose result is wanted once
 abbrev pub asked_distinct : Grouped → Whole
@@ -90,48 +84,32 @@ asked_distinct query = record { body = grouped query; distinct = true }
 abbrev pub shown : Grouped → Specification
 shown query = record { sources = query.sources; conjuncts = query.conjuncts; items = query.items }
 
--- which rows there are makes no difference where an exception was raised
-told_any : (rows others : List (List Val)) (cs : List Code) (raised : ℕ) → IsTold (ended rows cs) raised → IsTold (ended others cs) raised
-told_any rows others cs raised told =
-    ⊎_elim inl
-    (λ it.
-    let codes_are : cs ≡ it.0 = raises_is rows cs it.0 it.2 in
-    let there : Contains cs it.1 = subst (λ (l : List Code). Contains l it.1) (sym codes_are) it.3 in
-    inr (cs, it.1, some_raised others cs it.1 there, there, it.4))
-    told
-
 same_once : (rows others made : List (List Val)) (cs : List Code) → IsSameOutcome (ended rows cs) (Rows others) → IsPermutation made others → IsSameOutcome (ended (once rows) cs) (Rows (once made))
 same_once rows others made [] h p = once_permuted rows made (IsPermutation-trans rows others made h (IsPermutation-sym made others p))
 same_once rows others made (c ∷ cs) h p = absurd h
 
 module _ (row_is : (row other : List Val) → is_same_row row other ≡ true → row ≡ other) (value_is : (a : Val) → value_order a a ≡ ordering.Equal)
-    (parts : QueryParts) (kept columns : List ReadColumn) (made : List coded.Pipeline) (are : AreColumnsOf parts kept columns) (of : ArePipelinesOf parts kept made) (cut : IsPartedOf kept of.node (map pipeline_of made))
-    (query : Grouped) (whole : IsGrouped query) (front_is : query_of parts ≡ front query) where
-  abbrev spec : Specification
-  spec = query_of parts
+    (parts : GroupedParts) (whole : IsGrouped (grouped_of parts)) {layout : Layout} (given : PartsOf parts layout) where
+  abbrev query : Grouped
+  query = grouped_of parts
 
   -- the most that may be stored at once
   abbrev widest_stored : ℕ
-  widest_stored = max (row_size (length query.items)) (max (distinct_size (length query.items)) (max (group_size query) (greatest_entry (kept_by (query_of parts)) (placed (query_of parts)))))
+  widest_stored = max (row_size (length query.items)) (max (distinct_size (length query.items)) (max (group_size query) (greatest_entry (kept_by (query_of given.source.parts)) (placed (query_of given.source.parts)))))
 
   -- what may be given up of a page
   abbrev pub given_up_distinct : ℕ
-  given_up_distinct = page - max (row_size (length query.items)) (max (distinct_size (length query.items)) (max (group_size query) (greatest_entry (kept_by (query_of parts)) (placed (query_of parts)))))
+  given_up_distinct = page - max (row_size (length query.items)) (max (distinct_size (length query.items)) (max (group_size query) (greatest_entry (kept_by (query_of given.source.parts)) (placed (query_of given.source.parts)))))
 
   widest_low : widest_stored ≤ 24216
-  widest_low = low (row_size (length spec.items)) (greatest_entry (kept_by spec) (placed spec)) (group_size query) (length query.items) (greatest_small spec are.specification) (group_small query whole) whole.few_items
+  widest_low = low (row_size (length (query_of given.source.parts).items)) (greatest_entry (kept_by (query_of given.source.parts)) (placed (query_of given.source.parts))) (group_size query) (length query.items) (greatest_small (query_of given.source.parts) given.source.are.specification) (group_small query whole) whole.few_items
     where
       low : (r e g q : ℕ) → max r e ≤ 24216 → g ≤ 16408 → q ≤ 512 → max (8 + 16 * q) (max (24 + 16 * (q + 0) + 32 * 0) (max g e)) ≤ 24216
       low r e g q a b d = omega (arith, a, b, d)
 
   -- with the conjuncts of HAVING and the items as they are evaluated
-  module _ (T at : ℕ) (texts : List (List ℕ)) (words : List Word) (g : Group) (key : List ReadColumn) (values : List ValueColumn) (having : List Condition) (items : List Expression)
-      (together : GoTogether (replaced query having items) g key values (literals_known T at texts words)) (last_is : cut.last.sink ≡ select g.values) (key_is : key ≡ key_columns query) (values_are : values ≡ value_columns query)
-      (same_behind : (before : Flow (List Val)) → behind_front query before ≡ behind_front (replaced query having items) before) (same_units : (rows : List (List Val)) → group_units general_hashing query rows ≡ group_units general_hashing (replaced query having items) rows)
-      (same_items : length items ≡ length query.items) (utf8 : AllByRecursion (HasLeaves (OfText IsUtf8)) (arguments_of query.functions))
-      (can : AllByRecursion (λ (p : Pipeline). CanCarry (literals_known T at texts words ++ map known_of (readers_of T (literal_count texts words) columns p.entry)) p.operators p.sink) cut.building)
-      (can_last : CanCarry (literals_known T at texts words ++ map known_of (readers_of T (literal_count texts words) columns cut.last.entry)) cut.last.operators cut.last.sink)
-      (tables : List (List (List Val))) (loaded : AreOfEntries (entries_of (query_of parts).sources) tables) where
+  module _ (T : ℕ) (room : length given.source.ps ≤ T) (together : GoTogether (folded_query given) given.source.group (key_columns (grouped_of parts)) (value_columns (grouped_of parts)) (literals_over given.source T))
+      (tables : List (List (List Val))) (loaded : AreOfEntries (entries_of (grouped_of parts).sources) tables) where
     abbrev n : ℕ
     n = length query.columns
 
@@ -139,168 +117,147 @@ module _ (row_is : (row other : List Val) → is_same_row row other ≡ true →
     kinds = kinds_of query.functions
 
     abbrev folded : Grouped
-    folded = replaced query having items
+    folded = folded_query given
 
     abbrev again : Grouped
     again = distinct_grouping (shown query)
 
     -- the rows that are put into the second table, by the plan
     abbrev planned : List (List Val)
-    planned = planned_rows (query_of parts) tables
+    planned = planned_rows (query_of given.source.parts) tables
 
     abbrev behind : List (List Val)
-    behind = rows_behind query (planned_rows (query_of parts) tables)
+    behind = rows_behind query (planned_rows (query_of given.source.parts) tables)
 
     abbrev N : ℕ
-    N = 1 + ((units (query_of parts) tables + group_units general_hashing query (planned_rows (query_of parts) tables)) + distinct_units general_hashing (rows_behind query (planned_rows (query_of parts) tables)))
+    N = 1 + ((units (query_of given.source.parts) tables + group_units general_hashing query (planned_rows (query_of given.source.parts) tables)) + distinct_units general_hashing (rows_behind query (planned_rows (query_of given.source.parts) tables)))
 
     abbrev S : ℕ
-    S = ((table_octets (kept_by (query_of parts)) tables (placed (query_of parts)) + group_octets query (planned_rows (query_of parts) tables)) + distinct_octets (length query.items) (rows_behind query (planned_rows (query_of parts) tables)))
-        + length (once (rows_behind query (planned_rows (query_of parts) tables))) * row_size (length query.items)
+    S = ((table_octets (kept_by (query_of given.source.parts)) tables (placed (query_of given.source.parts)) + group_octets query (planned_rows (query_of given.source.parts) tables)) + distinct_octets (length query.items) (rows_behind query (planned_rows (query_of given.source.parts) tables)))
+        + length (once (rows_behind query (planned_rows (query_of given.source.parts) tables))) * row_size (length query.items)
 
     abbrev M : ℕ
-    M = most given_up_distinct S 2 cut.building
+    M = most given_up_distinct S 2 given.source.building
 
     abbrev Told : ℕ → Type 0
     Told raised = IsTold (whole_outcome (asked_distinct query) tables) raised
 
     some : 1 ≤ length query.columns
-    some = some_column row_is value_is parts kept columns made are of cut query whole front_is T at texts words g key values having items together last_is key_is values_are same_behind same_units same_items utf8 can can_last tables loaded
+    some = some_column row_is value_is parts whole given tables loaded T room together
 
-    told_front : (raised : ℕ) → IsTold (outcome (query_of parts) tables) raised → Told raised
+    told_front : (raised : ℕ) → IsTold (outcome (query_of given.source.parts) tables) raised → Told raised
     told_front raised h =
         told_any (grouped_flow query tables).rows (once (grouped_flow query tables).rows) (grouped_flow query tables).codes raised
-        (from_front row_is value_is parts kept columns made are of cut query whole front_is T at texts words g key values having items together last_is key_is values_are same_behind same_units same_items utf8 can can_last tables loaded raised h)
+        (from_front row_is value_is parts whole given tables loaded raised h)
 
-    units_few : (rows : List (List Val)) → IsPermutation rows (planned_rows (query_of parts) tables) → group_units general_hashing folded rows ≤ group_units general_hashing query (planned_rows (query_of parts) tables)
-    units_few = units_low row_is value_is parts kept columns made are of cut query whole front_is T at texts words g key values having items together last_is key_is values_are same_behind same_units same_items utf8 can can_last tables loaded
+    units_few : (rows : List (List Val)) → IsPermutation rows (planned_rows (query_of given.source.parts) tables) → group_units general_hashing folded rows ≤ group_units general_hashing query (planned_rows (query_of given.source.parts) tables)
+    units_few = units_low row_is value_is parts whole given tables loaded
 
-    octets_few : (rows : List (List Val)) → IsPermutation rows (planned_rows (query_of parts) tables) → group_octets folded rows ≤ group_octets query (planned_rows (query_of parts) tables)
-    octets_few = octets_low row_is value_is parts kept columns made are of cut query whole front_is T at texts words g key values having items together last_is key_is values_are same_behind same_units same_items utf8 can can_last tables loaded
+    octets_few : (rows : List (List Val)) → IsPermutation rows (planned_rows (query_of given.source.parts) tables) → group_octets folded rows ≤ group_octets query (planned_rows (query_of given.source.parts) tables)
+    octets_few = octets_low row_is value_is parts whole given tables loaded
 
-    less_row : 8 + 16 * length (query_of parts).items ≤ group_size query
-    less_row = row_less row_is value_is parts kept columns made are of cut query whole front_is
+    less_row : 8 + 16 * length (query_of given.source.parts).items ≤ group_size query
+    less_row = row_less row_is value_is parts whole given
 
-    items_fit : row_size (length items) ≤ widest_stored
-    items_fit = less (length items) (length query.items) (max (distinct_size (length query.items)) (max (group_size query) (greatest_entry (kept_by spec) (placed spec)))) same_items
+    rows_fit : 8 + 16 * length (query_of given.source.parts).items ≤ widest_stored
+    rows_fit = let less = less_row in omega (arith, less)
+
+    items_fit : row_size (length given.behind_is.items) ≤ widest_stored
+    items_fit = less (length given.behind_is.items) (length query.items) (max (distinct_size (length query.items)) (max (group_size query) (greatest_entry (kept_by (query_of given.source.parts)) (placed (query_of given.source.parts))))) (items_long given)
       where
         less : (i q m : ℕ) → i ≡ q → 8 + 16 * i ≤ max (8 + 16 * q) m
         less i q m e = omega (arith, e)
 
-    -- ---- what is the same as of a grouped query
-    reached_by : (front : List Pipeline) (p : Pipeline) (back : List Pipeline) (stoods : List Stood) → cut.building ≡ front ++ p ∷ back → AreStood tables [] front stoods →
-        Reach T (literal_count texts words) columns (literals_known T at texts words) tables given_up_distinct M N (table_of (entries_of (query_of parts).sources)) stoods p (budget given_up_distinct tables cut.building (length front)) (budget given_up_distinct tables cut.building (suc (length front)))
-    reached_by = builds_reach row_is value_is parts kept columns made are of cut folded some less_row widest_stored widest_low items_fit (omega arith) (omega arith) T at texts words g key values together last_is can can_last tables loaded Told told_front
-        (group_units general_hashing query planned) (group_octets query planned) units_few octets_few S 2 N (omega arith) (omega arith) (omega arith)
-
-    told_by : (front : List Pipeline) (p : Pipeline) (back : List Pipeline) (stoods : List Stood) → cut.building ≡ front ++ p ∷ back → AreStood tables [] front stoods → (raised : ℕ) → Tells (fed_over tables stoods p).codes raised → Told raised
-    told_by = builds_told row_is value_is parts kept columns made are of cut folded some less_row widest_stored widest_low items_fit (omega arith) (omega arith) T at texts words g key values together last_is can can_last tables loaded Told told_front
-        (group_units general_hashing query planned) (group_octets query planned) units_few octets_few S 2 N (omega arith) (omega arith) (omega arith)
-
-    told_gather : (stoods : List Stood) → AreStood tables [] cut.building stoods → (raised : ℕ) → Tells (fed_over tables stoods cut.last).codes raised → Told raised
-    told_gather = gather_told row_is value_is parts kept columns made are of cut folded some less_row widest_stored widest_low items_fit (omega arith) (omega arith) T at texts words g key values together last_is can can_last tables loaded Told told_front
-        (group_units general_hashing query planned) (group_octets query planned) units_few octets_few S 2 N (omega arith) (omega arith) (omega arith)
-
     units_are : N ≡ 1 + whole_units (asked_distinct query) tables
-    units_are = ap (λ (s : Specification). 1 + ((units s tables + group_units general_hashing query (planned_rows s tables)) + distinct_units general_hashing (rows_behind query (planned_rows s tables)))) front_is
+    units_are = ap (λ (s : Specification). 1 + ((units s tables + group_units general_hashing query (planned_rows s tables)) + distinct_units general_hashing (rows_behind query (planned_rows s tables)))) given.before_is
 
     pages_are : M ≡ whole_pages (asked_distinct query) tables
     pages_are =
-        ap (λ (k : ℕ). 2 + 2 * (k + 2) + S / given_up_distinct) (built_many row_is value_is parts kept columns made are of cut)
-        ∙ (count (table_count (placed (query_of parts))) (S / given_up_distinct)
+        ap (λ (k : ℕ). 2 + 2 * (k + 2) + S / given_up_distinct) (built_many row_is value_is given.source)
+        ∙ (count (table_count (placed (query_of given.source.parts))) (S / given_up_distinct)
         ∙ ap (λ (s : Specification). 2 + 2 * ((table_count (placed s) + 1) + 1)
         + (((table_octets (kept_by s) tables (placed s) + group_octets query (planned_rows s tables)) + distinct_octets (length query.items) (rows_behind query (planned_rows s tables))) + length (once (rows_behind query (planned_rows s tables))) * row_size (length query.items))
-        / (page - max (row_size (length query.items)) (max (distinct_size (length query.items)) (max (group_size query) (greatest_entry (kept_by s) (placed s)))))) front_is)
+        / (page - max (row_size (length query.items)) (max (distinct_size (length query.items)) (max (group_size query) (greatest_entry (kept_by s) (placed s)))))) given.before_is)
       where
         count : (c q : ℕ) → 2 + 2 * (c + 2) + q ≡ 2 + 2 * ((c + 1) + 1) + q
         count c q = omega arith
 
     -- ---- up to the groups, however many rows there are
     abbrev IsFirst : (most N : ℕ) → Type 0
-    IsFirst most_pages most_units = IsFirstBounded T (literal_count texts words) columns texts words at (table_of (entries_of (query_of parts).sources)) cut.building cut.last g Told given_up_distinct most_pages most_units tables
+    IsFirst most_pages most_units = IsFirstBounded T (front_count given.source) given.source.columns (texts_of_grouped parts) (front_words given.source) (front_at given.source) (table_of (entries_of (query_of given.source.parts).sources)) given.source.building given.source.last given.source.group Told given_up_distinct most_pages most_units tables
 
-    first : IsFirst M N
-    first = first_bounded row_is value_is parts kept columns made are of cut folded some less_row widest_stored widest_low items_fit (omega arith) (omega arith) T at texts words g key values together last_is can can_last tables loaded Told told_front
-        (group_units general_hashing query planned) (group_octets query planned) units_few octets_few S 2 N (omega arith) (omega arith) (omega arith)
-
-    pub once_first : IsFirstBounded T (literal_count texts words) columns texts words at (table_of (entries_of (query_of parts).sources)) cut.building cut.last g (λ raised. IsTold (whole_outcome (asked_distinct query) tables) raised)
-        given_up_distinct (whole_pages (asked_distinct query) tables) (1 + whole_units (asked_distinct query) tables) tables
-    once_first = subst (λ (m : ℕ). IsFirst m (1 + whole_units (asked_distinct query) tables)) pages_are (subst (λ (w : ℕ). IsFirst M w) units_are first)
+    pub once_first : IsFirst (whole_pages (asked_distinct query) tables) (1 + whole_units (asked_distinct query) tables)
+    once_first =
+        subst₂ IsFirst pages_are units_are
+        (first_bounded row_is value_is given.source folded some less_row widest_stored widest_low items_fit (omega arith) (omega arith) T room (key_columns query) (value_columns query) together tables (loaded_front given tables loaded) Told told_front
+        (group_units general_hashing query planned) (group_octets query planned) units_few octets_few S 2 N (omega arith) (omega arith) (omega arith))
 
     -- ---- where the rows are few enough to be counted and summed, a second table
     module _ (few : 1 ≤ length query.functions → length (flow (front query) tables).rows < 10 ^ 18)
-        (into : Group) (key_again : List ReadColumn) (values_again : List ValueColumn) (together_again : GoTogether (distinct_grouping (shown query)) into key_again values_again (literals_known T at texts words)) (into_values : into.values ≡ items)
-        (key_again_is : key_again ≡ key_from 0 (distinct_columns 0 query.items)) (values_again_are : values_again ≡ [])
-        (held : (rows : List (List Val)) → IsPermutation (flow (query_of parts) tables).rows rows → AllByRecursion (λ (row : List Val). AllZip (λ (e : Expression) (v : Val). IsHeld (widest (kind_of e)) false v) query.items row) (behind_front query (record { rows = rows; codes = [] })).rows) where
-      told_walk : (fed : Flow (List Val)) → Alike fed (flow (query_of parts) tables) → fed.codes ≡ [] → (raised : ℕ) → Tells (walked_of folded fed.rows).codes raised → Told raised
+        (into : Group) (together_again : GoTogether (distinct_grouping (shown query)) into (key_from 0 (distinct_columns 0 query.items)) [] (literals_over given.source T)) (into_values : into.values ≡ given.behind_is.items)
+        (held : (rows : List (List Val)) → IsPermutation (flow (query_of given.source.parts) tables).rows rows → AllByRecursion (λ (row : List Val). AllZip (λ (e : Expression) (v : Val). IsHeld (widest (kind_of e)) false v) query.items row) (behind_front query (record { rows = rows; codes = [] })).rows) where
+      told_walk : (fed : Flow (List Val)) → Alike fed (flow (query_of given.source.parts) tables) → fed.codes ≡ [] → (raised : ℕ) → Tells (walked_of folded fed.rows).codes raised → Told raised
       told_walk fed same none raised tells =
           told_any (grouped_flow query tables).rows (once (grouped_flow query tables).rows) (grouped_flow query tables).codes raised
-          (from_walk row_is value_is parts kept columns made are of cut query whole front_is T at texts words g key values having items together last_is key_is values_are same_behind same_units same_items utf8 can can_last tables loaded fed same none raised tells)
+          (from_walk row_is value_is parts whole given tables loaded fed same none raised tells)
 
-      keys_good : (rows : List (List Val)) → IsPermutation (flow (query_of parts) tables).rows rows → AllByRecursion (λ (k : List Val). AreStored key k) (keys (length query.columns) rows)
-      keys_good = keys_ok row_is value_is parts kept columns made are of cut query whole front_is T at texts words g key values having items together last_is key_is values_are same_behind same_units same_items utf8 can can_last tables loaded few
+      keys_good : (rows : List (List Val)) → IsPermutation (flow (query_of given.source.parts) tables).rows rows → AllByRecursion (λ (k : List Val). AreStored (key_columns query) k) (keys (length query.columns) rows)
+      keys_good = keys_ok row_is value_is parts whole given tables loaded T room together few
 
-      values_good : (rows : List (List Val)) → IsPermutation (flow (query_of parts) tables).rows rows → AllByRecursion (λ (k : List Val). (vs : List Val) → function_values (length query.columns) (kinds_of query.functions) (members (length query.columns) k rows) ≡ Ok vs → AreRead values vs) (keys (length query.columns) rows)
-      values_good = values_ok row_is value_is parts kept columns made are of cut query whole front_is T at texts words g key values having items together last_is key_is values_are same_behind same_units same_items utf8 can can_last tables loaded few
+      values_good : (rows : List (List Val)) → IsPermutation (flow (query_of given.source.parts) tables).rows rows → AllByRecursion (λ (k : List Val). (vs : List Val) → function_values (length query.columns) (kinds_of query.functions) (members (length query.columns) k rows) ≡ Ok vs → AreRead (value_columns query) vs) (keys (length query.columns) rows)
+      values_good = values_ok row_is value_is parts whole given tables loaded T room together few
 
-      less_rows : 1 ≤ length query.functions → length (flow (query_of parts) tables).rows < 10 ^ 18
-      less_rows = few_spec row_is value_is parts kept columns made are of cut query whole front_is T at texts words g key values having items together last_is key_is values_are same_behind same_units same_items utf8 can can_last tables loaded few
-
-      module _ (stoods : List Stood) (stood : AreStood tables [] cut.building stoods) where
+      module _ (stoods : List Stood) (stood : AreStood tables [] given.source.building stoods) where
         abbrev rows : List (List Val)
-        rows = (fed_over tables stoods cut.last).rows
+        rows = (fed_over tables stoods given.source.last).rows
 
         abbrev before : ℕ
-        before = budget given_up_distinct tables cut.building (length cut.building)
+        before = budget given_up_distinct tables given.source.building (length given.source.building)
 
-        gathers : GatherReach T (literal_count texts words) columns (literals_known T at texts words) tables given_up_distinct M N (table_of (entries_of (query_of parts).sources)) g stoods cut.last (budget given_up_distinct tables cut.building (length cut.building))
-        gathers = gather_reach row_is value_is parts kept columns made are of cut folded some less_row widest_stored widest_low items_fit (omega arith) (omega arith) T at texts words g key values together last_is can can_last tables loaded Told told_front
-            (group_units general_hashing query planned) (group_octets query planned) units_few octets_few S 2 N (omega arith) (omega arith) (omega arith) less_rows told_walk keys_good values_good stoods stood
+        gathers : GatherReach T (front_count given.source) given.source.columns (literals_over given.source T) tables given_up_distinct M N (table_of (entries_of (query_of given.source.parts).sources)) given.source.group stoods given.source.last (budget given_up_distinct tables given.source.building (length given.source.building))
+        gathers = gather_reach row_is value_is given.source folded some less_row widest_stored widest_low items_fit (omega arith) (omega arith) T room (key_columns query) (value_columns query) together tables (loaded_front given tables loaded) Told told_front
+            (group_units general_hashing query planned) (group_octets query planned) units_few octets_few S 2 N (omega arith) (omega arith) (omega arith) (few_spec row_is value_is parts whole given tables loaded few) told_walk keys_good values_good stoods stood
 
-        keys_there : AllByRecursion (λ (k : List Val). AreStored key k) (keys g.columns rows)
-        keys_there = keys_stored row_is value_is parts kept columns made are of cut folded some less_row widest_stored widest_low items_fit (omega arith) (omega arith) T at texts words g key values together last_is can can_last tables loaded Told told_front
-            (group_units general_hashing query planned) (group_octets query planned) units_few octets_few S 2 N (omega arith) (omega arith) (omega arith) less_rows told_walk keys_good values_good stoods stood
+        keys_there : AllByRecursion (λ (k : List Val). AreStored (key_columns query) k) (keys given.source.group.columns rows)
+        keys_there = keys_stored row_is value_is given.source folded some less_row widest_stored widest_low items_fit (omega arith) (omega arith) T room (key_columns query) (value_columns query) together tables (loaded_front given tables loaded) Told told_front
+            (group_units general_hashing query planned) (group_octets query planned) units_few octets_few S 2 N (omega arith) (omega arith) (omega arith) (few_spec row_is value_is parts whole given tables loaded few) told_walk keys_good values_good stoods stood
 
-        values_there : AllByRecursion (λ (k : List Val). (vs : List Val) → function_values (length key) (functions_of values) (members g.columns k rows) ≡ Ok vs → AreRead values vs) (keys g.columns rows)
-        values_there = values_are_read row_is value_is parts kept columns made are of cut folded some less_row widest_stored widest_low items_fit (omega arith) (omega arith) T at texts words g key values together last_is can can_last tables loaded Told told_front
-            (group_units general_hashing query planned) (group_octets query planned) units_few octets_few S 2 N (omega arith) (omega arith) (omega arith) less_rows told_walk keys_good values_good stoods stood
+        values_there : AllByRecursion (λ (k : List Val). (vs : List Val) → function_values (length (key_columns query)) (functions_of (value_columns query)) (members given.source.group.columns k rows) ≡ Ok vs → AreRead (value_columns query) vs) (keys given.source.group.columns rows)
+        values_there = values_are_read row_is value_is given.source folded some less_row widest_stored widest_low items_fit (omega arith) (omega arith) T room (key_columns query) (value_columns query) together tables (loaded_front given tables loaded) Told told_front
+            (group_units general_hashing query planned) (group_octets query planned) units_few octets_few S 2 N (omega arith) (omega arith) (omega arith) (few_spec row_is value_is parts whole given tables loaded few) told_walk keys_good values_good stoods stood
 
-        paid_for : (octets : ℕ) → table_octets (kept_by spec) tables (placed spec) + octets ≤ S → before + 2 * given_up_distinct + octets + 2 * given_up_distinct < (M + 1) * given_up_distinct
-        paid_for = pays row_is value_is parts kept columns made are of cut folded some less_row widest_stored widest_low items_fit (omega arith) (omega arith) T at texts words g key values together last_is can can_last tables loaded Told told_front
+        paid_for : (octets : ℕ) → table_octets (kept_by (query_of given.source.parts)) tables (placed (query_of given.source.parts)) + octets ≤ S → before + 2 * given_up_distinct + octets + 2 * given_up_distinct < (M + 1) * given_up_distinct
+        paid_for = pays row_is value_is given.source widest_stored widest_low rows_fit (omega arith) T room tables (loaded_front given tables loaded) (group_units general_hashing query planned) (group_octets query planned) S 2 N (omega arith) (omega arith) stoods stood
+
+        first_octets : 4096 + length (keys given.source.group.columns rows) * group_width given.source.group ≤ group_octets query planned
+        first_octets = group_octets_less row_is value_is given.source folded some less_row widest_stored widest_low items_fit (omega arith) (omega arith) T room (key_columns query) (value_columns query) together tables (loaded_front given tables loaded) Told told_front
             (group_units general_hashing query planned) (group_octets query planned) units_few octets_few S 2 N (omega arith) (omega arith) (omega arith) stoods stood
 
-        first_octets : 4096 + length (keys g.columns rows) * group_width g ≤ group_octets query planned
-        first_octets = group_octets_less row_is value_is parts kept columns made are of cut folded some less_row widest_stored widest_low items_fit (omega arith) (omega arith) T at texts words g key values together last_is can can_last tables loaded Told told_front
-            (group_units general_hashing query planned) (group_octets query planned) units_few octets_few S 2 N (omega arith) (omega arith) (omega arith) stoods stood
+        by_planned : IsPermutation (fed_over tables stoods given.source.last).rows (planned_rows (query_of given.source.parts) tables)
+        by_planned = rows_planned row_is value_is given.source tables (loaded_front given tables loaded) stoods stood
 
-        by_planned : IsPermutation (fed_over tables stoods cut.last).rows (planned_rows (query_of parts) tables)
-        by_planned = by_plan row_is value_is parts kept columns made are of cut folded some less_row widest_stored widest_low items_fit (omega arith) (omega arith) T at texts words g key values together last_is can can_last tables loaded Told told_front
-            (group_units general_hashing query planned) (group_octets query planned) units_few octets_few S 2 N (omega arith) (omega arith) (omega arith) stoods stood
+        alike_flow : Alike (fed_over tables stoods given.source.last) (flow (query_of given.source.parts) tables)
+        alike_flow = fed_alike row_is value_is given.source tables (loaded_front given tables loaded) stoods stood
 
-        of_flow : IsPermutation (flow (query_of parts) tables).rows (fed_over tables stoods cut.last).rows
-        of_flow = from_flow row_is value_is parts kept columns made are of cut folded some less_row widest_stored widest_low items_fit (omega arith) (omega arith) T at texts words g key values together last_is can can_last tables loaded Told told_front
-            (group_units general_hashing query planned) (group_octets query planned) units_few octets_few S 2 N (omega arith) (omega arith) (omega arith) stoods stood
-
-        alike_flow : Alike (fed_over tables stoods cut.last) (flow (query_of parts) tables)
-        alike_flow = alike row_is value_is parts kept columns made are of cut folded some less_row widest_stored widest_low items_fit (omega arith) (omega arith) T at texts words g key values together last_is can can_last tables loaded Told told_front
-            (group_units general_hashing query planned) (group_octets query planned) units_few octets_few S 2 N (omega arith) (omega arith) (omega arith) stoods stood
+        of_flow : IsPermutation (flow (query_of given.source.parts) tables).rows (fed_over tables stoods given.source.last).rows
+        of_flow = IsPermutation-sym (fed_over tables stoods given.source.last).rows (flow (query_of given.source.parts) tables).rows alike_flow.0
 
         -- ---- the rows that are put into the second table
         abbrev W : List (List Val)
-        W = (walked_of (replaced query having items) (fed_over tables stoods cut.last).rows).rows
+        W = (walked_of (folded_query given) (fed_over tables stoods given.source.last).rows).rows
 
-        W_is : (behind_front query (record { rows = (fed_over tables stoods cut.last).rows; codes = [] })).rows ≡ W
-        W_is = ap (λ (f : Flow (List Val)). f.rows) (same_behind (record { rows = (fed_over tables stoods cut.last).rows; codes = [] }))
+        W_is : (behind_front query (record { rows = (fed_over tables stoods given.source.last).rows; codes = [] })).rows ≡ W
+        W_is = ap (λ (f : Flow (List Val)). f.rows) (behind_folded query (pipeline_of given.source.behind) given.behind_is (record { rows = (fed_over tables stoods given.source.last).rows; codes = [] }))
 
-        W_planned : IsPermutation W (rows_behind query (planned_rows (query_of parts) tables))
+        W_planned : IsPermutation W (rows_behind query (planned_rows (query_of given.source.parts) tables))
         W_planned =
             let same = order.behind_alike query (record { rows = rows; codes = [] }) (record { rows = planned; codes = [] }) (record { rows = by_planned; codes = IsPermutation-refl [] }) in
             subst (λ (rs : List (List Val)). IsPermutation rs behind) W_is same.rows
 
         W_long : AllByRecursion (λ (r : List Val). length r ≡ length query.items) W
         W_long =
-            subst (λ (m : ℕ). AllByRecursion (λ (r : List Val). length r ≡ m) W) same_items
-            (made_long items (each (clauses.kept having) (grouped_table n kinds (record { rows = rows; codes = [] }))))
+            subst (λ (m : ℕ). AllByRecursion (λ (r : List Val). length r ≡ m) W) (items_long given)
+            (made_long given.behind_is.items (each (clauses.kept given.behind_is.having) (grouped_table n kinds (record { rows = rows; codes = [] }))))
 
         W_held : AllByRecursion (λ (row : List Val). AllZip (λ (e : Expression) (v : Val). IsHeld (widest (kind_of e)) false v) query.items row) W
         W_held = subst (AllByRecursion (λ (row : List Val). AllZip (λ (e : Expression) (v : Val). IsHeld (widest (kind_of e)) false v) query.items row)) W_is (held rows of_flow)
@@ -322,35 +279,35 @@ module _ (row_is : (row other : List Val) → is_same_row row other ≡ true →
         no_function some_function = absurd (let none = ap (λ (fs : List SetFunctionKind). length fs) together_again.functions in omega (arith, some_function, none))
 
         -- of rows in any order
-        module _ (entered : List (List Val)) (from : IsPermutation entered (walked_of (replaced query having items) (fed_over tables stoods cut.last).rows).rows) where
+        module _ (entered : List (List Val)) (from : IsPermutation entered (walked_of (folded_query given) (fed_over tables stoods given.source.last).rows).rows) where
           entered_long : AllByRecursion (λ (r : List Val). length r ≡ length query.items) entered
           entered_long = all_shuffled (λ (r : List Val). length r ≡ length query.items) W entered (IsPermutation-sym entered W from) W_long
 
           entered_held : AllByRecursion (λ (row : List Val). AllZip (λ (e : Expression) (v : Val). IsHeld (widest (kind_of e)) false v) query.items row) entered
           entered_held = all_shuffled (λ (row : List Val). AllZip (λ (e : Expression) (v : Val). IsHeld (widest (kind_of e)) false v) query.items row) W entered (IsPermutation-sym entered W from) W_held
 
-          entered_planned : IsPermutation entered (rows_behind query (planned_rows (query_of parts) tables))
+          entered_planned : IsPermutation entered (rows_behind query (planned_rows (query_of given.source.parts) tables))
           entered_planned = IsPermutation-trans entered W behind from W_planned
 
           keys_once : keys into.columns entered ≡ once entered
           keys_once = ap (λ (c : ℕ). keys c entered) into_columns ∙ distinct_keys (length query.items) entered entered_long
 
-          once_many : length (once entered) ≡ length (once (rows_behind query (planned_rows (query_of parts) tables)))
+          once_many : length (once entered) ≡ length (once (rows_behind query (planned_rows (query_of given.source.parts) tables)))
           once_many = sym (length_permutation (once entered) (once behind) (once_permuted entered behind entered_planned))
 
-          second_octets : 4096 + length (keys into.columns entered) * group_width into ≡ distinct_octets (length query.items) (rows_behind query (planned_rows (query_of parts) tables))
+          second_octets : 4096 + length (keys into.columns entered) * group_width into ≡ distinct_octets (length query.items) (rows_behind query (planned_rows (query_of given.source.parts) tables))
           second_octets = ap₂ (λ (k w : ℕ). 4096 + k * w) (ap (λ (l : List (List Val)). length l) keys_once ∙ once_many) width_into
 
-          second_units : distinct_units general_hashing entered ≡ distinct_units general_hashing (rows_behind query (planned_rows (query_of parts) tables))
+          second_units : distinct_units general_hashing entered ≡ distinct_units general_hashing (rows_behind query (planned_rows (query_of given.source.parts) tables))
           second_units = distinct_permuted general_hashing entered behind entered_planned
 
           -- where the rows of the result stand behind both tables
-          both_paid : (octets : ℕ) → octets ≤ length (once (rows_behind query (planned_rows (query_of parts) tables))) * row_size (length query.items) →
-              groups_paid given_up_distinct into (groups_paid given_up_distinct g before rows) entered + octets + 2 * given_up_distinct < (M + 1) * given_up_distinct
+          both_paid : (octets : ℕ) → octets ≤ length (once (rows_behind query (planned_rows (query_of given.source.parts) tables))) * row_size (length query.items) →
+              groups_paid given_up_distinct into (groups_paid given_up_distinct given.source.group before rows) entered + octets + 2 * given_up_distinct < (M + 1) * given_up_distinct
           both_paid octets few_octets =
-              turned before given_up_distinct (length (keys g.columns rows) * group_width g) (length (keys into.columns entered) * group_width into) octets ((M + 1) * given_up_distinct)
-              (paid_for (((4096 + length (keys g.columns rows) * group_width g) + (4096 + length (keys into.columns entered) * group_width into)) + octets)
-              (less (table_octets (kept_by spec) tables (placed spec)) (4096 + length (keys g.columns rows) * group_width g) (group_octets query planned) (4096 + length (keys into.columns entered) * group_width into) (distinct_octets (length query.items) behind) octets (length (once behind) * row_size (length query.items)) first_octets second_octets few_octets))
+              turned before given_up_distinct (length (keys given.source.group.columns rows) * group_width given.source.group) (length (keys into.columns entered) * group_width into) octets ((M + 1) * given_up_distinct)
+              (paid_for (((4096 + length (keys given.source.group.columns rows) * group_width given.source.group) + (4096 + length (keys into.columns entered) * group_width into)) + octets)
+              (less (table_octets (kept_by (query_of given.source.parts)) tables (placed (query_of given.source.parts))) (4096 + length (keys given.source.group.columns rows) * group_width given.source.group) (group_octets query planned) (4096 + length (keys into.columns entered) * group_width into) (distinct_octets (length query.items) behind) octets (length (once behind) * row_size (length query.items)) first_octets second_octets few_octets))
             where
               less : (j a p b d o r : ℕ) → a ≤ p → b ≡ d → o ≤ r → j + ((a + b) + o) ≤ ((j + p) + d) + r
               less j a p b d o r e f h = omega (arith, e, f, h)
@@ -362,34 +319,32 @@ module _ (row_is : (row other : List Val) → is_same_row row other ≡ true →
           again_behind : walked_of (distinct_grouping (shown query)) entered ≡ record { rows = once entered; codes = [] }
           again_behind = behind_once (shown query) whole.some_item entered entered_long
 
-          again_stored : AllByRecursion (λ (k : List Val). AreStored key_again k) (keys into.columns entered)
+          again_stored : AllByRecursion (λ (k : List Val). AreStored (key_from 0 (distinct_columns 0 query.items)) k) (keys into.columns entered)
           again_stored =
-              subst (AllByRecursion (λ (k : List Val). AreStored key_again k)) (sym keys_once)
-              (subst (λ (cs : List ReadColumn). AllByRecursion (λ (k : List Val). AreStored cs k) (once entered)) (sym key_again_is)
+              subst (AllByRecursion (λ (k : List Val). AreStored (key_from 0 (distinct_columns 0 query.items)) k)) (sym keys_once)
               (all_more (λ (row : List Val). AllZip (λ (e : Expression) (v : Val). IsHeld (widest (kind_of e)) false v) query.items row) (λ (k : List Val). AreStored (key_from 0 (distinct_columns 0 query.items)) k) (once entered)
               (λ k h. stored_row 0 0 query.items k h)
-              (all_once (λ (row : List Val). AllZip (λ (e : Expression) (v : Val). IsHeld (widest (kind_of e)) false v) query.items row) entered entered_held)))
+              (all_once (λ (row : List Val). AllZip (λ (e : Expression) (v : Val). IsHeld (widest (kind_of e)) false v) query.items row) entered entered_held))
 
-          again_typed : AllByRecursion (λ (k : List Val). (vs : List Val) → function_values (length key_again) (functions_of values_again) (members into.columns k entered) ≡ Ok vs → AreRead values_again vs) (keys into.columns entered)
-          again_typed =
-              subst (λ (cs : List ValueColumn). AllByRecursion (λ (k : List Val). (vs : List Val) → function_values (length key_again) (functions_of cs) (members into.columns k entered) ≡ Ok vs → AreRead cs vs) (keys into.columns entered)) (sym values_again_are) (each_one (keys into.columns entered))
+          again_typed : AllByRecursion (λ (k : List Val). (vs : List Val) → function_values (length (key_from 0 (distinct_columns 0 query.items))) (functions_of []) (members into.columns k entered) ≡ Ok vs → AreRead [] vs) (keys into.columns entered)
+          again_typed = each_one (keys into.columns entered)
             where
-              each_one : (ks : List (List Val)) → AllByRecursion (λ (k : List Val). (vs : List Val) → function_values (length key_again) (functions_of []) (members into.columns k entered) ≡ Ok vs → AreRead [] vs) ks
+              each_one : (ks : List (List Val)) → AllByRecursion (λ (k : List Val). (vs : List Val) → function_values (length (key_from 0 (distinct_columns 0 query.items))) (functions_of []) (members into.columns k entered) ≡ Ok vs → AreRead [] vs) ks
               each_one [] = tt
               each_one (k ∷ ks) = (no_values, each_one ks)
 
-          again_cost : 1025 + spend (λ (k : List Val). most_read (functions_of values_again) + by_result (function_values (length key_again) (functions_of values_again) (members into.columns k entered)) (λ vs. cost [] (filter again.having ∷ []) (select again.items) (k ++ vs))) (keys into.columns entered) ≤ N
+          again_cost : 1025 + spend (λ (k : List Val). most_read (functions_of []) + by_result (function_values (length (key_from 0 (distinct_columns 0 query.items))) (functions_of []) (members into.columns k entered)) (λ vs. cost [] (filter again.having ∷ []) (select again.items) (k ++ vs))) (keys into.columns entered) ≤ N
           again_cost =
               let m : ℕ = length (distinct_columns 0 query.items) in
-              let place : length key_again ≡ m = together_again.key_many ∙ together_again.many in
-              let functions : functions_of values_again ≡ [] = together_again.theirs ∙ together_again.functions in
+              let place : length (key_from 0 (distinct_columns 0 query.items)) ≡ m = together_again.key_many ∙ together_again.many in
+              let functions : functions_of [] ≡ [] = together_again.theirs ∙ together_again.functions in
               let some_again : 1 ≤ m = (let many = columns_many 0 query.items in let has = whole.some_item in omega (arith, many, has)) in
               let all = groups_within again entered some_again (most_read []) (read_less []) in
-              subst (λ (c : ℕ). 1025 + spend (λ (k : List Val). most_read (functions_of values_again) + by_result (function_values (length key_again) (functions_of values_again) (members c k entered)) (λ vs. cost [] (filter again.having ∷ []) (select again.items) (k ++ vs))) (keys c entered) ≤ N) (sym together_again.many)
-              (subst (λ (l : ℕ). 1025 + spend (λ (k : List Val). most_read (functions_of values_again) + by_result (function_values l (functions_of values_again) (members m k entered)) (λ vs. cost [] (filter again.having ∷ []) (select again.items) (k ++ vs))) (keys m entered) ≤ N) (sym place)
+              subst (λ (c : ℕ). 1025 + spend (λ (k : List Val). most_read (functions_of []) + by_result (function_values (length (key_from 0 (distinct_columns 0 query.items))) (functions_of []) (members c k entered)) (λ vs. cost [] (filter again.having ∷ []) (select again.items) (k ++ vs))) (keys c entered) ≤ N) (sym together_again.many)
+              (subst (λ (l : ℕ). 1025 + spend (λ (k : List Val). most_read (functions_of []) + by_result (function_values l (functions_of []) (members m k entered)) (λ vs. cost [] (filter again.having ∷ []) (select again.items) (k ++ vs))) (keys m entered) ≤ N) (sym place)
               (subst (λ (fs : List SetFunctionKind). 1025 + spend (λ (k : List Val). most_read fs + by_result (function_values m fs (members m k entered)) (λ vs. cost [] (filter again.having ∷ []) (select again.items) (k ++ vs))) (keys m entered) ≤ N) (sym functions)
               (more (spend (λ (k : List Val). most_read [] + by_result (function_values m [] (members m k entered)) (λ vs. cost [] (filter again.having ∷ []) (select again.items) (k ++ vs))) (keys m entered)) (group_units general_hashing again entered) (distinct_units general_hashing entered) (distinct_units general_hashing behind)
-              (units spec tables) (group_units general_hashing query planned) all (units_once (shown query) whole.some_item entered entered_long general_hashing) second_units)))
+              (units (query_of given.source.parts) tables) (group_units general_hashing query planned) all (units_once (shown query) whole.some_item entered entered_long general_hashing) second_units)))
             where
               more : (s f d e u q : ℕ) → 1025 + s ≤ 1 + f → f ≡ d → d ≡ e → 1025 + s ≤ 1 + ((u + q) + e)
               more s f d e u q a b c = omega (arith, a, b, c)
@@ -403,10 +358,10 @@ module _ (row_is : (row other : List Val) → is_same_row row other ≡ true →
               fit : (a q m : ℕ) → a ≡ q → 8 + 16 * q ≤ m → m ≤ 24216 → 8 + 16 * a + (page - m) ≤ page
               fit a q m e b c = omega (arith, e, b, c)
 
-          again_octets : length (walked_of again entered).rows * (8 + 16 * length again.items) ≡ length (once (rows_behind query (planned_rows (query_of parts) tables))) * row_size (length query.items)
+          again_octets : length (walked_of again entered).rows * (8 + 16 * length again.items) ≡ length (once (rows_behind query (planned_rows (query_of given.source.parts) tables))) * row_size (length query.items)
           again_octets = ap₂ (λ (k w : ℕ). k * (8 + 16 * w)) (ap (λ (f : Flow (List Val)). length f.rows) again_behind ∙ once_many) again_cells
 
-          again_reach : WalkReach again into key_again values_again given_up_distinct M N entered (groups_paid given_up_distinct into (groups_paid given_up_distinct g before rows) entered)
+          again_reach : WalkReach again into (key_from 0 (distinct_columns 0 query.items)) [] given_up_distinct M N entered (groups_paid given_up_distinct into (groups_paid given_up_distinct given.source.group before rows) entered)
           again_reach = record {
             stored = again_stored;
             typed = again_typed;
@@ -420,31 +375,31 @@ module _ (row_is : (row other : List Val) → is_same_row row other ≡ true →
 
         -- ---- the walk into it
         abbrev entries : List Val → ℕ
-        entries row = length (in_slot slot (slot (key_of into.columns row)) (keys into.columns (walked_of (replaced query having items) (fed_over tables stoods cut.last).rows).rows))
+        entries row = length (in_slot slot (slot (key_of into.columns row)) (keys into.columns (walked_of (folded_query given) (fed_over tables stoods given.source.last).rows).rows))
 
         abbrev chosen : List Val → ℕ
-        chosen row = chosen_units into.columns into.functions (walked_of (replaced query having items) (fed_over tables stoods cut.last).rows).rows row
+        chosen row = chosen_units into.columns into.functions (walked_of (folded_query given) (fed_over tables stoods given.source.last).rows).rows row
 
-        enter_cost : 1025 + spend (λ (k : List Val). most_read (functions_of values) + by_result (function_values (length key) (functions_of values) (members g.columns k rows)) (λ vs. cost_to into.values (turn_of into entries chosen) [] (filter having ∷ []) (k ++ vs))) (keys g.columns rows) ≤ N
+        enter_cost : 1025 + spend (λ (k : List Val). most_read (functions_of (value_columns query)) + by_result (function_values (length (key_columns query)) (functions_of (value_columns query)) (members given.source.group.columns k rows)) (λ vs. cost_to into.values (turn_of into entries chosen) [] (filter given.behind_is.having ∷ []) (k ++ vs))) (keys given.source.group.columns rows) ≤ N
         enter_cost =
-            let place : length key ≡ n = together.key_many ∙ together.many in
-            let functions : functions_of values ≡ kinds = together.theirs ∙ together.functions in
+            let place : length (key_columns query) ≡ n = together.key_many ∙ together.many in
+            let functions : functions_of (value_columns query) ≡ kinds = together.theirs ∙ together.functions in
             let less = enters_less folded (turn_of into entries chosen) rows some (most_read kinds) in
             let all = groups_within folded rows some (most_read kinds) (read_less kinds) in
             let turns = turns_once (shown query) whole.some_item W W_long into.columns into.functions together_again.many together_again.functions in
-            subst (λ (c : ℕ). 1025 + spend (λ (k : List Val). most_read (functions_of values) + by_result (function_values (length key) (functions_of values) (members c k rows)) (λ vs. cost_to into.values (turn_of into entries chosen) [] (filter having ∷ []) (k ++ vs))) (keys c rows) ≤ N) (sym together.many)
-            (subst (λ (m : ℕ). 1025 + spend (λ (k : List Val). most_read (functions_of values) + by_result (function_values m (functions_of values) (members n k rows)) (λ vs. cost_to into.values (turn_of into entries chosen) [] (filter having ∷ []) (k ++ vs))) (keys n rows) ≤ N) (sym place)
-            (subst (λ (fs : List SetFunctionKind). 1025 + spend (λ (k : List Val). most_read fs + by_result (function_values n fs (members n k rows)) (λ vs. cost_to into.values (turn_of into entries chosen) [] (filter having ∷ []) (k ++ vs))) (keys n rows) ≤ N) (sym functions)
-            (subst (λ (es : List Expression). 1025 + spend (λ (k : List Val). most_read kinds + by_result (function_values n kinds (members n k rows)) (λ vs. cost_to es (turn_of into entries chosen) [] (filter having ∷ []) (k ++ vs))) (keys n rows) ≤ N) (sym into_values)
-            (summed (spend (λ (k : List Val). most_read kinds + by_result (function_values n kinds (members n k rows)) (λ vs. cost_to items (turn_of into entries chosen) [] (filter having ∷ []) (k ++ vs))) (keys n rows))
-            (spend (λ (k : List Val). most_read kinds + by_result (function_values n kinds (members n k rows)) (λ vs. cost [] (filter having ∷ []) (select items) (k ++ vs))) (keys n rows))
-            (total (turn_of into entries chosen) W) (group_units general_hashing folded rows) (group_units general_hashing query planned) (distinct_units general_hashing W) (distinct_units general_hashing behind) (units spec tables)
+            subst (λ (c : ℕ). 1025 + spend (λ (k : List Val). most_read (functions_of (value_columns query)) + by_result (function_values (length (key_columns query)) (functions_of (value_columns query)) (members c k rows)) (λ vs. cost_to into.values (turn_of into entries chosen) [] (filter given.behind_is.having ∷ []) (k ++ vs))) (keys c rows) ≤ N) (sym together.many)
+            (subst (λ (m : ℕ). 1025 + spend (λ (k : List Val). most_read (functions_of (value_columns query)) + by_result (function_values m (functions_of (value_columns query)) (members n k rows)) (λ vs. cost_to into.values (turn_of into entries chosen) [] (filter given.behind_is.having ∷ []) (k ++ vs))) (keys n rows) ≤ N) (sym place)
+            (subst (λ (fs : List SetFunctionKind). 1025 + spend (λ (k : List Val). most_read fs + by_result (function_values n fs (members n k rows)) (λ vs. cost_to into.values (turn_of into entries chosen) [] (filter given.behind_is.having ∷ []) (k ++ vs))) (keys n rows) ≤ N) (sym functions)
+            (subst (λ (es : List Expression). 1025 + spend (λ (k : List Val). most_read kinds + by_result (function_values n kinds (members n k rows)) (λ vs. cost_to es (turn_of into entries chosen) [] (filter given.behind_is.having ∷ []) (k ++ vs))) (keys n rows) ≤ N) (sym into_values)
+            (summed (spend (λ (k : List Val). most_read kinds + by_result (function_values n kinds (members n k rows)) (λ vs. cost_to given.behind_is.items (turn_of into entries chosen) [] (filter given.behind_is.having ∷ []) (k ++ vs))) (keys n rows))
+            (spend (λ (k : List Val). most_read kinds + by_result (function_values n kinds (members n k rows)) (λ vs. cost [] (filter given.behind_is.having ∷ []) (select given.behind_is.items) (k ++ vs))) (keys n rows))
+            (total (turn_of into entries chosen) W) (group_units general_hashing folded rows) (group_units general_hashing query planned) (distinct_units general_hashing W) (distinct_units general_hashing behind) (units (query_of given.source.parts) tables)
             less all (units_few rows by_planned) turns (second_units W (IsPermutation-refl W))))))
           where
             summed : (a s t f q d e u : ℕ) → a ≤ s + t → 1025 + s ≤ 1 + f → f ≤ q → t ≤ d → d ≡ e → 1025 + a ≤ 1 + ((u + q) + e)
             summed a s t f q d e u i h l m p = omega (arith, i, h, l, m, p)
 
-        enter_reach : EnterReach folded g key values into given_up_distinct M N rows (groups_paid given_up_distinct g before rows)
+        enter_reach : EnterReach folded given.source.group (key_columns query) (value_columns query) into given_up_distinct M N rows (groups_paid given_up_distinct given.source.group before rows)
         enter_reach = record {
           stored = keys_there;
           typed = values_there;
@@ -460,33 +415,29 @@ module _ (row_is : (row other : List Val) → is_same_row row other ≡ true →
 
       -- ---- all of it
       abbrev IsKept : (most N : ℕ) → Type 0
-      IsKept most_pages most_units = IsDistinctBounded T (literal_count texts words) columns texts words at (table_of (entries_of (query_of parts).sources)) cut.building cut.last (replaced query having items) g key values
-          (distinct_grouping (shown query)) into key_again values_again (λ raised. IsTold (whole_outcome (asked_distinct query) tables) raised) given_up_distinct most_pages most_units tables
+      IsKept most_pages most_units = IsDistinctBounded T (front_count given.source) given.source.columns (texts_of_grouped parts) (front_words given.source) (front_at given.source) (table_of (entries_of (query_of given.source.parts).sources)) given.source.building given.source.last (folded_query given) given.source.group (key_columns query) (value_columns query)
+          (distinct_grouping (shown query)) into (key_from 0 (distinct_columns 0 query.items)) [] (λ raised. IsTold (whole_outcome (asked_distinct query) tables) raised) given_up_distinct most_pages most_units tables
 
-      bounded : IsKept M N
-      bounded = record {
+      pub once_kept : IsKept (whole_pages (asked_distinct query) tables) (1 + whole_units (asked_distinct query) tables)
+      once_kept = subst₂ IsKept pages_are units_are (record {
         some = omega arith;
         u_low = omega arith;
-        budget = λ i. budget given_up_distinct tables cut.building i;
-        reached = reached_by;
-        told = told_by;
+        budget = λ i. budget given_up_distinct tables given.source.building i;
+        reached = builds_reach row_is value_is given.source widest_stored widest_low rows_fit (omega arith) T room tables (loaded_front given tables loaded) (group_units general_hashing query planned) (group_octets query planned) S 2 N (omega arith) (omega arith);
+        told = builds_told row_is value_is given.source widest_stored widest_low rows_fit (omega arith) T room tables (loaded_front given tables loaded) (group_units general_hashing query planned) (group_octets query planned) S 2 N (omega arith) (omega arith) Told told_front;
         gathered = λ stoods stood. gathers stoods stood;
-        told_gathered = told_gather;
+        told_gathered = last_told row_is value_is given.source widest_stored widest_low rows_fit (omega arith) T room tables (loaded_front given tables loaded) (group_units general_hashing query planned) (group_octets query planned) S 2 N (omega arith) (omega arith) Told told_front;
         entered = λ stoods stood none. enter_reach stoods stood;
-        told_entered = λ stoods stood none raised tells. told_walk (fed_over tables stoods cut.last) (alike_flow stoods stood) none raised tells;
+        told_entered = λ stoods stood none raised tells. told_walk (fed_over tables stoods given.source.last) (alike_flow stoods stood) none raised tells;
         walked = λ stoods stood none over entered from. again_reach stoods stood entered from;
         told_walked = λ stoods stood none over entered from raised tells. again_told stoods stood entered from raised tells;
-      }
-
-      pub once_kept : IsDistinctBounded T (literal_count texts words) columns texts words at (table_of (entries_of (query_of parts).sources)) cut.building cut.last (replaced query having items) g key values
-          (distinct_grouping (shown query)) into key_again values_again (λ raised. IsTold (whole_outcome (asked_distinct query) tables) raised) given_up_distinct (whole_pages (asked_distinct query) tables) (1 + whole_units (asked_distinct query) tables) tables
-      once_kept = subst (λ (m : ℕ). IsKept m (1 + whole_units (asked_distinct query) tables)) pages_are (subst (λ (w : ℕ). IsKept M w) units_are bounded)
+      })
 
       -- the rows of the second walk are the query's
-      pub once_rows : (stoods : List Stood) → AreStood tables [] cut.building stoods → (fed_over tables stoods cut.last).codes ≡ [] → (walked_of (replaced query having items) (fed_over tables stoods cut.last).rows).codes ≡ [] →
-          (entered : List (List Val)) → IsPermutation entered (walked_of (replaced query having items) (fed_over tables stoods cut.last).rows).rows →
+      pub once_rows : (stoods : List Stood) → AreStood tables [] given.source.building stoods → (fed_over tables stoods given.source.last).codes ≡ [] → (walked_of (folded_query given) (fed_over tables stoods given.source.last).rows).codes ≡ [] →
+          (entered : List (List Val)) → IsPermutation entered (walked_of (folded_query given) (fed_over tables stoods given.source.last).rows).rows →
           IsSameOutcome (whole_outcome (asked_distinct query) tables) (Rows (walked_of (distinct_grouping (shown query)) entered).rows)
       once_rows stoods stood none over entered from =
-          let same = walked_rows row_is value_is parts kept columns made are of cut query whole front_is T at texts words g key values having items together last_is key_is values_are same_behind same_units same_items utf8 can can_last tables loaded few stoods stood none over in
+          let same = walked_rows row_is value_is parts whole given tables loaded stoods stood none over in
           subst (λ (f : Flow (List Val)). IsSameOutcome (whole_outcome (asked_distinct query) tables) (Rows f.rows)) (sym (again_behind stoods stood entered from))
           (same_once (grouped_flow query tables).rows (W stoods stood) entered (grouped_flow query tables).codes same from)
