@@ -119,6 +119,4 @@ module _ {memory : Octets} {seats : List Seat} {i : ℕ} {seat : Seat} (sits : S
       by_end : (o : Option Ended) → (IsSome o → result ≡ 0) → (o ≡ None → 1 ≤ result) → (result ≡ 0) ↔ IsSome (end_of o)
       by_end None over progress = (λ none. absurd (omega (arith, progress refl, none)), λ h. absurd (cc h))
       by_end (Some ended.Done) over progress = (λ none. refl, λ h. over refl)
-      by_end (Some (ended.Raised one)) over progress = (λ none. refl, λ h. over refl)
-      by_end (Some (ended.Pages held asked limit)) over progress = (λ none. refl, λ h. over refl)
-      by_end (Some (ended.Steps limit)) over progress = (λ none. refl, λ h. over refl)
+      by_end _ over progress = (λ none. refl, λ h. over refl)

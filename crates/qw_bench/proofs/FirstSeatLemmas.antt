@@ -9,7 +9,7 @@ use Rattle.qw_linear.specs.Linear.{Octets}
 use Rattle.qw_linear.specs.Memory.{page, AreOctets, SameBelow}
 use Rattle.qw_linear.proofs.MemoryFacts.{number_at-same}
 use Rattle.qw_module.specs.declared.module.Module.{Module}
-use Rattle.qw_module.specs.Syntax.{Code, done, op, unreachable, block, loop, if_then, if_else, br, br_if, br_table, return, call, code_of}
+use Rattle.qw_module.specs.Syntax.{Code, done, code_of}
 use Rattle.qw_module.specs.Execution.{Store, State, Running, Returned, Raised, Trapped, label, settled}
 use Rattle.qw_module.specs.Start.{begun, body_of}
 use Rattle.qw_machine.specs.declared.stepped.Stepped.{Stepped}
@@ -28,7 +28,7 @@ use Rattle.qw_bench.specs.declared.bench.Seat.{Seat}
 use Rattle.qw_bench.specs.Bench.{ArePlaced, Program}
 use Rattle.qw_bench.specs.FirstPage.{HasAddresses}
 use Rattle.qw_bench.specs.Standing.{end_of}
-use Rattle.qw_bench.specs.Inner.FirstSeats.{AreFirstSeats, IsAddressable, IsFirstSeat}
+use Rattle.qw_bench.specs.Inner.FirstSeats.{IsAddressable, IsFirstSeat}
 use Rattle.qw_bench.specs.Inner.Seats.{IsEndOf}
 use Rattle.qw_bench.proofs.FirstPages.{entry-same}
 use Rattle.qw_bench.proofs.LayoutLemmas.{all-get, has-table}
@@ -37,14 +37,9 @@ use Rattle.qw_bench.proofs.LayoutLemmas.{all-get, has-table}
 -- it is the one at its state
 pub end-first : (seat : Seat) (s : State) (o : Option Ended) (w : World) (most : ℕ) → 1 ≤ most → ((code : ℕ) → s ≢ Raised code) → IsEndOf seat s o → end_of o ≡ end_at s w 0 most
 end-first seat (Running c) None w most some none h = let below : nat_le most 0 ≡ false = lt-leb most 0 (omega arith) in rw below refl
-end-first seat (Running c) (Some e) w most some none h = absurd h
-end-first seat Returned None w most some none h = absurd h
 end-first seat Returned (Some ended.Done) w most some none h = refl
-end-first seat Returned (Some (ended.Raised one)) w most some none h = absurd h
-end-first seat Returned (Some (ended.Pages held asked limit)) w most some none h = absurd h
-end-first seat Returned (Some (ended.Steps limit)) w most some none h = absurd h
 end-first seat (Raised code) o w most some none h = absurd (none code refl)
-end-first seat (Trapped why) o w most some none h = absurd h
+end-first seat _ _ w most some none h = absurd h
 
 -- a call begins as a run, or has returned where its body has no instructions
 abbrev pub IsBegun : State → Type 0
@@ -55,17 +50,7 @@ IsBegun (Trapped why) = ⊥
 
 begun-by : (store : Store) (locals : List ℕ) (code : Code) → IsBegun (settled store (label done 0 [] done ∷ []) code [] locals)
 begun-by store locals done = tt
-begun-by store locals (op o rest) = tt
-begun-by store locals (unreachable rest) = tt
-begun-by store locals (block result inner rest) = tt
-begun-by store locals (loop result inner rest) = tt
-begun-by store locals (if_then result inner rest) = tt
-begun-by store locals (if_else result inner other rest) = tt
-begun-by store locals (br index rest) = tt
-begun-by store locals (br_if index rest) = tt
-begun-by store locals (br_table labels default rest) = tt
-begun-by store locals (return rest) = tt
-begun-by store locals (call index rest) = tt
+begun-by store locals _ = tt
 
 pub begun-is : (program : Module) (number d : ℕ) → IsBegun (begun program number d)
 begun-is program number d = begun-by _ _ (code_of (body_of program number))
@@ -74,12 +59,8 @@ pub not-raised : (s : State) → IsBegun s → (code : ℕ) → s ≢ Raised cod
 not-raised s begins code is = subst IsBegun is begins
 
 last-returned : (last : Stepped) → IsLast last Returned → last ≡ came.Returned
-last-returned Ran h = absurd h
-last-returned (came.Grew at pages) h = absurd h
-last-returned (came.Refused pages) h = absurd h
 last-returned came.Returned h = refl
-last-returned (came.Raised code) h = absurd h
-last-returned (came.Trapped why) h = absurd h
+last-returned _ h = absurd h
 
 -- the end that is set by what is told of the state
 pub end-begun : (seat : Seat) (last : Stepped) (s : State) → IsBegun s → IsLast last s →
@@ -148,17 +129,6 @@ pub record AreSoFar (map : List (List Placed)) (m0 m : Octets) (programs : List 
   pub octets : AreOctets m0.octets → AreOctets m.octets
   pub reserved : m.reserved ≡ m0.reserved
 
-pub so-far-none : (map : List (List Placed)) (m0 : Octets) (programs : List Program) (limits : List Limits) (seats : List Seat) → seats ≡ [] →
-    AreSoFar map m0 m0 programs limits seats 0
-so-far-none map m0 programs limits seats none = record {
-  many = ap length none;
-  long = omega arith;
-  each = λ k program one seat there found sits. absurd (none-some seat (rw none at sits));
-  below = λ k low. refl;
-  octets = λ are. are;
-  reserved = refl;
-}
-
 -- an element of a list with one more is one of before, or the last
 get-push : {A : Type 0} (xs : List A) (x y : A) (k : ℕ) → slice_get (xs ++ x ∷ []) k ≡ Some y → (slice_get xs k ≡ Some y) ⊎ ((k ≡ length xs) × (x ≡ y))
 get-push [] x y zero found = inr (refl, same_Some x y found)
@@ -188,8 +158,3 @@ so-far-more map m0 m m1 programs limits seats after n program one x at_program a
   octets = λ are. octets (h.octets are);
   reserved = reserved ∙ h.reserved;
 }
-
--- all of them
-pub first-seats : (map : List (List Placed)) (m0 m : Octets) (programs : List Program) (limits : List Limits) (seats : List Seat) (n : ℕ) → n ≡ length programs →
-    AreSoFar map m0 m programs limits seats n → AreFirstSeats map m.octets (length m0.octets) programs limits seats
-first-seats map m0 m programs limits seats n all h = record { many = h.many ∙ all; each = h.each }

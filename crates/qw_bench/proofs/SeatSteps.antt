@@ -10,12 +10,12 @@ use Rattle.qw_machine.specs.declared.stepped.Stepped.TheVariants.{Ran, Grew, Ref
 use Rattle.qw_machine.specs.declared.stepped.Stepped.TheVariants as came
 use Rattle.qw_machine.specs.Instance.{Called, IsAnswer, IsNoRequest, Went}
 use Rattle.qw_module.specs.declared.trap.Trap.{Trap}
-use Rattle.qw_module.specs.Execution.{Config, State, Running, Returned, Raised, Trapped, Event, Silent, Loads, Stores, Grows, Raises, Traps, pages_gained}
-use Rattle.qw_module.specs.Step.{Next, next, Want, Stuck, Goes, Asks, Puts, Measures, AsksPages, Signals, Fails, answered, wants}
+use Rattle.qw_module.specs.Execution.{Config, State, Running, Returned, Raised, Trapped, Event, Silent, Grows, pages_gained}
+use Rattle.qw_module.specs.Step.{Next, next, Want, AsksPages, answered, wants}
 use Rattle.qw_map.specs.Areas.{Area, World, granted_area, grants, world_after}
 use Rattle.qw_map.specs.Turns.{Done, Common, IsWhole, steps_of, moved, end_at, end_of_raise, end_of_refusal}
 use Rattle.qw_map.specs.Turns as t
-use Rattle.qw_module.proofs.Outcomes.{Outcome, outcome, went, read, read_outside, put, put_outside, measured, was_granted, was_refused, raised, failed}
+use Rattle.qw_module.proofs.Outcomes.{Outcome, outcome, was_granted}
 use Rattle.qw_module.proofs.Sound.{length_grows}
 use Rattle.qw_map.proofs.TurnSteps.{steps_of-added, steps_of-ended, unended-runs}
 use Rattle.qw_bench.specs.declared.bench.Ended.{Ended}
@@ -29,14 +29,8 @@ use Rattle.qw_types.specs.declared.code.Code.TheVariants.{DivZero, OutOfRange}
 -- ---- what a step can be told to have done
 -- tests that agree grant the same requests
 answered-alike : (g h : ℕ → Bool) (m : List ℕ) (want : Want) → ((pages : ℕ) → g pages ≡ h pages) → answered g m want ≡ answered h m want
-answered-alike g h m Stuck same = refl
-answered-alike g h m (Goes s) same = refl
-answered-alike g h m (Asks address width make) same = refl
-answered-alike g h m (Puts address width value s) same = refl
-answered-alike g h m (Measures make) same = refl
 answered-alike g h m (AsksPages pages make) same = rw (same pages) refl
-answered-alike g h m (Signals code) same = refl
-answered-alike g h m (Fails why) same = refl
+answered-alike g h m _ same = refl
 
 -- what is left below a limit is enough exactly where the sum is within the limit
 spare-grants : (w : World) (pages : ℕ) → w.held ≤ w.limit → nat_le pages (w.limit - w.held) ≡ grants w pages
@@ -57,50 +51,26 @@ IsGranted g (Grows pages true) = g pages ≡ true
 IsGranted g _ = Unit {0}
 
 granted : (g : ℕ → Bool) (m : List ℕ) (want : Want) (n : Next) → Outcome g m want n → IsGranted g n.event
-granted _ _ _ _ (went g m s) = tt
-granted _ _ _ _ (read g m address width make inside) = tt
-granted _ _ _ _ (read_outside g m address width make outside) = tt
-granted _ _ _ _ (put g m address width value s inside) = tt
-granted _ _ _ _ (put_outside g m address width value s outside) = tt
-granted _ _ _ _ (measured g m make) = tt
 granted _ _ _ _ (was_granted g m pages make is fits) = is
-granted _ _ _ _ (was_refused g m pages make is) = tt
-granted _ _ _ _ (raised g m code) = tt
-granted _ _ _ _ (failed g m why) = tt
+granted _ _ _ _ _ = tt
 
 -- what is no request changes neither what an instance has nor the memory's size
 stays-without : (w : World) (m : List ℕ) (e : Event) → IsNoRequest e → (world_after w m e ≡ w) × (pages_gained e ≡ 0)
-stays-without w m Silent none = (refl, refl)
-stays-without w m (Loads address width) none = (refl, refl)
-stays-without w m (Stores address width) none = (refl, refl)
 stays-without w m (Grows pages given) none = absurd none
-stays-without w m (Raises code) none = (refl, refl)
-stays-without w m (Traps why) none = (refl, refl)
+stays-without w m _ none = (refl, refl)
 
 -- where an instance ended, its last step was no request
 ends-without : (w : World) (e : Event) → CanBeTold w e Returned → IsNoRequest e
-ends-without w Silent told = tt
-ends-without w (Loads address width) told = tt
-ends-without w (Stores address width) told = tt
 ends-without w (Grows pages given) told = absurd told
-ends-without w (Raises code) told = tt
-ends-without w (Traps why) told = tt
+ends-without w _ told = tt
 
 raises-after : (w : World) (e : Event) (code : ℕ) → CanBeTold w e (Raised code) → IsNoRequest e × IsRaised w.refused code
-raises-after w Silent code told = (tt, told)
-raises-after w (Loads address width) code told = (tt, told)
-raises-after w (Stores address width) code told = (tt, told)
 raises-after w (Grows pages given) code told = absurd told
-raises-after w (Raises raised') code told = (tt, told)
-raises-after w (Traps why) code told = (tt, told)
+raises-after w _ code told = (tt, told)
 
 never-trapped : (w : World) (e : Event) (why : Trap) → CanBeTold w e (Trapped why) → ⊥
 never-trapped w Silent why told = told
-never-trapped w (Loads address width) why told = told
-never-trapped w (Stores address width) why told = told
-never-trapped w (Grows pages given) why told = told
-never-trapped w (Raises code) why told = told
-never-trapped w (Traps because) why told = told
+never-trapped w _ why told = told
 
 -- an instance that raised a code has ended
 raise-ends : (w : World) (code : ℕ) → IsRaised w.refused code → IsSome (end_of_raise code w)
@@ -153,9 +123,7 @@ pub record HasRun (before : Seat) (m0 : Octets) (k : ℕ) (now : Seat) (memory :
 -- a state that has no end runs
 pub running : (seat : Seat) (s : State) → IsEndOf seat s None → (c : Config) × (s ≡ Running c)
 running seat (Running c) h = (c, refl)
-running seat Returned h = absurd h
-running seat (Raised code) h = absurd h
-running seat (Trapped why) h = absurd h
+running seat _ h = absurd h
 
 -- a seat within its budget is within its limit
 pub within-limit : (before : Seat) (m0 : Octets) (k ran budget : ℕ) (now : Seat) (memory : Octets) → HasRun before m0 k now memory → ran ≤ budget →
@@ -239,22 +207,16 @@ module _ {before : Seat} {m0 : Octets} {k : ℕ} {now : Seat} {memory : Octets} 
     where
       plainly : (s : State) → IsAnswer Ran memory.octets step.event s → IsNoRequest step.event × IsEndOf (record now { instance = i }) s None
       plainly (Running c) h = (h, tt)
-      plainly Returned h = absurd h
-      plainly (Raised code) h = absurd h
-      plainly (Trapped why) h = absurd h
+      plainly _ h = absurd h
 
   -- a request was granted, or refused, and the run goes on
   grew : (at pages : ℕ) (s : State) → IsAnswer (Grew at pages) memory.octets step.event s → (step.event ≡ Grows pages true) × ((c : Config) × (s ≡ Running c))
   grew at pages (Running c) h = (h.0, (c, refl))
-  grew at pages Returned h = absurd h
-  grew at pages (Raised code) h = absurd h
-  grew at pages (Trapped why) h = absurd h
+  grew at pages _ h = absurd h
 
   refused : (pages : ℕ) (s : State) → IsAnswer (Refused pages) memory.octets step.event s → (step.event ≡ Grows pages false) × ((c : Config) × (s ≡ Running c))
   refused pages (Running c) h = (h, (c, refl))
-  refused pages Returned h = absurd h
-  refused pages (Raised code) h = absurd h
-  refused pages (Trapped why) h = absurd h
+  refused pages _ h = absurd h
 
   -- what a granted request comes to
   pub record HasGrown (pages : ℕ) : Type 0 where
@@ -358,24 +320,20 @@ module _ {before : Seat} {m0 : Octets} {k : ℕ} {now : Seat} {memory : Octets} 
   raises budget code within is = by_state new_state refl (subst (λ (a : Stepped). IsAnswer a memory.octets step.event new_state) is step.answered)
     where
       by_state : (s : State) → new_state ≡ s → IsAnswer (came.Raised code) memory.octets step.event s → HasRaised budget code
-      by_state (Running c) s_is h = absurd h
-      by_state Returned s_is h = absurd h
       by_state (Raised other) s_is h =
           let told = raises-after (world_of now) step.event other (subst (CanBeTold (world_of now) step.event) s_is step.told) in
           let state_is : new_state ≡ Raised code = s_is ∙ ap Raised (sym h) in
           let raised : IsRaised now.refused code = subst (IsRaised now.refused) (sym h) told.1 in
           record { ended = ended-at budget within told.0 (rw state_is (raise-ends (world_of now) code raised)); state_is = state_is; raised = raised }
-      by_state (Trapped why) s_is h = absurd h
+      by_state _ s_is h = absurd h
 
   -- and none traps
   pub untrapped : (why : Trap) → answer ≡ came.Trapped why → ⊥
   untrapped why is = by_state new_state refl (subst (λ (a : Stepped). IsAnswer a memory.octets step.event new_state) is step.answered)
     where
       by_state : (s : State) → new_state ≡ s → IsAnswer (came.Trapped why) memory.octets step.event s → ⊥
-      by_state (Running c) s_is h = h
-      by_state Returned s_is h = h
-      by_state (Raised code) s_is h = h
       by_state (Trapped because) s_is h = never-trapped (world_of now) step.event because (subst (CanBeTold (world_of now) step.event) s_is step.told)
+      by_state _ s_is h = h
 
 -- the end of a seat depends on what it holds and may hold
 pub end-kept : (seat after : Seat) (s s' : State) (o : Option Ended) → seat.refused ≡ after.refused → seat.held ≡ after.held → seat.limits.pages ≡ after.limits.pages →
@@ -384,18 +342,10 @@ end-kept seat after s s' o refused held limit same h = subst (λ (x : State). Is
   where
     by_end : (x : State) (e : Option Ended) → IsEndOf seat x e → IsEndOf after x e
     by_end (Running c) None h = h
-    by_end (Running c) (Some e) h = absurd h
-    by_end Returned None h = absurd h
     by_end Returned (Some ended.Done) h = h
-    by_end Returned (Some (ended.Raised one)) h = absurd h
-    by_end Returned (Some (ended.Pages held asked limit)) h = absurd h
-    by_end Returned (Some (ended.Steps limit)) h = absurd h
-    by_end (Raised code) None h = absurd h
-    by_end (Raised code) (Some ended.Done) h = absurd h
     by_end (Raised code) (Some (ended.Raised one)) h = h
     by_end (Raised code) (Some (ended.Pages most asked few)) h = (h.0, sym refused ∙ h.1, h.2 ∙ held, h.3 ∙ limit)
-    by_end (Raised code) (Some (ended.Steps limit)) h = absurd h
-    by_end (Trapped why) o h = absurd h
+    by_end _ _ h = absurd h
 
 -- ---- a turn
 -- a whole instance counts from what it ran
@@ -405,11 +355,8 @@ counting-none seat whole =
     rw none (rw whole.end_is refl)
 
 pub is_some-end_of : (o : Option Ended) → is_some (end_of o) ≡ is_some o
-is_some-end_of None = refl
 is_some-end_of (Some ended.Done) = refl
-is_some-end_of (Some (ended.Raised one)) = refl
-is_some-end_of (Some (ended.Pages held asked limit)) = refl
-is_some-end_of (Some (ended.Steps limit)) = refl
+is_some-end_of _ = refl
 
 -- an instance that has ended takes no step
 pub turned-none : (seat : Seat) (m : Common) (quantum : ℕ) → is_some seat.ended ≡ true → (instance_of seat, m) ≡ steps_of quantum (instance_of seat) m
@@ -424,33 +371,20 @@ unended-seat seat whole none =
 -- the end that is set is the one at the state, but for the limit
 end-set : (seat : Seat) (s : State) (o : Option Ended) (ran most : ℕ) → IsEndOf seat s o → is_some o ≡ true →
     (end_of o ≡ end_at s (world_of seat) ran most) × (is_some (end_at s (world_of seat) ran most) ≡ true)
-end-set seat (Running c) (Some ended.Done) ran most h some = absurd h
-end-set seat (Running c) (Some (ended.Raised one)) ran most h some = absurd h
-end-set seat (Running c) (Some (ended.Pages held asked limit)) ran most h some = absurd h
-end-set seat (Running c) (Some (ended.Steps limit)) ran most h some = absurd h
 end-set seat (Running c) None ran most h some = cc
-end-set seat Returned None ran most h some = absurd h
 end-set seat Returned (Some ended.Done) ran most h some = (refl, refl)
-end-set seat Returned (Some (ended.Raised one)) ran most h some = absurd h
-end-set seat Returned (Some (ended.Pages held asked limit)) ran most h some = absurd h
-end-set seat Returned (Some (ended.Steps limit)) ran most h some = absurd h
-end-set seat (Raised code) None ran most h some = absurd h
-end-set seat (Raised code) (Some ended.Done) ran most h some = absurd h
 end-set seat (Raised code) (Some (ended.Raised DivZero)) ran most h some = rw h (refl, refl)
 end-set seat (Raised code) (Some (ended.Raised OutOfRange)) ran most h some = rw h (refl, refl)
 end-set seat (Raised code) (Some (ended.Pages held asked limit)) ran most h some = rw (h.0, h.1, h.2, h.3) (refl, refl)
-end-set seat (Raised code) (Some (ended.Steps limit)) ran most h some = absurd h
-end-set seat (Trapped why) o ran most h some = absurd h
+end-set seat _ _ ran most h some = absurd h
 
 end-unset : (seat : Seat) (s : State) (o : Option Ended) (ran most : ℕ) → IsEndOf seat s o → is_some o ≡ false →
     (o ≡ None) × (end_at s (world_of seat) ran most ≡ (if nat_le most ran then Some (t.Steps most) else None))
 end-unset seat (Running c) None ran most h none = (refl, refl)
-end-unset seat (Running c) (Some e) ran most h none = cc
 end-unset seat Returned None ran most h none = absurd h
-end-unset seat Returned (Some e) ran most h none = cc
 end-unset seat (Raised code) None ran most h none = absurd h
-end-unset seat (Raised code) (Some e) ran most h none = cc
 end-unset seat (Trapped why) o ran most h none = absurd h
+end-unset seat _ (Some e) ran most h none = cc
 
 module _ (seat mid : Seat) (m0 m : Common) (quantum budget result : ℕ) (whole : IsWhole (instance_of seat))
     (ran : (counting mid result, m) ≡ steps_of budget (counting seat 0) m0) (least : budget ≡ min quantum (seat.limits.steps - seat.ran))

@@ -8,7 +8,7 @@ use Rattle.std.proofs.lemmas.Option.{slice_get_within}
 use Rattle.qw_types.specs.Contents.{Contents}
 use Rattle.qw_types.specs.declared.value.Val.{Val}
 use Rattle.qw_linear.specs.Memory.{page}
-use Rattle.qw_module.specs.Execution.{Config, State, Running, Returned, Raised, Trapped, Event, Silent, Loads, Stores, Grows, Raises, Traps}
+use Rattle.qw_module.specs.Execution.{Config, State, Returned, Raised, Trapped, Event, Grows}
 use Rattle.qw_module.specs.Step.{Next, next, wants}
 use Rattle.qw_module.proofs.Outcomes.{outcome}
 use Rattle.qw_map.specs.Areas.{Area, World, Others, AsksOn, IsAnswered, IsFine, granted_area, grants, world_after}
@@ -31,14 +31,12 @@ use Rattle.qw_bench.specs.Inner.Seats.{CanBeTold, IsTold}
 -- ---- what others leave
 pub rows-stay : (layout : Layout) (d : ℕ) (b : Moment) (after : List ℕ) → Others b.world b.memory after → (s : State) →
     HasRows layout d b s → HasRows layout d (record b { memory = after }) s
-rows-stay layout d b after others (Running c) h = h
 rows-stay layout d b after others Returned h = kept (rows_at layout b.world b.memory d) refl h
   where
     kept : (o : Option (List (List Val))) → rows_at layout b.world b.memory d ≡ o → IsSome o → IsSome (rows_at layout b.world after d)
     kept None is some = absurd (cc some)
     kept (Some rows) is some = rw (results_stay layout b.world b.memory after d rows others is) refl
-rows-stay layout d b after others (Raised code) h = h
-rows-stay layout d b after others (Trapped why) h = h
+rows-stay layout d b after others _ h = h
 
 -- ---- what an instance has after steps
 -- it has what it had, and what it was granted; it holds no more than it may
@@ -51,17 +49,13 @@ grown-none : (w : World) → HasGrown w w
 grown-none w = record { granted = []; own_is = sym (append-nil w.own); holds = λ h. h }
 
 grown-step : (w v : World) (m : List ℕ) (e : Event) → IsAnswered v e → HasGrown w v → HasGrown w (world_after v m e)
-grown-step w v m Silent answered h = h
-grown-step w v m (Loads address width) answered h = h
-grown-step w v m (Stores address width) answered h = h
 grown-step w v m (Grows pages true) answered h = record {
   granted = h.granted ++ granted_area (length m) pages;
   own_is = ap (λ (own : List Area). own ++ granted_area (length m) pages) h.own_is ∙ append_assoc w.own h.granted (granted_area (length m) pages);
   holds = λ within. leb-true (v.held + pages) v.limit (sym answered);
 }
 grown-step w v m (Grows pages false) answered h = record { granted = h.granted; own_is = h.own_is; holds = h.holds }
-grown-step w v m (Raises code) answered h = h
-grown-step w v m (Traps why) answered h = h
+grown-step w v m _ answered h = h
 
 grown-run : (n : ℕ) (a b : Moment) → OpenRun n a b → HasGrown a.world b.world
 grown-run _ _ _ (begins a) = grown-none a.world
@@ -223,26 +217,9 @@ module _ (tables : List Contents) (tasks : List Task) (s : Shared) (serving : Ar
 -- a step that may be made, and that asks as it may
 told-by : (w : World) (m : List ℕ) (e : Event) (s : State) → AsksOn e s → Goes (world_after w m e) s → CanBeTold w e s
 told-by w m (Grows asked granted) s asks goes = asks
-told-by w m Silent (Running c) asks goes = tt
-told-by w m Silent Returned asks goes = tt
-told-by w m Silent (Raised code) asks goes = goes
-told-by w m Silent (Trapped why) asks goes = goes
-told-by w m (Loads address width) (Running c) asks goes = tt
-told-by w m (Loads address width) Returned asks goes = tt
-told-by w m (Loads address width) (Raised code) asks goes = goes
-told-by w m (Loads address width) (Trapped why) asks goes = goes
-told-by w m (Stores address width) (Running c) asks goes = tt
-told-by w m (Stores address width) Returned asks goes = tt
-told-by w m (Stores address width) (Raised code) asks goes = goes
-told-by w m (Stores address width) (Trapped why) asks goes = goes
-told-by w m (Raises number) (Running c) asks goes = tt
-told-by w m (Raises number) Returned asks goes = tt
-told-by w m (Raises number) (Raised code) asks goes = goes
-told-by w m (Raises number) (Trapped why) asks goes = goes
-told-by w m (Traps because) (Running c) asks goes = tt
-told-by w m (Traps because) Returned asks goes = tt
-told-by w m (Traps because) (Raised code) asks goes = goes
-told-by w m (Traps because) (Trapped why) asks goes = goes
+told-by w m _ (Raised code) asks goes = goes
+told-by w m _ (Trapped why) asks goes = goes
+told-by w m _ _ asks goes = tt
 
 -- an instance that serves its task can be told in each step, however long its turn is: after it, it serves its task
 pub serving-told : (tables : List Contents) (tasks : List Task) (s : Shared) → AreServing tables tasks s → (k : ℕ) (t : Task) (i : Instance) →

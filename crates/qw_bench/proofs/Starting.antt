@@ -17,7 +17,7 @@ use Rattle.qw_map.specs.Columns.{areas_of, column_pages, columns_start, map_of, 
 use Rattle.qw_map.specs.Layout.{Layout, column_areas}
 use Rattle.qw_map.specs.Runs.{Moment, BehavesWithin, most_run}
 use Rattle.qw_map.specs.Seen.{ended_at}
-use Rattle.qw_map.specs.Turns.{Done, Exception, Pages, Steps, Trap, End, Instance, Shared, Act, turns, IsWhole, AreApart, LiesWithin, AreSeparate, end_at, moment_of, LeadsTo}
+use Rattle.qw_map.specs.Turns.{Done, Steps, End, Instance, Shared, Act, turns, IsWhole, AreApart, LiesWithin, AreSeparate, end_at, moment_of, LeadsTo}
 use Rattle.qw_map.proofs.AreaLemmas.{all-append, all-weaker}
 use Rattle.qw_map.proofs.BehavingLemmas.{held-within}
 use Rattle.qw_map.proofs.ColumnLemmas.{pages-reach}
@@ -132,17 +132,12 @@ module _ (tables : List Contents) (tasks : List Task) (s : Shared) (start : IsSt
 answers-stay : (out : Outcome) (layout : Layout) (most pages d : ℕ) (w : World) (m after : List ℕ) → Others w m after → (end : End) →
     Answers out layout most pages d w m end → Answers out layout most pages d w after end
 answers-stay out layout most pages d w m after others Done (none, (bag, is, found)) = (none, (bag, is, results_stay layout w m after d bag others found))
-answers-stay out layout most pages d w m after others (Exception code) h = h
-answers-stay out layout most pages d w m after others (Pages held asked limit) h = h
-answers-stay out layout most pages d w m after others (Steps limit) h = h
-answers-stay out layout most pages d w m after others Trap h = h
+answers-stay out layout most pages d w m after others _ h = h
 
 -- the end of an instance that is over is the one at its state
 end-over : (s : State) (w : World) (ran most : ℕ) → IsOver s → end_at s w ran most ≡ ended_at s w
 end-over (Running c) w ran most over = absurd over
-end-over Returned w ran most over = refl
-end-over (Raised code) w ran most over = refl
-end-over (Trapped why) w ran most over = refl
+end-over _ w ran most over = refl
 
 module _ (promise : Promise) (tables : List (List (List Val))) (t : Task) (number : ℕ) (first : Moment) (later : Instance) (memory : List ℕ)
     (behaves : BehavesWithin (bound promise tables t.program.module' number) (promise.pages tables) most_run

@@ -10,7 +10,7 @@ use Rattle.qw_octet_grammar.proofs.Loops.{tail_of, begin_items}
 use Rattle.qw_module.specs.declared.instruction.ValType.{ValType}
 use Rattle.qw_module.specs.declared.instruction.ValType.TheVariants.{I32}
 use Rattle.qw_valid.specs.declared.walk.Opener.{Opener}
-use Rattle.qw_valid.specs.declared.walk.Opener.TheVariants.{Body, Block, Loop, Then, Else}
+use Rattle.qw_valid.specs.declared.walk.Opener.TheVariants.{Block, Loop, Then, Else}
 use Rattle.qw_module.specs.Syntax.{Code, done}
 use Rattle.qw_module.specs.Typing.{types_of}
 use Rattle.qw_module.specs.Places.{Token, plain, unreachable_here, block_begins, loop_begins, if_begins, else_begins, branches, branches_if, branches_by, returns, calls, Typing, IsTypable, IsRefusedAt}
@@ -39,20 +39,14 @@ ended-around a around known w e =
 
 closed-around : (opener : Opener) (a : Around) (around : List Around) (known : Known) (w : Walked) → closed_by opener (with_other None a) around known ≡ Some w → around ≡ w.around
 closed-around Then a around known w e = ended-around (with_other None a) around known w (if_some (is_none a.result) (ended (with_other None a) around known) w e).1
-closed-around Body a around known w e = ended-around (with_other None a) around known w e
-closed-around Block a around known w e = ended-around (with_other None a) around known w e
-closed-around Loop a around known w e = ended-around (with_other None a) around known w e
-closed-around Else a around known w e = ended-around (with_other None a) around known w e
+closed-around _ a around known w e = ended-around (with_other None a) around known w e
 
 else-around : (opener : Opener) (a : Around) (around : List Around) (known : Known) (w : Walked) → at_else_of opener a around known ≡ Some w → length around + 1 ≡ length w.around
 else-around Then a around known w e =
     let next : Walked = walked nothing (record { opener = Else; result = a.result; below = a.below; other = None; after = a.after } ∷ around) done in
     let long : length around + 1 ≡ length next.around = omega arith in
     long ∙ ap (λ (v : Walked). length v.around) (same_Some next w (if_some (is_left (types_of a.result) known) (Some next) w e).1)
-else-around Body a around known w e = absurd (none-some w e)
-else-around Block a around known w e = absurd (none-some w e)
-else-around Loop a around known w e = absurd (none-some w e)
-else-around Else a around known w e = absurd (none-some w e)
+else-around _ a around known w e = absurd (none-some w e)
 
 goes-around : (around : List Around) (rest : Code) (r : Option Known) (w : Walked) → goes around rest r ≡ Some w → around ≡ w.around
 goes-around around rest r w e = ap (λ (v : Walked). v.around) (map_some (λ k. walked k around rest) r w e).2

@@ -20,7 +20,7 @@ use Rattle.qw_binary.specs.Sections.{export_kind, export}
 use Rattle.qw_scan.specs.declared.exports.Counts.{Counts}
 use Rattle.qw_scan.specs.declared.exports.NamePlace.{NamePlace}
 use Rattle.qw_scan.specs.Inner.Exported.{IsKindAmong, IsAmong, AreApart, AreNamedApart, name_in}
-use Rattle.qw_scan.proofs.NameOrder.{apart_alike}
+use Rattle.qw_valid.proofs.NameOrder.{apart_alike}
 use Rattle.qw_scan.specs.Inner.ExportsAt.{export_by, export_at, IsExportAt}
 use Rattle.qw_scan.proofs.Got.{got-pick, got-is}
 use Rattle.qw_scan.proofs.Suffixes.{rest_at}

@@ -55,16 +55,11 @@ module _ (s : Sequences) where
   flat-behind (i.Call index ∷ rest) ys more = ap (λ (ts : List Token). calls index ∷ ts) (flat-behind rest ys more)
 
   pub flat-alone : (x : Instr) (more : List Token) → IsAlone x → flat s (x ∷ []) more ≡ token_of x ∷ more
-  flat-alone (i.Op o) more alone = refl
-  flat-alone i.Unreachable more alone = refl
   flat-alone (i.Block result body) more alone = absurd alone
   flat-alone (i.Loop result body) more alone = absurd alone
   flat-alone (i.If result then_body else_body) more alone = absurd alone
-  flat-alone (i.Br label) more alone = refl
-  flat-alone (i.BrIf label) more alone = refl
   flat-alone (i.BrTable from count default) more alone = absurd alone
-  flat-alone i.Return more alone = refl
-  flat-alone (i.Call index) more alone = refl
+  flat-alone _ more alone = refl
 
   -- ---- where a sequence is open
 
@@ -76,16 +71,12 @@ module _ (s : Sequences) where
   opened (second type then_body) more = if_begins type ∷ tokens_before (named s then_body) (else_begins ∷ more)
 
   opened-append : (opener : Opener) (xs ys : List Token) → opened opener (xs ++ ys) ≡ opened opener xs ++ ys
-  opened-append (block type) xs ys = refl
-  opened-append (loop type) xs ys = refl
-  opened-append (first type) xs ys = refl
   opened-append (second type then_body) xs ys = ap (λ (ts : List Token). if_begins type ∷ ts) (tokens-append (named s then_body) (else_begins ∷ xs) ys)
+  opened-append _ xs ys = refl
 
   pub opened-fresh : (opener : Opener) (more : List Token) → IsFresh opener → opened opener more ≡ opening opener ∷ more
-  opened-fresh (block type) more fresh = refl
-  opened-fresh (loop type) more fresh = refl
-  opened-fresh (first type) more fresh = refl
   opened-fresh (second type then_body) more fresh = absurd fresh
+  opened-fresh _ more fresh = refl
 
   -- the places up to the beginning of the present sequence, before more
   abbrev pub passed_round : List Open → List Token → List Token

@@ -1,7 +1,6 @@
 -- What was read tells how it was read.
-use Rattle.std.proofs.Common.{◌≡◌, ℕ, Bool, true, false, List, Option, Some, None, Result, Ok, Err, refl, ap}
-use Rattle.qw_octet_grammar.specs.declared.fault.BinaryFault.{BinaryFault}
-use Rattle.qw_octet_grammar.specs.Grammar.{Grammar, is, after, pick, settle}
+use Rattle.std.proofs.Common.{◌≡◌, ℕ, Bool, true, false, List, Option, Some, None, Ok, refl, ap}
+use Rattle.qw_octet_grammar.specs.Grammar.{Grammar, is, after, pick}
 use Rattle.qw_octet_grammar.specs.Reading.{read}
 use Rattle.qw_octet_grammar.proofs.GrammarLaws.{bind_ok, ok_is}
 use Rattle.qw_binary.specs.Instructions.{given}
@@ -22,11 +21,6 @@ module _ {A : Type 0} (P : Type 0) (x : A) (rest : List ℕ) where
   pub got-is : (bytes : List ℕ) (y : A) → (y ≡ x → bytes ≡ rest → P) → Gets bytes (is y)
   unfolding read
   got-is bytes y one e = let q = ok_is (y, bytes) (x, rest) e in one (ap (λ z. z.0) q) (ap (λ z. z.1) q)
-
-  pub got-settle : (bytes : List ℕ) (r : Result A BinaryFault) → ((y : A) → r ≡ Ok y → y ≡ x → bytes ≡ rest → P) → Gets bytes (settle r)
-  unfolding read
-  got-settle bytes (Ok y) one e = got-is bytes y (one y refl) e
-  got-settle bytes (Err fault) one e = absurd cc
 
   pub got-after : {C : Type 0} (bytes : List ℕ) (g : Grammar C) (k : C → Grammar A) → ((y : C) (mid : List ℕ) → read g bytes ≡ Ok (y, mid) → Gets mid (k y)) → Gets bytes (after g k)
   unfolding read

@@ -14,7 +14,7 @@ use Rattle.qw_binary.specs.Types.{block_type}
 use Rattle.qw_binary.specs.Instructions.{simple}
 use Rattle.qw_scan.specs.Places.{token_of}
 use Rattle.qw_scan.proofs.TableSteps.{table_grammar}
-use Rattle.qw_module.specs.Places.{Typing, Token, plain, unreachable_here, block_begins, loop_begins, if_begins, else_begins, branches, branches_if, branches_by, returns, calls}
+use Rattle.qw_module.specs.Places.{Typing, Token, plain, block_begins, loop_begins, if_begins, else_begins}
 use Rattle.qw_module.specs.Places.{ends as end_here}
 use Rattle.qw_valid.specs.declared.operands.Refusal.{Refusal}
 use Rattle.qw_valid.specs.declared.operands.Refusal.TheVariants.{IllTyped, NoMemory}
@@ -31,17 +31,7 @@ use Rattle.qw_scan.specs.Inner.Answering.{Steps}
 pub walks-same : (f : Typing) (t : Token) (known : Known) (kinds : List (Option ValType)) (frames : List Frame) → 0 < length frames → walks f t known (rounds kinds frames) ≡ stepped f t known (rounds kinds frames)
 walks-same f t known kinds [] some = absurd (omega (arith, some))
 walks-same f (plain o) known kinds (frame ∷ frames) some = refl
-walks-same f unreachable_here known kinds (frame ∷ frames) some = refl
-walks-same f (block_begins result) known kinds (frame ∷ frames) some = refl
-walks-same f (loop_begins result) known kinds (frame ∷ frames) some = refl
-walks-same f (if_begins result) known kinds (frame ∷ frames) some = refl
-walks-same f else_begins known kinds (frame ∷ frames) some = refl
-walks-same f end_here known kinds (frame ∷ frames) some = refl
-walks-same f (branches label) known kinds (frame ∷ frames) some = refl
-walks-same f (branches_if label) known kinds (frame ∷ frames) some = refl
-walks-same f (branches_by labels default) known kinds (frame ∷ frames) some = refl
-walks-same f returns known kinds (frame ∷ frames) some = refl
-walks-same f (calls index) known kinds (frame ∷ frames) some = refl
+walks-same f _ known kinds (frame ∷ frames) some = refl
 
 -- answers to the same are the same
 pub steps_same : {A B X : Type 0} (step other : A → Option B) (view : X → B × List ℕ) (result : Result X Refusal) (r : Result (A × List ℕ) BinaryFault) → ((x : A) → step x ≡ other x) →
@@ -70,15 +60,7 @@ steps_after {A} {T} {B} {X} g make step view result bytes = of_answer result (re
 -- an instruction is no `else`
 walks-instruction : (f : Typing) (known : Known) (around : List Around) (instr : Instr) → advanced_by f (alone (token_of instr)) known around ≡ walks f (token_of instr) known around
 walks-instruction f known around (i.Op o) = refl
-walks-instruction f known around i.Unreachable = refl
-walks-instruction f known around (i.Block result body) = refl
-walks-instruction f known around (i.Loop result body) = refl
-walks-instruction f known around (i.If result then_body else_body) = refl
-walks-instruction f known around (i.Br label) = refl
-walks-instruction f known around (i.BrIf label) = refl
-walks-instruction f known around (i.BrTable from count default) = refl
-walks-instruction f known around i.Return = refl
-walks-instruction f known around (i.Call index) = refl
+walks-instruction f known around _ = refl
 
 -- ---- by the code
 

@@ -26,7 +26,7 @@ use Rattle.qw_binary.specs.Types.{val_type, mutability, block_type}
 use Rattle.qw_binary.specs.Contents.{GlobalContents}
 use Rattle.qw_binary.specs.Sections.{global_from, global}
 use Rattle.qw_scan.specs.Inner.Initial.{HasInitial}
-use Rattle.qw_binary.specs.Instructions.{simple, Opener, block, loop, first, second, Progress, at_first, with_instruction, opener_by, instruction, expression}
+use Rattle.qw_binary.specs.Instructions.{simple, Opener, block, Progress, at_first, with_instruction, opener_by, instruction, expression}
 use Rattle.qw_valid.specs.declared.operands.Refusal.{Refusal}
 use Rattle.qw_valid.specs.declared.operands.Refusal.TheVariants.{IllTyped, NoMemory}
 use Rattle.qw_scan.specs.Inner.Tests.{Tells}
@@ -42,39 +42,19 @@ use Rattle.qw_scan.proofs.TokenSteps.{place_reads, one_token, places_chain, all_
 
 plain_opening : (opener : Opener) (operator : Op) → opening opener ≡ plain operator → ⊥
 plain_opening (block type) operator e = cc
-plain_opening (loop type) operator e = cc
-plain_opening (first type) operator e = cc
-plain_opening (second type then_body) operator e = cc
+plain_opening _ operator e = cc
 
 end_opening : (opener : Opener) → opening opener ≡ end_here → ⊥
 end_opening (block type) e = cc
-end_opening (loop type) e = cc
-end_opening (first type) e = cc
-end_opening (second type then_body) e = cc
+end_opening _ e = cc
 
 plain_instruction : (x : Instr) (operator : Op) → token_of x ≡ plain operator → x ≡ i.Op operator
 plain_instruction (i.Op o) operator e = cc
-plain_instruction i.Unreachable operator e = absurd cc
-plain_instruction (i.Block result body) operator e = absurd cc
-plain_instruction (i.Loop result body) operator e = absurd cc
-plain_instruction (i.If result a b) operator e = absurd cc
-plain_instruction (i.Br label) operator e = absurd cc
-plain_instruction (i.BrIf label) operator e = absurd cc
-plain_instruction (i.BrTable start count default) operator e = absurd cc
-plain_instruction i.Return operator e = absurd cc
-plain_instruction (i.Call index) operator e = absurd cc
+plain_instruction _ operator e = absurd cc
 
 end_instruction : (x : Instr) → token_of x ≡ end_here → ⊥
 end_instruction (i.Op o) e = cc
-end_instruction i.Unreachable e = cc
-end_instruction (i.Block result body) e = cc
-end_instruction (i.Loop result body) e = cc
-end_instruction (i.If result a b) e = cc
-end_instruction (i.Br label) e = cc
-end_instruction (i.BrIf label) e = cc
-end_instruction (i.BrTable start count default) e = cc
-end_instruction i.Return e = cc
-end_instruction (i.Call index) e = cc
+end_instruction _ e = cc
 
 abbrev read_instruction : Instr → List ℕ → Result (Instr × List ℕ) BinaryFault
 read_instruction x rest = Ok (x, rest)

@@ -9,7 +9,6 @@ mod Here
 mod Initials
 mod Labels
 mod ModuleBodies
-mod NameOrder
 mod OffsetLemmas
 mod OutlineLemmas
 mod PartLemmas

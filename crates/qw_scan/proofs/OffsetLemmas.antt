@@ -25,9 +25,6 @@ use Rattle.qw_scan.proofs.SameOver.{type_same, export_same}
 -- ---- so many, one after the other
 
 module _ (g : Grammar (Unit {0})) (whole : List ℕ) where
-  pub offsets_begin : (count at : ℕ) → offsets g whole (count - 0) at ≡ offsets g whole count at
-  offsets_begin count at = let k : count - 0 ≡ count = omega arith in ap (λ (n : ℕ). offsets g whole n at) k
-
   one_offset : (n at : ℕ) (rest : List ℕ) → read g (drop at whole) ≡ Ok (tt, rest) → offsets g whole (suc n) at ≡ at ∷ offsets g whole n (length whole - length rest)
   unfolding offsets
   one_offset n at rest e = ap (λ (r : Result (Unit {0} × List ℕ) BinaryFault). at ∷ behind_read (λ x. offsets g whole n) whole r) e

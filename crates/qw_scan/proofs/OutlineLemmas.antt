@@ -133,100 +133,61 @@ module _ (whole : List ℕ) (o : Outline) (at count : ℕ) (held left inner : Li
       some-is-none : Some at ≡ None → ⊥
       some-is-none e = cc
 
+  -- before the codes, what was read before stays where it is
+  before_codes : (last : ℕ) → o.codes ≡ None → (types_at imports_at memories_at globals_at exports_at : Option ℕ) → IsThere (vector func_type) whole types_at → IsThere imports whole imports_at →
+      IsThere (vector limits) whole memories_at → IsThere (vector global) whole globals_at → IsThere (vector export) whole exports_at →
+      IsOutline whole (record o { last = last; types = types_at; imports = imports_at; memories = memories_at; globals = globals_at; exports = exports_at })
+  before_codes last none types_at imports_at memories_at globals_at exports_at types_there imports_there memories_there globals_there exports_there = record {
+    own = outline.own;
+    coded = uncoded o.codes _ none;
+    types = types_there;
+    imports = imports_there;
+    indices = outline.indices;
+    memories = memories_there;
+    globals = globals_there;
+    exports = exports_there;
+    codes = outline.codes;
+  }
+
   at_types : o.last < 1 → read (content_over o.own 1) held ≡ Ok (tt, left) → IsNoted whole o 1 at count held left
   at_types below e =
-      let over_is = sym (vector_same func_type type_over type_same held) ∙ e in (
+      let over_is = sym (vector_same func_type type_over type_same held) ∙ e in
       record {
         reads = made (vector func_type) (with_types (sections_in whole o)) over_is;
-        outline = record {
-          own = outline.own;
-          coded = uncoded o.codes _ (no_codes whole o 1 outline below (omega arith));
-          types = now_there (vector func_type) over_is;
-          imports = outline.imports;
-          indices = outline.indices;
-          memories = outline.memories;
-          globals = outline.globals;
-          exports = outline.exports;
-          codes = outline.codes;
-        };
+        outline = before_codes 1 (no_codes whole o 1 outline below (omega arith)) (Some at) o.imports o.memories o.globals o.exports (now_there (vector func_type) over_is) outline.imports outline.memories outline.globals outline.exports;
       }
-      )
 
   at_imports : o.last < 2 → read (content_over o.own 2) held ≡ Ok (tt, left) → IsNoted whole o 2 at count held left
   at_imports below e =
-      let over_is = sym (over_same imports held) ∙ e in (
+      let over_is = sym (over_same imports held) ∙ e in
       record {
         reads = made imports (with_imports (sections_in whole o)) over_is;
-        outline = record {
-          own = outline.own;
-          coded = uncoded o.codes _ (no_codes whole o 2 outline below (omega arith));
-          types = outline.types;
-          imports = now_there imports over_is;
-          indices = outline.indices;
-          memories = outline.memories;
-          globals = outline.globals;
-          exports = outline.exports;
-          codes = outline.codes;
-        };
+        outline = before_codes 2 (no_codes whole o 2 outline below (omega arith)) o.types (Some at) o.memories o.globals o.exports outline.types (now_there imports over_is) outline.memories outline.globals outline.exports;
       }
-      )
 
   at_memories : o.last < 5 → read (content_over o.own 5) held ≡ Ok (tt, left) → IsNoted whole o 5 at count held left
   at_memories below e =
-      let over_is = sym (vector_same limits (over limits) (over_same limits) held) ∙ e in (
+      let over_is = sym (vector_same limits (over limits) (over_same limits) held) ∙ e in
       record {
         reads = made (vector limits) (with_memories (sections_in whole o)) over_is;
-        outline = record {
-          own = outline.own;
-          coded = uncoded o.codes _ (no_codes whole o 5 outline below (omega arith));
-          types = outline.types;
-          imports = outline.imports;
-          indices = outline.indices;
-          memories = now_there (vector limits) over_is;
-          globals = outline.globals;
-          exports = outline.exports;
-          codes = outline.codes;
-        };
+        outline = before_codes 5 (no_codes whole o 5 outline below (omega arith)) o.types o.imports (Some at) o.globals o.exports outline.types outline.imports (now_there (vector limits) over_is) outline.globals outline.exports;
       }
-      )
 
   at_globals : o.last < 6 → read (content_over o.own 6) held ≡ Ok (tt, left) → IsNoted whole o 6 at count held left
   at_globals below e =
-      let over_is = sym (vector_same global global_over global_same held) ∙ e in (
+      let over_is = sym (vector_same global global_over global_same held) ∙ e in
       record {
         reads = made (vector global) (with_globals (sections_in whole o)) over_is;
-        outline = record {
-          own = outline.own;
-          coded = uncoded o.codes _ (no_codes whole o 6 outline below (omega arith));
-          types = outline.types;
-          imports = outline.imports;
-          indices = outline.indices;
-          memories = outline.memories;
-          globals = now_there (vector global) over_is;
-          exports = outline.exports;
-          codes = outline.codes;
-        };
+        outline = before_codes 6 (no_codes whole o 6 outline below (omega arith)) o.types o.imports o.memories (Some at) o.exports outline.types outline.imports outline.memories (now_there (vector global) over_is) outline.exports;
       }
-      )
 
   at_exports : o.last < 7 → read (content_over o.own 7) held ≡ Ok (tt, left) → IsNoted whole o 7 at count held left
   at_exports below e =
-      let over_is = sym (vector_same export export_over export_same held) ∙ e in (
+      let over_is = sym (vector_same export export_over export_same held) ∙ e in
       record {
         reads = made (vector export) (with_exports (sections_in whole o)) over_is;
-        outline = record {
-          own = outline.own;
-          coded = uncoded o.codes _ (no_codes whole o 7 outline below (omega arith));
-          types = outline.types;
-          imports = outline.imports;
-          indices = outline.indices;
-          memories = outline.memories;
-          globals = outline.globals;
-          exports = now_there (vector export) over_is;
-          codes = outline.codes;
-        };
+        outline = before_codes 7 (no_codes whole o 7 outline below (omega arith)) o.types o.imports o.memories o.globals (Some at) outline.types outline.imports outline.memories outline.globals (now_there (vector export) over_is);
       }
-      )
 
   -- the indices say which functions codes are of, so there are none yet
   at_indices : o.last < 3 → read (content_over o.own 3) held ≡ Ok (tt, left) → IsNoted whole o 3 at count held left
@@ -314,15 +275,10 @@ section_order last id kind e = by_tests (id == 4) (id == 8) (id == 9) (id == 11)
     by_tests : (a b c d f g : Bool) → nat_lt last id ≡ g →
         cond a (Err (OutOfProfile what.Table)) (cond b (Err (OutOfProfile what.Start)) (cond c (Err (OutOfProfile what.Element)) (cond d (Err (OutOfProfile what.DataSection)) (cond f (Err NotModule) (cond g (placed id) (Err NotModule)))))) ≡ placed kind →
         (id ≡ kind) × (last < kind)
-    by_tests true b c d f g lt e = absurd cc
-    by_tests false true c d f g lt e = absurd cc
-    by_tests false false true d f g lt e = absurd cc
-    by_tests false false false true f g lt e = absurd cc
-    by_tests false false false false true g lt e = absurd cc
-    by_tests false false false false false false lt e = absurd cc
     by_tests false false false false false true lt e =
         let same = ok_is id kind e in
         (same, omega (arith, ltb-true last id lt, same))
+    by_tests _ _ _ _ _ _ lt e = absurd cc
 
 filled_all : {A : Type 0} (n : ℕ) (bytes left : List ℕ) (x : A) → n ≤ length bytes → length left ≡ 0 → filled n false bytes (x, left) ≡ Ok (x, drop n bytes)
 filled_all n bytes left x long none =
@@ -426,9 +382,6 @@ abbrev sections_of : Result Sections BinaryFault → Result Contents BinaryFault
 sections_of r = r >>= finish
 
 module _ (bytes : List ℕ) where
-  pub no_header : equal (take 8 bytes) header ≡ false → module_in bytes ≡ Err NotModule
-  no_header other = ap (λ (b : Bool). cond b (read_all section (length bytes) no_sections (drop 8 bytes) >>= finish) (Err NotModule)) other
-
   with_header : equal (take 8 bytes) header ≡ true → module_in bytes ≡ (read_all section (length bytes) no_sections (drop 8 bytes) >>= finish)
   with_header same = ap (λ (b : Bool). cond b (read_all section (length bytes) no_sections (drop 8 bytes) >>= finish) (Err NotModule)) same
 

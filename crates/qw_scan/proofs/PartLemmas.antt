@@ -41,7 +41,7 @@ use Rattle.qw_scan.specs.Inner.Parts.{HasOneResult, IsImportOf, Describes, decid
 use Rattle.qw_scan.specs.Inner.Tables.{global_of}
 use Rattle.qw_scan.specs.Inner.TypesAt.{signature_at}
 use Rattle.qw_scan.proofs.ModuleBodies.{counted_codes, values_there}
-use Rattle.qw_scan.proofs.NameOrder.{apart_alike}
+use Rattle.qw_valid.proofs.NameOrder.{apart_alike}
 
 -- ---- what tells of one thing tells of another
 
@@ -252,19 +252,11 @@ part_at n =
 at_place : (p : Part) → part_at (place_of p) ≡ p
 unfolding part_at
 at_place part.Types = refl
-at_place part.Imports = refl
-at_place part.Functions = refl
-at_place part.Memory = refl
-at_place part.Globals = refl
-at_place part.Exports = refl
+at_place _ = refl
 
 few_parts : (p : Part) → place_of p < 6
 few_parts part.Types = omega arith
-few_parts part.Imports = omega arith
-few_parts part.Functions = omega arith
-few_parts part.Memory = omega arith
-few_parts part.Globals = omega arith
-few_parts part.Exports = omega arith
+few_parts _ = omega arith
 
 abbrev refused : ValidFault → Result (Unit {0}) ValidFault
 refused why = Err why

@@ -23,11 +23,9 @@ module _ (s t : Sequences) (grows : Grows s t) (lower : IsLower s) where
   flat-stays xs more below = ap (λ (c : Code). tokens_before c more) (code-stays s t grows lower xs below)
 
   opened-stays : (opener : Opener) (more : List Token) → IsBelow (length s.each) opener → opened t opener more ≡ opened s opener more
-  opened-stays (block type) more below = refl
-  opened-stays (loop type) more below = refl
-  opened-stays (first type) more below = refl
   opened-stays (second type then_body) more below =
       ap (λ (c : Code). if_begins type ∷ tokens_before c (else_begins ∷ more)) (named-stays s t grows lower then_body below)
+  opened-stays _ more below = refl
 
   round-stays : (around : List Open) (more : List Token) → AllByRecursion (IsFineOpen (length s.labels) (length s.each)) around → passed_round t around more ≡ passed_round s around more
   round-stays [] more fine = refl
@@ -171,14 +169,12 @@ else-one : (p : Progress) (opener : Opener) (instructions : List Instr) (around 
     AllByRecursion (IsFineOpen (length p.labels) (length p.ended)) (record { opener = opener; before = instructions } ∷ around) →
     viewed (at_else p (record { opener = opener; before = instructions } ∷ around))
     ≡ after_else (record { places = places_round (so_far p) (record { opener = opener; before = instructions } ∷ around) p.now; turns = may_turn opener ∷ turns_of around }) (may_turn opener ∷ turns_of around)
-else-one p (block type) instructions around fine fines = refl
-else-one p (loop type) instructions around fine fines = refl
-else-one p (second type then_body) instructions around fine fines = refl
 else-one p (first type) instructions around fine fines =
     let t : Sequences = after p.ended p.labels p.now fine.ended fine.now in
     ap (λ (ts : List Token). Ok (goes_on (with_places (false ∷ turns_of around) ts)))
     (ap (λ (c : Code). passed_round t around (flat t instructions (if_begins type ∷ tokens_before c (else_begins ∷ [])))) (ended-code p.ended p.labels p.now fine.ended fine.now)
     ∙ outer-places p.ended p.labels p.now fine.ended fine.now (record { opener = first type; before = instructions }) around (else_begins ∷ []) fines)
+else-one p _ instructions around fine fines = refl
 
 pub else-passed : (p : Progress) (around : List Open) → IsFine p → AllByRecursion (IsFineOpen (length p.labels) (length p.ended)) around →
     viewed (at_else p around) ≡ after_else (record { places = places_round (so_far p) around p.now; turns = turns_of around }) (turns_of around)

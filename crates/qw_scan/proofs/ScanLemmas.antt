@@ -1,27 +1,12 @@
 -- What the check of octets says of the module that they spell.
-use Rattle.std.proofs.Common.{◌≡◌, Result, Ok, Err, All}
+use Rattle.std.proofs.Common.{◌≡◌, Result, Ok, Err}
 use Rattle.std.specs.Prelude.{IfErr, OnOk}
 use Rattle.qw_module.specs.declared.module.Module.{Module}
-use Rattle.qw_module.specs.Validity.{IsValidFunction, IsValid}
+use Rattle.qw_module.specs.Validity.{IsValid}
 use Rattle.qw_binary.specs.Contents.{Contents, contents_of}
-use Rattle.qw_valid.specs.declared.valid.Part.TheVariants as part
 use Rattle.qw_valid.specs.declared.valid.ValidFault.{ValidFault}
-use Rattle.qw_valid.specs.ValidFaults.{ArePartsValid, IsFault}
+use Rattle.qw_valid.specs.ValidFaults.{IsFault}
 use Rattle.qw_scan.specs.Held.{HeldByValid, HeldByFaulty}
-
--- a module whose parts and functions are valid is
-pub valid_if_functions : {A E : Type 0} (r : Result A E) (m : Module) → ArePartsValid m → OnOk r (All (IsValidFunction m) m.functions.items) → OnOk r (IsValid m)
-valid_if_functions (Ok value) m parts functions = record {
-  types = parts part.Types;
-  imports = parts part.Imports;
-  functions = functions;
-  memories = (parts part.Memory).0;
-  one_memory = (parts part.Memory).1;
-  globals = parts part.Globals;
-  exports = (parts part.Exports).0;
-  names = (parts part.Exports).1;
-}
-valid_if_functions (Err fault) m parts functions = tt
 
 module _ {A : Type 0} (r : Result A ValidFault) (c : Contents) (m : Module) (holds : contents_of m ≡ c) where
   pub held_valid : OnOk r (IsValid m) → OnOk r (HeldByValid c)

@@ -10,7 +10,7 @@ use Rattle.qw_module.specs.Syntax.{Code, done}
 use Rattle.qw_module.specs.Typing.{types_of}
 use Rattle.qw_module.specs.Places.{Token, plain, unreachable_here, block_begins, loop_begins, if_begins, else_begins, ends, branches, branches_if, branches_by, returns, calls, Opened, body, Place, Typing, Follows, Leads, at_start, IsTypable, IsRefusedAt}
 use Rattle.qw_module.proofs.PlaceLemmas.{demands}
-use Rattle.qw_valid.specs.Inner.Checking.{Known, nothing, Around, Walked, closed_by, advanced_by, first_walked}
+use Rattle.qw_valid.specs.Inner.Checking.{Known, nothing, Around, Walked, advanced_by, first_walked}
 use Rattle.qw_valid.proofs.ControlPlaces.{at, opened_of, AreOpened, Describes, AreWhole, PlaceOn, PlaceBack, token_end, close-on, close-back}
 use Rattle.qw_valid.proofs.Places.{token_here, place-on, place-back}
 use Rattle.qw_valid.proofs.Reached.{place-next, leads-snoc, snoc-leads, start_back, some_place}
@@ -34,10 +34,7 @@ whole-other f other a (b ∷ around) whole = whole
 
 end-none : (opener : Opener) → token_end opener None ≡ ends
 end-none Body = refl
-end-none Block = refl
-end-none Loop = refl
-end-none Then = refl
-end-none Else = refl
+end-none _ = refl
 
 -- all but an `else`
 abbrev IsElse : Token → Type 0
@@ -72,11 +69,6 @@ stepped-alone f (branches_if label) known a around other = refl
 stepped-alone f (branches_by labels default) known a around other = refl
 stepped-alone f returns known a around other = refl
 stepped-alone f (calls index) known a around other = refl
-
--- an `else` of an `if` is the end of a sequence that another one follows
-else-steps : (f : Typing) (opener : Opener) (a : Around) (around : List Around) (known : Known) → a.opener ≡ opener → opener ≡ Then →
-    at_else_of opener a around known ≡ closed_by Then (with_other (Some done) a) around known
-else-steps f opener a around known is then = rw then refl
 
 -- ---- on
 
@@ -114,10 +106,7 @@ back-else : (f : Typing) (opener : Opener) (a : Around) → a.opener ≡ opener 
 back-else f Then a is around known w q whole e described =
     let b = close-back f (with_other (Some done) a) Then (Some done) is refl around known w q (whole-other f (Some done) a around whole) e described in
     (b.0, (b.1.0, opened-back (Some done) a around b.0.opened b.1.1), b.2)
-back-else f Body a is around known w q whole e described = absurd (none-some w e)
-back-else f Block a is around known w q whole e described = absurd (none-some w e)
-back-else f Loop a is around known w q whole e described = absurd (none-some w e)
-back-else f Else a is around known w q whole e described = absurd (none-some w e)
+back-else f _ a is around known w q whole e described = absurd (none-some w e)
 
 back-alone : (f : Typing) (token : Token) → (IsElse token → ⊥) → (a : Around) (around : List Around) (known : Known) (w : Walked) (q : Place) → AreWhole f (a ∷ around) →
     stepped f token known (a ∷ around) ≡ Some w → Describes w.known w.around q → PlaceBack f known (a ∷ around) token q
@@ -132,10 +121,7 @@ whole-else : (f : Typing) (opener : Opener) (a : Around) → a.opener ≡ opener
 whole-else f Then a is around known w whole e =
     let same : advanced_by f done known (with_other (Some done) a ∷ around) ≡ Some w = rw is e in
     ((place-next f done (with_other (Some done) a) around known (whole-other f (Some done) a around whole)).2 w same).whole
-whole-else f Body a is around known w whole e = absurd (none-some w e)
-whole-else f Block a is around known w whole e = absurd (none-some w e)
-whole-else f Loop a is around known w whole e = absurd (none-some w e)
-whole-else f Else a is around known w whole e = absurd (none-some w e)
+whole-else f _ a is around known w whole e = absurd (none-some w e)
 
 whole-alone : (f : Typing) (token : Token) → (IsElse token → ⊥) → (a : Around) (around : List Around) (known : Known) (w : Walked) → AreWhole f (a ∷ around) →
     stepped f token known (a ∷ around) ≡ Some w → AreWhole f w.around

@@ -87,10 +87,6 @@ module _ {A : Type 0} (item : Grammar A) (IsSo : A → Type 0) where
       let n = next_item item count i rest s.0 mid lt s.1 in
       (λ so. absurd (false≢true so), λ all. let h = s.2.1 all in absurd (told_not IsSo (read item rest) n.0 n.1 told n.3 (rw n.5 at h).0)))
 
-  pub all_nothing : (r : Result (List A × List ℕ) BinaryFault) → TellsAll IsSo None r
-  all_nothing (Ok found) = tt
-  all_nothing (Err fault) = tt
-
 -- ---- all that stand somewhere
 
 module _ {A : Type 0} (item : Grammar A) (IsSo : A → Type 0) where

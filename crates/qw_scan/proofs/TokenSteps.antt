@@ -10,10 +10,10 @@ use Rattle.qw_octet_grammar.specs.Numbers.{u32}
 use Rattle.qw_octet_grammar.specs.Vectors.{vector}
 use Rattle.qw_module.specs.declared.instruction.Instr.{Instr}
 use Rattle.qw_module.specs.declared.instruction.Instr.TheVariants as i
-use Rattle.qw_module.specs.Places.{Token, plain, unreachable_here, block_begins, loop_begins, if_begins, else_begins, branches, branches_if, branches_by, returns, calls}
+use Rattle.qw_module.specs.Places.{Token, block_begins, else_begins, branches_by}
 use Rattle.qw_module.specs.Places.{ends as end_here}
 use Rattle.qw_binary.specs.Types.{block_type}
-use Rattle.qw_binary.specs.Instructions.{given, simple, Opener, block, loop, first, second, opener_by}
+use Rattle.qw_binary.specs.Instructions.{given, simple, Opener, second, opener_by}
 use Rattle.qw_binary.specs.Inner.Followed.{IsAlone, IsFresh}
 use Rattle.qw_binary.proofs.Apart.{simple_alone}
 use Rattle.qw_scan.specs.Places.{token_of, opening, may_turn, Passed, then_open, and_then, after_end, after_else, place}
@@ -68,22 +68,15 @@ module _ (p : Passed) (next : Next Passed (List Token)) (rest : List ℕ) where
   both-settle bytes t (Err fault) leads e = absurd cc
 
 opening-leads : (p : Passed) (opener : Opener) → IsFresh opener → after_token p (opening opener) ≡ Ok (goes_on (then_open p (opening opener) (may_turn opener ∷ p.turns)))
-opening-leads p (block type) fresh = refl
-opening-leads p (loop type) fresh = refl
-opening-leads p (first type) fresh = refl
 opening-leads p (second type then_body) fresh = absurd fresh
+opening-leads p _ fresh = refl
 
 alone-leads : (p : Passed) (x : Instr) → IsAlone x → after_token p (token_of x) ≡ Ok (goes_on (and_then p (token_of x)))
-alone-leads p (i.Op o) alone = refl
-alone-leads p i.Unreachable alone = refl
 alone-leads p (i.Block result body) alone = absurd alone
 alone-leads p (i.Loop result body) alone = absurd alone
 alone-leads p (i.If result then_body else_body) alone = absurd alone
-alone-leads p (i.Br label) alone = refl
-alone-leads p (i.BrIf label) alone = refl
 alone-leads p (i.BrTable from count default) alone = absurd alone
-alone-leads p i.Return alone = refl
-alone-leads p (i.Call index) alone = refl
+alone-leads p _ alone = refl
 
 pub place_reads : (p : Passed) (code : ℕ) (bytes : List ℕ) (next : Next Passed (List Token)) (rest : List ℕ) → read (place p code) bytes ≡ Ok (next, rest) → Reads p code bytes next rest
 place_reads p code bytes next rest =
@@ -118,15 +111,7 @@ one_token p else_begins next e = at_else p.turns e
     at_else (false ∷ turns) e = absurd cc
     at_else (true ∷ turns) e = ap places_so_far (sym (ok_is (goes_on (then_open p else_begins (false ∷ turns))) next e))
 one_token p (block_begins result) next e = ap places_so_far (sym (ok_is _ next e))
-one_token p (loop_begins result) next e = ap places_so_far (sym (ok_is _ next e))
-one_token p (if_begins result) next e = ap places_so_far (sym (ok_is _ next e))
-one_token p (plain o) next e = ap places_so_far (sym (ok_is _ next e))
-one_token p unreachable_here next e = ap places_so_far (sym (ok_is _ next e))
-one_token p (branches label) next e = ap places_so_far (sym (ok_is _ next e))
-one_token p (branches_if label) next e = ap places_so_far (sym (ok_is _ next e))
-one_token p (branches_by labels default) next e = ap places_so_far (sym (ok_is _ next e))
-one_token p returns next e = ap places_so_far (sym (ok_is _ next e))
-one_token p (calls index) next e = ap places_so_far (sym (ok_is _ next e))
+one_token p _ next e = ap places_so_far (sym (ok_is _ next e))
 
 abbrev pub places_chain : ℕ → Next Passed (List Token) → List ℕ → Result (List Token × List ℕ) BinaryFault
 places_chain n next bytes = chain (λ p b. read (place p b)) n next bytes

@@ -55,6 +55,11 @@ led c ran =
     reached-operators reached run.result run.new.operands run.new.globals run.new.locals run.new.memory.octets run.ensures.room ran
     (omega (arith, run.ensures.few, c.least-end.ensures.one, reached.within)) (followed c)
 
+inside : (c : After-following-run) → c.following-run.result.last ≡ Ran → (after c).index < length c.loop-awaiting.sequence.now
+inside c ran =
+    let at = c.requires.point in
+    inside-now (led c ran) at.3 at.4
+
 pub index-requires : goal.index-requires
 index-requires c =
     let at = c.requires.point in
@@ -112,10 +117,7 @@ pub returns-then-not-matches-clause-run : goal.returns-then-not-matches-clause-r
 returns-then-not-matches-clause-run c = followed (goal.at.returns-then-not-matches-clause-run c).After-following-run
 
 pub decide-requires-clause-inside : goal.decide-requires-clause-inside
-decide-requires-clause-inside c =
-    let g = goal.at.decide-requires-clause-inside c in
-    let at = c.requires.point in
-    inside-now (led g.After-following-run (ran g.Else-index-limit)) at.3 at.4
+decide-requires-clause-inside c = inside (goal.at.decide-requires-clause-inside c).After-following-run (ran (goal.at.decide-requires-clause-inside c).Else-index-limit)
 
 pub decide-requires-clause-point : goal.decide-requires-clause-point
 decide-requires-clause-point c =
@@ -161,10 +163,7 @@ loop-awaiting-preserved-in-Some c =
     }
 
 pub turned-requires-clause-inside : goal.turned-requires-clause-inside
-turned-requires-clause-inside c =
-    let g = goal.at.turned-requires-clause-inside c in
-    let at = c.requires.point in
-    inside-now (led g.After-following-run (ran g.Else-index-limit)) at.3 at.4
+turned-requires-clause-inside c = inside (goal.at.turned-requires-clause-inside c).After-following-run (ran (goal.at.turned-requires-clause-inside c).Else-index-limit)
 
 pub turned-requires-clause-operand : goal.turned-requires-clause-operand
 turned-requires-clause-operand c = λ branches.
@@ -199,10 +198,7 @@ loop-awaiting-preserved-then-turned c =
     }
 
 pub cross-requires-clause-inside : goal.cross-requires-clause-inside
-cross-requires-clause-inside c =
-    let g = goal.at.cross-requires-clause-inside c in
-    let at = c.requires.point in
-    inside-now (led g.After-following-run (ran g.Else-index-limit)) at.3 at.4
+cross-requires-clause-inside c = inside (goal.at.cross-requires-clause-inside c).After-following-run (ran (goal.at.cross-requires-clause-inside c).Else-index-limit)
 
 pub cross-requires-clause-point : goal.cross-requires-clause-point
 cross-requires-clause-point c =

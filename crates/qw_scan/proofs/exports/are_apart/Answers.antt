@@ -3,7 +3,7 @@ use Rattle.std.proofs.lemmas.Fn.{always_returns_same}
 use Rattle.std.proofs.lemmas.List.Sorted.{ranks_by}
 use Rattle.std.proofs.Common.{rules}
 use Rattle.qw_scan.specs.Inner.Exported.{name_in}
-use Rattle.qw_scan.proofs.NameOrder.{below, differ_told}
+use Rattle.qw_valid.proofs.NameOrder.{below, differ_told}
 use Rattle.qw_scan.proofs.exports.are_apart.Goals as goal
 
 pub returns : goal.returns

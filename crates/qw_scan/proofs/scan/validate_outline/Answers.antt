@@ -1,4 +1,4 @@
-use Rattle.qw_scan.proofs.ScanLemmas.{valid_if_functions}
+use Rattle.qw_valid.proofs.Faults.{valid_if_functions}
 use Rattle.qw_scan.proofs.scan.validate_outline.Goals as goal
 
 pub check_parts-requires : goal.check_parts-requires
