@@ -5,10 +5,9 @@ use Rattle.qw_token.specs.Token.{Lexeme}
 use Rattle.qw_token.specs.declared.token.Kind.TheVariants.{Word}
 use Rattle.qw_scalar.specs.declared.expression.Function.{Function}
 use Rattle.qw_scalar.specs.declared.expression.Function.TheVariants.{Coalesce, NullIf}
-use Rattle.qw_ast.specs.Grammar.{folded}
 use Rattle.qw_ast.specs.ScriptGrammar.{function_of, is_name, is_word}
 use Rattle.qw_parse.proofs.TokenLemmas.{told_or, word_is}
-use Rattle.qw_parse.proofs.ExactLemmas.{starts}
+use Rattle.qw_parse.proofs.ExactLemmas.{BeginsAs}
 use Rattle.qw_parse.proofs.PrimaryLemmas.{name_no_word}
 
 abbrev pub call_word_of : Function → List ℕ
@@ -21,24 +20,16 @@ call_word t f e =
     told_or R _ Coalesce f _ e (λ h. h) (λ e1.
     told_or R _ NullIf f None e1 (λ h. h) (λ e2. absurd cc))
 
-pub folded_call : (f : Function) → folded (call_word_of f) ≡ call_word_of f
-folded_call Coalesce = refl
-folded_call NullIf = refl
+pub call_begins : (f : Function) → BeginsAs (call_word_of f)
+call_begins Coalesce = record { folded_is = refl; no_not = refl; begins = refl }
+call_begins NullIf = record { folded_is = refl; no_not = refl; begins = refl }
 
 is_no_case : (f : Function) → is_word (codes "CASE") (record { kind = Word; octets = call_word_of f }) ≡ false
 is_no_case Coalesce = refl
 is_no_case NullIf = refl
 
 pub call_no_case : (t : Lexeme) (f : Function) → function_of t ≡ Some f → is_word (codes "CASE") t ≡ false
-call_no_case t f e = let is = word_is (call_word_of f) t (call_word t f e) in rw (is.0, is.1) (rw (folded_call f) at (is_no_case f))
-
-pub call_no_not : (f : Function) → is_word (codes "NOT") (record { kind = Word; octets = call_word_of f }) ≡ false
-call_no_not Coalesce = refl
-call_no_not NullIf = refl
-
-pub call_begins : (f : Function) → starts (record { kind = Word; octets = call_word_of f }) ≡ true
-call_begins Coalesce = refl
-call_begins NullIf = refl
+call_no_case t f e = let is = word_is (call_word_of f) t (call_word t f e) in rw (is.0, is.1) (rw ((call_begins f).folded_is) at (is_no_case f))
 
 -- a name is none of them
 pub name_no_call : (t : Lexeme) → is_name t ≡ true → function_of t ≡ None

@@ -20,6 +20,12 @@ starts t =
     (is_number t || is_string t) || (is_name t || ((is_symbol (codes "(") t || (is_symbol (codes "+") t || is_symbol (codes "-") t))
     || ((is_word (codes "DATE") t || is_word (codes "CASE") t) || (is_there (function_of t) || (is_word (codes "EXTRACT") t || (is_word (codes "NOT") t || is_there (set_function_of t)))))))
 
+-- a word in upper case with which one begins, and that is no NOT
+pub record BeginsAs (w : List ℕ) : Type 0 where
+  pub folded_is : folded w ≡ w
+  pub no_not : is_word (codes "NOT") (record { kind = Word; octets = w }) ≡ false
+  pub begins : starts (record { kind = Word; octets = w }) ≡ true
+
 -- the first token is such a one
 unfoldable pub Starts : List Lexeme → Type 0
 Starts [] = ⊥

@@ -1,17 +1,15 @@
 -- Set functions are read exactly, where their arguments are.
-use Rattle.std.proofs.Common.{◌≡◌, ℕ, true, false, List, ◌∷◌, length, Option, Some, None, refl, subst, inl, inr}
+use Rattle.std.proofs.Common.{◌≡◌, ℕ, true, List, ◌∷◌, length, Option, Some, None, refl, subst, inl, inr}
 use Rattle.std.specs.Prelude.{codes, IsTrue}
 use Rattle.qw_token.specs.Token.{Lexeme}
-use Rattle.qw_token.specs.declared.token.Kind.TheVariants.{Word}
 use Rattle.qw_ast.specs.declared.script.SetFunction.{SetFunction}
 use Rattle.qw_ast.specs.declared.script.SetFunction.TheVariants.{Count, Sum, Avg, Min, Max}
-use Rattle.qw_ast.specs.Grammar.{folded}
 use Rattle.qw_ast.specs.Syntax.{Expression, count_rows, set_function, Clause, expression}
 use Rattle.qw_ast.specs.ScriptGrammar.{is_word, is_symbol, is_name, set_function_of, IsOptionalAll, IsPrimary, a_row_count, a_set_function}
 use Rattle.qw_parse.specs.Inner.Readers.{symbol_at, before_at, behind_all, argument_at, rows_at, set_function_at}
 use Rattle.qw_parse.proofs.LoopLemmas.{bind_some, some_same, cases_option}
 use Rattle.qw_parse.proofs.TokenLemmas.{Front, front, one_takes, one_is, told_or, Stops}
-use Rattle.qw_parse.proofs.ExactLemmas.{starts, starts_not, Exact, all_takes, all_is, all_no_asterisk}
+use Rattle.qw_parse.proofs.ExactLemmas.{BeginsAs, starts_not, Exact, all_takes, all_is, all_no_asterisk}
 use Rattle.qw_parse.proofs.PrimaryLemmas.{name_no_word, before_some, expression_takes, expression_is, closing_ends}
 
 -- ---- their words
@@ -32,27 +30,12 @@ function_word t f e =
     told_or R _ Min f _ e3 (λ h. h) (λ e4.
     told_or R _ Max f None e4 (λ h. h) (λ e5. absurd cc)))))
 
--- they are in upper case, no NOT, and begin an expression
-pub folded_word : (f : SetFunction) → folded (word_of f) ≡ word_of f
-folded_word Count = refl
-folded_word Sum = refl
-folded_word Avg = refl
-folded_word Min = refl
-folded_word Max = refl
-
-pub word_no_not : (f : SetFunction) → is_word (codes "NOT") (record { kind = Word; octets = word_of f }) ≡ false
-word_no_not Count = refl
-word_no_not Sum = refl
-word_no_not Avg = refl
-word_no_not Min = refl
-word_no_not Max = refl
-
-pub word_begins : (f : SetFunction) → starts (record { kind = Word; octets = word_of f }) ≡ true
-word_begins Count = refl
-word_begins Sum = refl
-word_begins Avg = refl
-word_begins Min = refl
-word_begins Max = refl
+pub word_begins : (f : SetFunction) → BeginsAs (word_of f)
+word_begins Count = record { folded_is = refl; no_not = refl; begins = refl }
+word_begins Sum = record { folded_is = refl; no_not = refl; begins = refl }
+word_begins Avg = record { folded_is = refl; no_not = refl; begins = refl }
+word_begins Min = record { folded_is = refl; no_not = refl; begins = refl }
+word_begins Max = record { folded_is = refl; no_not = refl; begins = refl }
 
 -- a name is none of them
 pub name_no_function : (t : Lexeme) → is_name t ≡ true → set_function_of t ≡ None

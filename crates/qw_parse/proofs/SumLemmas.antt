@@ -18,8 +18,8 @@ use Rattle.qw_parse.proofs.TokenLemmas.{word_is, symbol_is, Front, front, one_ta
 use Rattle.qw_parse.proofs.RankLemmas.{rank_exact}
 use Rattle.qw_parse.proofs.ExactLemmas.{starts, Starts, starts_at, starts_not, Exact, all_shorter, names_take, one_name, two_names, date_takes, date_is, date_shorter, date_begins}
 use Rattle.qw_parse.proofs.PrimaryLemmas.{the_expression_is, string_no_number, name_kind, name_no_symbol, name_no_word, number_no_symbol, string_no_symbol, number_no_word, string_no_word, Of, IsBracketed, between_brackets, EndsPrimary, as_clause_some, as_clause_is, case_takes, searched_is, simple_is, call_takes, call_is, extract_takes, extract_is, closing_ends, branches_shorter, else_shorter, further_down}
-use Rattle.qw_parse.proofs.CallLemmas.{call_word_of, call_word, folded_call, call_no_case, call_no_not, call_begins, name_no_call}
-use Rattle.qw_parse.proofs.FunctionLemmas.{word_of, function_word, folded_word, word_no_not, word_begins, name_no_function, rows_are, set_function_takes, set_function_is}
+use Rattle.qw_parse.proofs.CallLemmas.{call_word_of, call_word, call_no_case, call_begins, name_no_call}
+use Rattle.qw_parse.proofs.FunctionLemmas.{word_of, function_word, word_begins, name_no_function, rows_are, set_function_takes, set_function_is}
 
 -- ---- what the operators are
 
@@ -298,10 +298,10 @@ module _ (Inner : Clause → List Lexeme → List Lexeme → Type 0) (inner : Li
   primary_begins _ _ _ (brackets e opening closing ts rest f h g) = with_bracket opening ts f
   primary_begins _ _ _ (a_searched_case b bs other t ts us rest w h end) = with_word (codes "CASE") t ts refl refl refl w
   primary_begins _ _ _ (a_simple_case x b bs other t ts us vs rest w i h end) = with_word (codes "CASE") t ts refl refl refl w
-  primary_begins _ _ _ (a_call f e es t o c ts us rest w p i h g many) = with_word (call_word_of f) t (o ∷ ts) (call_begins f) (call_no_not f) (folded_call f) (call_word t f w)
+  primary_begins _ _ _ (a_call f e es t o c ts us rest w p i h g many) = with_word (call_word_of f) t (o ∷ ts) (call_begins f).begins (call_begins f).no_not (call_begins f).folded_is (call_word t f w)
   primary_begins _ _ _ (an_extract field e t o n m c ts rest w f g h i k) = with_word (codes "EXTRACT") t (o ∷ n ∷ m ∷ ts) refl refl refl w
   primary_begins _ _ _ (a_row_count t o s c rest w f g h) = with_word (codes "COUNT") t (o ∷ s ∷ c ∷ rest) refl refl refl w
-  primary_begins _ _ _ (a_set_function f e t o c ts us rest w g all h i) = with_word (word_of f) t (o ∷ ts) (word_begins f) (word_no_not f) (folded_word f) (function_word t f w)
+  primary_begins _ _ _ (a_set_function f e t o c ts us rest w g all h i) = with_word (word_of f) t (o ∷ ts) (word_begins f).begins (word_begins f).no_not (word_begins f).folded_is (function_word t f w)
 
   bracketed_shorter : (c : Condition) (ts rest : List Lexeme) → IsBracketed Inner c ts rest → length rest < length ts
   bracketed_shorter _ _ _ (between_brackets c opening closing ts rest f h g) = let s = reads.shorter (condition c) ts (closing ∷ rest) h in omega (arith, s)
