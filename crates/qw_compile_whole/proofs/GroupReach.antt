@@ -1,6 +1,6 @@
 -- The pipelines of what reaches a query's groups are within bounds of units and pages that leave room for the groups and for the result: each that builds a
 -- table finds what it looks up and what it puts into memory is paid for; and so many octets more are paid for behind all of them.
-use Rattle.std.proofs.Common.{◌≡◌, ◌∙◌, ◌≤◌, ◌<◌, ℕ, suc, ◌+◌, ◌*◌, ◌/◌, List, [], ◌∷◌, ◌++◌, length, map, sym, ap, subst, append_assoc, append-nil, arith}
+use Rattle.std.proofs.Common.{◌≡◌, ◌∙◌, ◌≤◌, ◌<◌, ℕ, suc, ◌+◌, ◌*◌, ◌/◌, List, [], ◌∷◌, ◌++◌, length, sym, ap, subst, append_assoc, append-nil, arith}
 use Rattle.std.proofs.Math.Nat.{add-mul}
 use Rattle.std.specs.List.{AllByRecursion, AllZip}
 use Rattle.qw_types.specs.declared.value.Val.{Val}
@@ -8,30 +8,27 @@ use Rattle.qw_linear.specs.Memory.{page}
 use Rattle.qw_meaning.specs.Select.{Entry, Specification, entries_of}
 use Rattle.qw_algebra.specs.Node.{Node}
 use Rattle.qw_pipe.specs.Pipes.{pipelines}
-use Rattle.qw_read.specs.Reading.{known_of}
 use Rattle.qw_read.specs.declared.constant.Word.{Word}
 use Rattle.qw_physical.specs.Courses.{AreBuilt, costs, pipeline_fed}
 use Rattle.qw_physical.specs.Held.{held, sink_octets, sink_size}
-use Rattle.qw_physical.specs.Physical.{Pipeline, Sink}
+use Rattle.qw_physical.specs.Physical.{Pipeline}
 use Rattle.qw_physical.specs.Sides.{IsPlanned, builds_of, last_of}
 use Rattle.qw_physical.specs.Spelled.{IsSamePipeline, all_spelled}
 use Rattle.qw_physical.specs.Typed.{IsTypedPhysical}
 use Rattle.qw_physical.specs.declared.pipeline.ReadColumn.{ReadColumn}
 use Rattle.qw_physical.proofs.Permuted.{built_in_order}
 use Rattle.qw_physical.proofs.QueryScans.{ScansOne}
-use Rattle.qw_operator.specs.Takes.{CanCarry}
 use Rattle.qw_operator.proofs.PairRows.{AreDistinct}
 use Rattle.qw_operator.proofs.Stood.{Stood, built_of}
 use Rattle.qw_compile.proofs.Budgets.{pages_pay, spent}
 use Rattle.qw_compile.proofs.LocalsPlaced.{literal_count, literals_known}
-use Rattle.qw_compile.proofs.PipelineRuns.{AreStood, entry_width, fed_over, readers_of}
+use Rattle.qw_compile.proofs.PipelineRuns.{AreStood}
 use Rattle.qw_compile.proofs.QueryBounded.{built_pays}
 use Rattle.qw_compile.proofs.QueryCan.{HasEach}
-use Rattle.qw_compile.proofs.QueryFinds.{build_finds, one_at}
-use Rattle.qw_compile.proofs.QueryReach.{code_builds, scan_column, scan_table, stoods_long, table_of, width_is}
+use Rattle.qw_compile.proofs.QueryReach.{table_of}
 use Rattle.qw_compile.proofs.QueryRuns.{Reach}
-use Rattle.qw_compile.proofs.QueryTold.{cost}
-use Rattle.qw_compile.proofs.Spent.{spent_front, spent_next}
+use Rattle.qw_compile.proofs.QueryWithin.{IsTakenOver, reach_paid}
+use Rattle.qw_compile.proofs.Spent.{spent_front}
 use Rattle.qw_compile.proofs.StoodBuilt.{stood_built}
 
 -- ---- what is held
@@ -103,42 +100,18 @@ module _ (query : Specification) (tables : List (List (List Val))) (columns : Li
   abbrev entries : List Entry
   entries = entries_of query.sources
 
-  abbrev pub IsTakenBy : Pipeline → Type 0
-  IsTakenBy p = CanCarry (literals_known T at texts words ++ map known_of (readers_of T n read p.entry)) p.operators p.sink
-
-  module _ (can : AllByRecursion IsTakenBy building) (units : ℕ)
+  module _ (can : AllByRecursion (IsTakenOver T at texts words read) building) (units : ℕ)
       (bounded : (front back : List Pipeline) (more : List (List (List Val))) → all_spelled columns 0 (pipelines node) ≡ front ++ back → AreBuilt tables [] front more → costs tables [] (front ++ back) more ≤ units) (N : ℕ) (units_less : 1 + units ≤ N) (u S groups : ℕ) (some : 0 < u)
       (within : (front back : List Pipeline) (more : List (List (List Val))) → building ≡ front ++ back → AreBuilt tables [] front more → held tables [] (front ++ back) more ≤ S) (fit : AllByRecursion (λ (p : Pipeline). sink_size p.sink + u ≤ page) building) where
     pub reach : (front : List Pipeline) (p : Pipeline) (back : List Pipeline) (stoods : List Stood) → building ≡ front ++ p ∷ back → AreStood tables [] front stoods
         → Reach T n read (literals_known T at texts words) tables u (most u S groups building) N (table_of entries) stoods p (budget u tables building (length front)) (budget u tables building (suc (length front)))
     reach front p back stoods parts are =
-        let b = code_builds columns node building same front p back parts in
-        let scan : ScansOne entries p = one_at (ScansOne entries) front p back (subst (AllByRecursion (ScansOne entries)) parts scans) in
         let built = stood_built tables [] front stoods are in
-        let rows : ℕ = length (fed_over tables stoods p).rows in
-        let paid_for = cost query tables columns node planned building last same same_last units bounded front p back stoods parts are in
-        let size : entry_width b.made ≡ sink_size p.sink = width_is b.made ∙ ap sink_size (sym b.sink_is) in
-        let room = one_at (λ (q : Pipeline). sink_size q.sink + u ≤ page) front p back (subst (AllByRecursion (λ (q : Pipeline). sink_size q.sink + u ≤ page)) parts fit) in
-        let octets : sink_octets p.sink rows ≡ 4096 + rows * entry_width b.made = ap (λ (s : Sink). sink_octets s rows) b.sink_is ∙ ap (λ (k : ℕ). 4096 + rows * k) (sym (width_is b.made)) in
-        let next : budget u tables building (suc (length front)) ≡ budget u tables building (length front) + (u + sink_octets p.sink rows) =
-        subst (λ (l : List Pipeline). spent u l (built_in_order tables [] l) (suc (length front)) ≡ spent u l (built_in_order tables [] l) (length front) + (u + sink_octets p.sink rows)) (sym parts)
-        (spent_next u tables front p back [] [] (built_of stoods) tt built) in
         let pays : budget u tables building (suc (length front)) + 2 * u < (2 + 2 * length building + S / u + 1) * u =
         subst (λ (l : List Pipeline). spent u l (built_in_order tables [] l) (suc (length front)) + 2 * u < (2 + 2 * length building + S / u + 1) * u) (sym parts)
         (built_pays u S (length building) some tables front p back back (built_of stoods) built (within front (p ∷ back) (built_of stoods) parts built) (ap (λ (l : List Pipeline). length l) (sym parts))) in
-        let more = more_pages (length building) groups (S / u) u in
-        record {
-          made = b.made;
-          sink_is = b.sink_is;
-          number_is = b.number_is ∙ stoods_long tables [] front stoods are;
-          table_is = scan_table entries p scan;
-          has_column = scan_column entries read each p scan;
-          finds = build_finds query tables columns node planned building last same same_last typed distinct read T n at texts words N front p back stoods parts are
-              (one_at IsTakenBy front p back (subst (AllByRecursion IsTakenBy) parts can)) (omega (arith, paid_for, units_less));
-          fits = omega (arith, size, room);
-          grows = omega (arith, next, octets);
-          enough = less_then (budget u tables building (suc (length front)) + 2 * u) ((2 + 2 * length building + S / u + 1) * u) ((most u S groups building + 1) * u) pays more;
-        }
+        reach_paid query tables columns node planned building last same same_last typed distinct scans read each T at texts words can units bounded N u (most u S groups building) units_less fit front p back stoods parts are
+        (less_then (budget u tables building (suc (length front)) + 2 * u) ((2 + 2 * length building + S / u + 1) * u) ((most u S groups building + 1) * u) pays (more_pages (length building) groups (S / u) u))
       where
         less_then : (a b c : ℕ) → a < b → b ≤ c → a < c
         less_then a b c h g = omega (arith, h, g)
