@@ -8,7 +8,6 @@ use Rattle.qw_module.specs.declared.instruction.ValType.{ValType}
 use Rattle.qw_module.specs.declared.instruction.ValType.TheVariants.{I32, I64}
 use Rattle.qw_scalar.specs.Typing.{kind_of}
 use Rattle.qw_meaning.specs.Flow.{Flow}
-use Rattle.qw_low.specs.Syntax.{Statement}
 use Rattle.qw_low.specs.State.{Value, Number, Cells, LowState}
 use Rattle.qw_low.specs.Meaning.{meaning}
 use Rattle.qw_low.specs.Promise.{Ends}
@@ -32,7 +31,6 @@ use Rattle.qw_operator.proofs.CarriedTyped.{AreLed, IsReaderDeclared}
 use Rattle.qw_operator.proofs.Promised.{AreOwn}
 use Rattle.qw_operator.proofs.Stood.{Stood}
 use Rattle.qw_group_sink.specs.Grouping.{CanGroup, Group, turn_of}
-use Rattle.qw_group_sink.specs.Guarded.{IsGroupedWithin}
 use Rattle.qw_group_sink.proofs.GuardedFeeds.{first_grouped_runs, row_guarded}
 use Rattle.qw_group_sink.proofs.RowCounted.{scan_counts}
 use Rattle.qw_compile.specs.QueryLocals.{cell_start, own_start, query_readers, rows_end, rows_left}
@@ -42,6 +40,7 @@ use Rattle.qw_compile_whole.specs.GroupedStatements.{IsGatheringTo}
 use Rattle.qw_compile_whole.proofs.Beginnings.{chosen_fewer, keys_fewer, slot_fewer}
 use Rattle.qw_compile_whole.proofs.FirstBounded.{FirstReach}
 use Rattle.qw_compile_whole.proofs.Gathered.{AreGathered, Suits, groups_placed, into_groups, suits}
+use Rattle.qw_compile_whole.proofs.GatheringPlaced.{End}
 use Rattle.qw_compile_whole.proofs.RunsInto.{AreFirstOf, Placed, course_counts, first_beginning, first_rows, into_ends, placed_within}
 
 -- the groups of the first rows stand there, and the local says how many may still come
@@ -90,23 +89,17 @@ module _ (T n : ℕ) (columns : List ReadColumn) (literals : List Known) (conten
 
   module _ (table_of : ℕ → ℕ) (stoods : List Stood) (p : Pipeline) (group : Group) (is_select : p.sink ≡ select group.values) (can : CanGroup group) (number_is : group.table ≡ length stoods) (room_T : length stoods < T) (fields : List Field) (field_kinds : kinds_of (sources_of fields) ≡ map kind_of group.values)
       (course : Course) (next : ℕ) (own : List ValType) (behind : own_start T n (length columns) ≤ next) (room : next + length own ≤ many) (limit z : ℕ) (counted : limit < 2 ^ 64) (few_limit : limit ≤ 10 ^ 18)
-      (is : IsGatheringTo (λ known at a more. IsGroupedWithin (Some z) fields known at group a more) literals (query_readers T n columns) next p course own) (own_types : AreOwn types next own)
+      (is : IsGatheringTo (End (Some z) fields group) literals (query_readers T n columns) next p course own) (own_types : AreOwn types next own)
       (source : Source T n columns contents s0 p) (budget : ℕ) (r : FirstReach T n columns literals contents u most N table_of group stoods p budget)
       (place : (3 ≤ z) × (z ≤ 4)) (free_is : slice_get types 1 ≡ Some I32) (left_is : slice_get types 2 ≡ Some I32) (z_is : slice_get types z ≡ Some I64) (directory_is : slice_get types (directory group.table) ≡ Some I32) where
     abbrev fed : Flow (List Val)
     fed = fed_over contents stoods p
 
-    abbrev May : List (List Val) → Type 0
-    May = AreFirstOf limit fed.rows
-
     abbrev First : LowState → Type 0
     First = AreFirst T n c base u s0 group fields budget limit z fed.rows
 
-    abbrev End : List Known → (next : ℕ) → Statement → List ValType → Type 0
-    End known at a more = IsGroupedWithin (Some z) fields known at group a more
-
-    q : Suits group fields u most (budget + u + 4096) r.entries r.chosen May
-    q = suits group fields u most budget r.entries r.chosen fed.rows can field_kinds May (first_beginning limit fed.rows) (λ xs may some. (let few = may.1 in omega (arith, few, few_limit)))
+    q : Suits group fields u most (budget + u + 4096) r.entries r.chosen (AreFirstOf limit fed.rows)
+    q = suits group fields u most budget r.entries r.chosen fed.rows can field_kinds (AreFirstOf limit fed.rows) (first_beginning limit fed.rows) (λ xs may some. (let few = may.1 in omega (arith, few, few_limit)))
         (λ row xs may. chosen_fewer group.columns group.functions fed.rows xs row (r.chosen row) may.0 (r.compared row)) (λ xs may. keys_fewer group.columns fed.rows xs may.0) (λ j xs may. slot_fewer j group.columns fed.rows xs may.0) r.met r.fits r.enough
 
     pub first_ends : (s : LowState) → Between T n c base u s0 stoods budget s → slice_get s.locals z ≡ Some (Number limit) → Ends (size (build_block T group.table course) * N) (λ w. First w × (fed.codes ≡ [])) Never (Tells fed.codes) (meaning most fuel (build_block T group.table course) s)
@@ -117,22 +110,22 @@ module _ (T n : ℕ) (columns : List ReadColumn) (literals : List Known) (conten
         let before : ℕ = budget + u + 4096 in
         let d : ℕ = directory group.table in
         let front : ℕ = pos between.part between.offset in
-        let all : (part offset : ℕ) → Sink = into_groups c group fields u before May q.first in
-        into_ends T n columns literals contents c base u most fuel N many types s0 grounds stoods room_T p group.values is_select (turn_of group r.entries r.chosen) End course next own behind room is own_types source r.finds r.cost
+        let all : (part offset : ℕ) → Sink = into_groups c group fields u before (AreFirstOf limit fed.rows) q.first in
+        into_ends T n columns literals contents c base u most fuel N many types s0 grounds stoods room_T p group.values is_select (turn_of group r.entries r.chosen) (End (Some z) fields group) course next own behind room is own_types source r.finds r.cost
         d (omega (arith, number_is)) (omega (arith, number_is, room_T)) (λ k o. limit_of limit z (all k o)) (λ k o at wide low. low) (λ k o. first_rows limit fed.rows)
         (λ k o seen tables. (
-          first_grouped_runs c stoods (rows_left T) (omega (arith, room_T)) most fuel many types group can fields k o u before r.entries r.chosen May q.first (omega (arith, number_is, room_T)) q.small q.few_rows q.chosen_rows q.enough q.met seen tables limit z counted place free_is left_is z_is directory_is,
-          row_guarded c stoods (rows_left T) (omega (arith, room_T)) most fuel many types group can fields k o u before r.entries r.chosen May q.first (omega (arith, number_is, room_T)) q.small q.few_rows q.chosen_rows q.enough q.met seen tables limit z counted place free_is left_is z_is directory_is,
+          first_grouped_runs c stoods (rows_left T) (omega (arith, room_T)) most fuel many types group can fields k o u before r.entries r.chosen (AreFirstOf limit fed.rows) q.first (omega (arith, number_is, room_T)) q.small q.few_rows q.chosen_rows q.enough q.met seen tables limit z counted place free_is left_is z_is directory_is,
+          row_guarded c stoods (rows_left T) (omega (arith, room_T)) most fuel many types group can fields k o u before r.entries r.chosen (AreFirstOf limit fed.rows) q.first (omega (arith, number_is, room_T)) q.small q.few_rows q.chosen_rows q.enough q.met seen tables limit z counted place free_is left_is z_is directory_is,
         ))
         budget s between First (λ k o after w has keeps. (record { part = k; offset = o; behind = after; has = has.has; keeps = keeps }, has.left)) (directory_block d) 26 (omega arith)
         (Ends-weaker 26 26 (Placed d front all s) (Placed d front (λ k o. limit_of limit z (all k o)) s) Never Never IsRefusal IsRefusal (meaning most fuel (directory_block d) s) (omega arith)
         (λ t begun. placed_within d front all s t limit z place.0 (omega (arith, place.1)) holds begun) (λ t x. x) (λ code x. x)
-        (groups_placed c u most fuel group fields May q.first budget s between.part between.offset between.room between.paid grounds.u_low (omega (arith, number_is, room_T, known, own_known, between.keeps.many)) (omega (arith, paid_for))))
+        (groups_placed c u most fuel group fields (AreFirstOf limit fed.rows) q.first budget s between.part between.offset between.room between.paid grounds.u_low (omega (arith, number_is, room_T, known, own_known, between.keeps.many)) (omega (arith, paid_for))))
 
     -- ---- all of it counts the local down
     pub first_counts : slice_get types 0 ≡ Some I32 → AllByRecursion (IsReaderDeclared types) (readers_of T n columns p.entry) → AreLed types p.operators → CountsDown z (build_block T group.table course)
     first_counts page_is readers_declared led =
-        course_counts T n columns literals contents c base u most fuel N many types s0 grounds stoods room_T p group.values is_select (turn_of group r.entries r.chosen) End course next own behind room is own_types
+        course_counts T n columns literals contents c base u most fuel N many types s0 grounds stoods room_T p group.values is_select (turn_of group r.entries r.chosen) (End (Some z) fields group) course next own behind room is own_types
         z 4096 (directory group.table) (omega (arith, place.1)) place page_is free_is left_is z_is readers_declared
         (scan_counts types free_is left_is z place z_is fields group can directory_is literals (readers_of T n columns p.entry) (rows_left T) (rows_left T) (rows_end T) (cell_start T n (length columns)) next (omega arith)
         (laid T n columns literals contents c base u most fuel N many types s0 grounds p.entry next behind) (declared_over T n columns literals contents c base u most fuel N many types s0 grounds p.entry) readers_declared p.operators course.row own (omega (arith, behind)) own_types led is.row)

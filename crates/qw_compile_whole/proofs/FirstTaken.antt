@@ -32,7 +32,6 @@ use Rattle.qw_operator.proofs.CarriedTyped.{AreLed, IsReaderDeclared}
 use Rattle.qw_operator.proofs.Promised.{AreOwn}
 use Rattle.qw_operator.proofs.Stood.{Stood}
 use Rattle.qw_group_sink.specs.Grouping.{CanGroup, Group, over_fields}
-use Rattle.qw_group_sink.specs.Guarded.{IsOneGroupWithin}
 use Rattle.qw_group_sink.proofs.GuardedOne.{first_taken_runs, row_first_taken}
 use Rattle.qw_group_sink.proofs.RowCounted.{one_scan_counts}
 use Rattle.qw_compile.specs.QueryLocals.{cell_start, own_start, query_readers, rows_end, rows_left}
@@ -42,6 +41,7 @@ use Rattle.qw_compile_whole.specs.GroupedStatements.{IsGatheringTo}
 use Rattle.qw_compile_whole.specs.SingleStatements.{take_block}
 use Rattle.qw_compile_whole.proofs.FirstTakenBounded.{FirstTake}
 use Rattle.qw_compile_whole.proofs.FieldCounts.{areas_long}
+use Rattle.qw_compile_whole.proofs.TakingPlaced.{End}
 use Rattle.qw_compile_whole.proofs.Taken.{AreTaken, areas_placed, into_areas}
 use Rattle.qw_compile_whole.proofs.Beginnings.{chosen_fewer}
 use Rattle.qw_compile_whole.proofs.RunsInto.{AreFirstOf, Placed, course_counts, first_beginning, first_rows, into_ends, placed_within}
@@ -49,7 +49,7 @@ use Rattle.qw_compile_whole.proofs.RunsInto.{AreFirstOf, Placed, course_counts, 
 module _ (T n : ℕ) (columns : List ReadColumn) (literals : List Known) (contents : List (List (List Val))) (c : Cells) (base u most fuel N many : ℕ) (types : List ValType) (s0 : LowState) (grounds : Grounds T n columns literals c base u fuel N many types s0)
     (table_of : ℕ → ℕ) (stoods : List Stood) (p : Pipeline) (group : Group) (is_select : p.sink ≡ select group.values) (can : CanGroup group) (none : group.columns ≡ 0) (number_is : group.table ≡ length stoods) (room_T : length stoods < T) (fields : List Field) (field_kinds : kinds_of (sources_of fields) ≡ map kind_of group.values)
     (course : Course) (next : ℕ) (own : List ValType) (behind : own_start T n (length columns) ≤ next) (room : next + length own ≤ many) (limit z : ℕ) (counted : limit < 2 ^ 64) (few_limit : limit ≤ 10 ^ 18)
-    (is : IsGatheringTo (λ known at a more. IsOneGroupWithin (Some z) fields known at group a more) literals (query_readers T n columns) next p course own) (own_types : AreOwn types next own)
+    (is : IsGatheringTo (End (Some z) fields group) literals (query_readers T n columns) next p course own) (own_types : AreOwn types next own)
     (source : Source T n columns contents s0 p) (budget : ℕ) (r : FirstTake T n columns literals contents u most N table_of group stoods p budget)
     (place : (3 ≤ z) × (z ≤ 4)) (free_is : slice_get types 1 ≡ Some I32) (left_is : slice_get types 2 ≡ Some I32) (z_is : slice_get types z ≡ Some I64) (directory_is : slice_get types (directory group.table) ≡ Some I32) where
   abbrev fed : Flow (List Val)
@@ -61,9 +61,6 @@ module _ (T n : ℕ) (columns : List ReadColumn) (literals : List Known) (conten
   -- the areas have taken the first rows, and the local says how many may still come
   abbrev First : LowState → Type 0
   First w = AreTaken T n c base u s0 group fields budget (take limit fed.rows) w × (slice_get w.locals z ≡ Some (Number (limit - length fed.rows)))
-
-  abbrev End : List Known → (next : ℕ) → Statement → List ValType → Type 0
-  End known at a more = IsOneGroupWithin (Some z) fields known at group a more
 
   few_rows : (xs : List (List Val)) → May xs → 1 ≤ length group.functions → length xs ≤ 10 ^ 18
   few_rows xs may some = let few = may.1 in omega (arith, few, few_limit)
@@ -83,7 +80,7 @@ module _ (T n : ℕ) (columns : List ReadColumn) (literals : List Known) (conten
       let front : ℕ = pos between.part between.offset in
       let begins : Statement = single_block (32 * length (over_fields group.functions fields)) d in
       let all : (part offset : ℕ) → Sink = into_areas c group fields u budget May (first_beginning limit fed.rows) in
-      into_ends T n columns literals contents c base u most fuel N many types s0 grounds stoods room_T p group.values is_select r.chosen End course next own behind room is own_types source r.finds r.cost
+      into_ends T n columns literals contents c base u most fuel N many types s0 grounds stoods room_T p group.values is_select r.chosen (End (Some z) fields group) course next own behind room is own_types source r.finds r.cost
       d (omega (arith, number_is)) (omega (arith, number_is, room_T)) (λ k o. limit_of limit z (all k o)) (λ k o at wide low. low) (λ k o. first_rows limit fed.rows)
       (λ k o seen tables. (
         first_taken_runs c stoods (rows_left T) (omega (arith, room_T)) most fuel many types group can none fields k o u held r.chosen May (first_beginning limit fed.rows) (omega (arith, number_is, room_T)) few_rows chosen_rows seen tables limit z counted place free_is left_is z_is directory_is,
@@ -97,7 +94,7 @@ module _ (T n : ℕ) (columns : List ReadColumn) (literals : List Known) (conten
   -- ---- all of it counts the local down
   pub take_counts : slice_get types 0 ≡ Some I32 → AllByRecursion (IsReaderDeclared types) (readers_of T n columns p.entry) → AreLed types p.operators → CountsDown z block
   take_counts page_is readers_declared led =
-      course_counts T n columns literals contents c base u most fuel N many types s0 grounds stoods room_T p group.values is_select r.chosen End course next own behind room is own_types
+      course_counts T n columns literals contents c base u most fuel N many types s0 grounds stoods room_T p group.values is_select r.chosen (End (Some z) fields group) course next own behind room is own_types
       z (32 * length (over_fields group.functions fields)) (directory group.table) (omega (arith, place.1)) place page_is free_is left_is z_is readers_declared
       (one_scan_counts types free_is left_is z place z_is fields group can directory_is literals (readers_of T n columns p.entry) (rows_left T) (rows_left T) (rows_end T) (cell_start T n (length columns)) next (omega arith)
       (laid T n columns literals contents c base u most fuel N many types s0 grounds p.entry next behind) (declared_over T n columns literals contents c base u most fuel N many types s0 grounds p.entry) readers_declared p.operators course.row own (omega (arith, behind)) own_types led none is.row)

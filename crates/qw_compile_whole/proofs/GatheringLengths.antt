@@ -27,7 +27,6 @@ use Rattle.qw_physical.specs.declared.pipeline.Sink.TheVariants as sink
 use Rattle.qw_operator.specs.Carries.{directory}
 use Rattle.qw_operator.specs.Span.{operator_span, sink_span, span}
 use Rattle.qw_operator.specs.Takes.{CanCarry}
-use Rattle.qw_operator.proofs.Shortness.{steps_twice}
 use Rattle.qw_group_sink.specs.Carrying.{span_to}
 use Rattle.qw_group_sink.specs.Grouping.{group_span}
 use Rattle.qw_group_sink.specs.declared.group.Group.{Group}
@@ -37,7 +36,7 @@ use Rattle.qw_compile.specs.QueryMade.{ArePlacesOf, CanStand}
 use Rattle.qw_compile.specs.declared.courses.Places.{Places}
 use Rattle.qw_compile.proofs.ReadersFew.{few_over}
 use Rattle.qw_compile.proofs.SpanLengths.{CanBe, all_steps, few_operators}
-use Rattle.qw_compile.proofs.StatementLengths.{locals_long}
+use Rattle.qw_compile.proofs.StatementLengths as statement
 use Rattle.qw_compile_whole.specs.GroupedLimits.{AreShortGrouped, gathering_span, walk_span}
 use Rattle.qw_compile_whole.specs.GuardedStatements.{count_from, stop_at}
 
@@ -113,18 +112,11 @@ words_few ps behind columns words short few =
 -- ---- the whole
 pub few_steps : (descriptor texts words : ℕ) (leads sets : Statement) (pipelines code : List LowStep) (own : List ValType) → code ≡ steps_of (space_block descriptor) ++ (steps_of leads ++ (steps_of sets ++ pipelines)) → statement_size leads ≤ 6 * texts → statement_size sets ≤ 2 * words →
     length pipelines + length own ≤ 2030000 → texts ≤ 4012 → words ≤ 4012 → length code ≤ 2097152
-few_steps descriptor texts words leads sets pipelines code own is leading setting short few few_words =
-    let all = ap (λ (l : List LowStep). length l) is in
-    let one = length-append (steps_of (space_block descriptor)) (steps_of leads ++ (steps_of sets ++ pipelines)) in
-    let two = length-append (steps_of leads) (steps_of sets ++ pipelines) in
-    let three = length-append (steps_of sets) pipelines in
-    omega (arith, all, one, two, three, steps_twice leads, steps_twice sets, leading, setting, short, few, few_words)
+few_steps descriptor texts words leads sets pipelines code own is leading setting short few few_words = statement.few_steps descriptor texts words leads sets pipelines code own is leading setting short few few_words
 
 pub few_locals : (tables texts words : ℕ) (columns : List ReadColumn) (own locals : List ValType) (pipelines : List LowStep) → locals ≡ query_locals tables texts words columns own → length pipelines + length own ≤ 2030000 → tables ≤ 9 → texts ≤ 4012 → words ≤ 4012 →
     length columns ≤ 512 → length locals ≤ 2097152
-few_locals tables texts words columns own locals pipelines is short few few_texts few_words few_columns =
-    let all = ap (λ (l : List ValType). length l) is in
-    omega (arith, all, locals_long tables texts words columns own, short, few, few_texts, few_words, few_columns)
+few_locals tables texts words columns own locals pipelines is short few few_texts few_words few_columns = statement.few_locals tables texts words columns own locals pipelines is short few few_texts few_words few_columns
 
 -- from the places of literals and columns
 pub places_short : (tables : ℕ) (ts : List (List ℕ)) (ps : List Pipeline) (behind : Pipeline) (columns : List ReadColumn) (p : Places) (known : List Known) (keys functions : ℕ) → ArePlacesOf tables ts (ps ++ behind ∷ []) columns p → IsDistinct eqb (numbers columns) →

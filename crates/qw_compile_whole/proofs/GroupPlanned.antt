@@ -1,6 +1,6 @@
 -- The pipelines of what reaches a query's groups: the last one feeds the rows of its plan, whatever is raised, and those that build tables hold no more than the
 -- plan's tables.
-use Rattle.std.proofs.Common.{◌≡◌, ◌∙◌, ◌≤◌, ℕ, ◌+◌, ◌*◌, max, true, List, [], ◌∷◌, ◌++◌, length, length-append, refl, sym, ap, subst, arith}
+use Rattle.std.proofs.Common.{◌≡◌, ◌∙◌, ◌≤◌, ℕ, ◌+◌, ◌*◌, max, true, List, [], ◌∷◌, ◌++◌, length, sym, ap, subst, arith}
 use Rattle.std.specs.List.{AllByRecursion, AllZip}
 use Rattle.std.specs.List.Sorted.{IsPermutation}
 use Rattle.std.specs.declared.cmp.Ordering.TheVariants as ordering
@@ -25,8 +25,7 @@ use Rattle.qw_physical.specs.Sides.{IsPlanned, builds_of, last_of}
 use Rattle.qw_physical.specs.Spelled.{IsSamePipeline, all_spelled}
 use Rattle.qw_physical.specs.Typed.{IsTypedPhysical}
 use Rattle.qw_physical.proofs.Alikeness.{pipeline_fed_same}
-use Rattle.qw_physical.proofs.Begun.{costs_bounded}
-use Rattle.qw_physical.proofs.Holding.{all_count, all_sizes, builds_held}
+use Rattle.qw_physical.proofs.Holding.{all_sizes, builds_held}
 use Rattle.qw_physical.proofs.Orders.{Alike}
 use Rattle.qw_physical.proofs.QueryScans.{ScansOne}
 use Rattle.qw_physical.proofs.Results.{last_alike}
@@ -36,28 +35,13 @@ use Rattle.qw_operator.proofs.Stood.{Stood, built_of}
 use Rattle.qw_compile.specs.PlannedQueries.{greatest, kept_by, placed, units}
 use Rattle.qw_compile.proofs.KeptBounds.{greatest_few, stored_few}
 use Rattle.qw_compile.proofs.PipelineRuns.{AreStood, fed_over}
-use Rattle.qw_compile.proofs.Planned.{all_scan, planned}
+use Rattle.qw_compile.proofs.PromiseKept as promised
+use Rattle.qw_compile.proofs.PromiseKept.{halves}
 use Rattle.qw_compile.proofs.QueryBounded.{held_same, size_same}
-use Rattle.qw_compile.proofs.QueryReach.{zip_long}
 use Rattle.qw_compile.proofs.QueryTold.{spelled_built}
 use Rattle.qw_compile.proofs.StoodBuilt.{built_alike}
 use Rattle.qw_whole.specs.WholePromises.{planned_rows}
 use Rattle.qw_compile_whole.proofs.FrontLed.{FrontOf, cut}
-
--- a list that is alike another, where that one has two parts
-record Halves (R : Pipeline → Pipeline → Type 0) (xs front back : List Pipeline) : Type 0 where
-  before : List Pipeline
-  after : List Pipeline
-  is : xs ≡ before ++ after
-  same_before : AllZip R before front
-  same : AllZip R (before ++ after) (front ++ back)
-
-halves : (R : Pipeline → Pipeline → Type 0) (xs front back : List Pipeline) → AllZip R xs (front ++ back) → Halves R xs front back
-halves R xs [] back z = record { before = []; after = xs; is = refl; same_before = tt; same = z }
-halves R [] (q ∷ front) back z = absurd z
-halves R (x ∷ xs) (q ∷ front) back z =
-    let rest = halves R xs front back z.1 in
-    record { before = x ∷ rest.before; after = rest.after; is = ap (λ (l : List Pipeline). x ∷ l) rest.is; same_before = (z.0, rest.same_before); same = (z.0, rest.same) }
 
 module _ (row_is : (row other : List Val) → is_same_row row other ≡ true → row ≡ other) (value_is : (a : Val) → value_order a a ≡ ordering.Equal)
     {texts : List (List ℕ)} {layout : Layout} (source : FrontOf texts layout) where
@@ -68,31 +52,15 @@ module _ (row_is : (row other : List Val) → is_same_row row other ≡ true →
   abbrev below : Node
   below = keyed true (sifted true [] (filter query.conjuncts (from_written query.sources)))
 
-  spelled_are : all_spelled source.kept 0 (pipelines source.of.node) ≡ all_spelled source.kept 0 (pipelines (placed query))
-  spelled_are = ap (λ (n : Node). all_spelled source.kept 0 (pipelines n)) source.of.placed
-
-  -- all that are spelled out are the code's
-  same_whole : AllZip IsSamePipeline (all_spelled source.kept 0 (pipelines (placed query))) (source.building ++ source.last ∷ [])
-  same_whole =
-      subst (λ (ps : List Pipeline). AllZip IsSamePipeline ps (source.building ++ source.last ∷ [])) spelled_are
-      (subst (AllZip IsSamePipeline (all_spelled source.kept 0 (pipelines source.of.node))) source.whole source.of.same)
-
   -- a table for each join
   pub built_many : length source.building ≡ table_count (placed (query_of source.parts))
-  built_many =
-      let count : length (all_spelled source.kept 0 (pipelines (placed query))) ≡ table_count (placed query) + 1 = all_count row_is value_is source.kept [] below query.items in
-      let long = zip_long IsSamePipeline (all_spelled source.kept 0 (pipelines (placed query))) (source.building ++ source.last ∷ []) same_whole in
-      let both = length-append source.building (source.last ∷ []) in
-      summed (length (all_spelled source.kept 0 (pipelines (placed query)))) (table_count (placed query)) (length (source.building ++ source.last ∷ [])) (length source.building) count long both
-    where
-      summed : (whole tables parts n : ℕ) → whole ≡ tables + 1 → whole ≡ parts → parts ≡ n + 1 → n ≡ tables
-      summed whole tables parts n e f g = omega (arith, e, f, g)
+  built_many = promised.built_many row_is value_is source.parts source.kept source.columns source.ps source.are source.of (cut source)
 
   pub typed_builds : AllByRecursion IsTypedPhysical source.building
   typed_builds = all_front IsTypedPhysical source.building (source.last ∷ []) (subst (AllByRecursion IsTypedPhysical) source.whole source.of.typed)
 
   pub scans_whole : AllByRecursion (ScansOne (entries_of (query_of source.parts).sources)) (source.building ++ source.last ∷ [])
-  scans_whole = subst (AllByRecursion (ScansOne (entries_of query.sources))) source.whole (all_scan source.parts source.kept source.columns source.ps source.are source.of)
+  scans_whole = promised.scans_whole row_is value_is source.parts source.kept source.columns source.ps source.are source.of (cut source)
 
   pub last_scans : ScansOne (entries_of (query_of source.parts).sources) source.last
   last_scans = (all_back (ScansOne (entries_of query.sources)) source.building (source.last ∷ []) scans_whole).0
@@ -103,7 +71,7 @@ module _ (row_is : (row other : List Val) → is_same_row row other ≡ true →
       let few = greatest_few source.parts source.kept source.are.kept_once source.are.named in
       all_front (λ (p : Pipeline). sink_size p.sink ≤ greatest (query_of source.parts)) source.building (source.last ∷ [])
       (zip_all IsSamePipeline (λ p. sink_size p.sink ≤ greatest (query_of source.parts)) (λ p. sink_size p.sink ≤ greatest (query_of source.parts))
-      (λ p q z h. let same = size_same p.sink q.sink z.sink in omega (arith, h, same)) (all_spelled source.kept 0 (pipelines (placed query))) (source.building ++ source.last ∷ []) same_whole
+      (λ p q z h. let same = size_same p.sink q.sink z.sink in omega (arith, h, same)) (all_spelled source.kept 0 (pipelines (placed query))) (source.building ++ source.last ∷ []) (promised.same_whole row_is value_is source.parts source.kept source.columns source.ps source.are source.of (cut source))
       (more (max (row_size (length query.items)) (greatest_entry (kept_of source.kept) (placed query))) (greatest query) (all_spelled source.kept 0 (pipelines (placed query))) few (all_sizes row_is value_is source.kept [] below query.items)))
     where
       more : (most other : ℕ) (ps : List Pipeline) → most ≤ other → AllByRecursion (λ (p : Pipeline). sink_size p.sink ≤ most) ps → AllByRecursion (λ (p : Pipeline). sink_size p.sink ≤ other) ps
@@ -113,11 +81,10 @@ module _ (row_is : (row other : List Val) → is_same_row row other ≡ true →
   -- ---- over tables
   module _ (tables : List (List (List Val))) (loaded : AreOfEntries (entries_of (query_of source.parts).sources) tables) where
     pub plan : IsPlanned (query_of source.parts) tables source.kept source.of.node
-    plan = planned source.parts source.kept source.columns source.ps source.are source.of tables loaded
+    plan = promised.plan row_is value_is source.parts source.kept source.columns source.ps source.are source.of (cut source) tables loaded
 
     pub cost_within : (front back : List Pipeline) (more : List (List (List Val))) → all_spelled source.kept 0 (pipelines source.of.node) ≡ front ++ back → AreBuilt tables [] front more → costs tables [] (front ++ back) more ≤ units (query_of source.parts) tables
-    cost_within front back more is built =
-        costs_bounded row_is value_is source.kept tables query front back more source.are.specification loaded source.of.sized source.are.reads plan.scaled (sym spelled_are ∙ is) built
+    cost_within front back more is built = promised.cost_within row_is value_is source.parts source.kept source.columns source.ps source.are source.of (cut source) tables loaded front back more is built
 
     -- tables of joins hold no more than those of the plan
     pub builds_within : (front back : List Pipeline) (more : List (List (List Val))) → source.building ≡ front ++ back → AreBuilt tables [] front more

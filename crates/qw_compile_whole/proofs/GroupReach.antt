@@ -9,20 +9,21 @@ use Rattle.qw_meaning.specs.Select.{AreOfEntries, Entry, Specification, entries_
 use Rattle.qw_read.specs.Reading.{known_of}
 use Rattle.qw_physical.specs.Courses.{AreBuilt, pipeline_cost, pipeline_fed}
 use Rattle.qw_physical.specs.Held.{held, sink_octets, sink_size}
-use Rattle.qw_physical.specs.Physical.{Pipeline, Sink}
+use Rattle.qw_physical.specs.Physical.{Pipeline}
 use Rattle.qw_physical.specs.Sides.{IsPlanned, builds_of}
 use Rattle.qw_physical.proofs.Permuted.{built_in_order}
 use Rattle.qw_physical.proofs.QueryScans.{ScansOne}
 use Rattle.qw_operator.specs.Takes.{CanCarry}
 use Rattle.qw_operator.proofs.Stood.{Stood, built_of}
 use Rattle.qw_compile.proofs.Budgets.{pages_pay, spent}
-use Rattle.qw_compile.proofs.PipelineRuns.{AreStood, Finds, entry_width, fed_over, readers_of}
+use Rattle.qw_compile.proofs.PipelineRuns.{AreStood, Finds, fed_over, readers_of}
 use Rattle.qw_compile.proofs.QueryBounded.{built_pays}
-use Rattle.qw_compile.proofs.QueryFinds.{build_finds, last_finds, one_at}
-use Rattle.qw_compile.proofs.QueryReach.{code_builds, scan_column, scan_table, stoods_long, table_of, width_is}
+use Rattle.qw_compile.proofs.QueryFinds.{last_finds}
+use Rattle.qw_compile.proofs.QueryReach.{table_of}
 use Rattle.qw_compile.proofs.QueryRuns.{Reach}
-use Rattle.qw_compile.proofs.QueryTold.{cost, cost_last, spelled_built, told, told_last}
-use Rattle.qw_compile.proofs.Spent.{spent_front, spent_next}
+use Rattle.qw_compile.proofs.QueryTold.{cost_last, spelled_built, told, told_last}
+use Rattle.qw_compile.proofs.QueryWithin.{reach_paid}
+use Rattle.qw_compile.proofs.Spent.{spent_front}
 use Rattle.qw_compile.proofs.StoodBuilt.{stood_built}
 use Rattle.std.specs.declared.cmp.Ordering.TheVariants as ordering
 use Rattle.qw_types.specs.ValueOrder.{is_same_row, value_order}
@@ -135,34 +136,15 @@ module _ (row_is : (row other : List Val) → is_same_row row other ≡ true →
       Reach T (front_count source) source.columns (literals_over source T) tables (page - widest) (most (page - widest) S beside source.building) N (table_of (entries_of (query_of source.parts).sources)) stoods p (budget (page - widest) tables source.building (length front))
       (budget (page - widest) tables source.building (suc (length front)))
   builds_reach front p back stoods parts are =
-      let b = code_builds source.kept source.of.node source.building (cut source).same front p back parts in
-      let scan : ScansOne entries p = one_at (ScansOne entries) front p back (subst (AllByRecursion (ScansOne entries)) parts (all_front (ScansOne entries) source.building (source.last ∷ []) (scans_whole row_is value_is source))) in
       let built = stood_built tables [] front stoods are in
-      let rows : ℕ = length (fed_over tables stoods p).rows in
-      let paid_for = cost spec tables source.kept source.of.node the_plan source.building source.last (cut source).same (cut source).same_last (units spec tables) (cost_within row_is value_is source tables loaded) front p back stoods parts are in
-      let size : entry_width b.made ≡ sink_size p.sink = width_is b.made ∙ ap sink_size (sym b.sink_is) in
-      let fit = one_at (λ (q : Pipeline). sink_size q.sink + u ≤ page) front p back (subst (AllByRecursion (λ (q : Pipeline). sink_size q.sink + u ≤ page)) parts builds_fit) in
-      let octets : sink_octets p.sink rows ≡ 4096 + rows * entry_width b.made = ap (λ (s : Sink). sink_octets s rows) b.sink_is ∙ ap (λ (k : ℕ). 4096 + rows * k) (sym (width_is b.made)) in
-      let next : budget u tables source.building (suc (length front)) ≡ budget u tables source.building (length front) + (u + sink_octets p.sink rows) =
-      subst (λ (l : List Pipeline). spent u l (built_in_order tables [] l) (suc (length front)) ≡ spent u l (built_in_order tables [] l) (length front) + (u + sink_octets p.sink rows)) (sym parts)
-      (spent_next u tables front p back [] [] (built_of stoods) tt built) in
       let joins = builds_within row_is value_is source tables loaded front (p ∷ back) (built_of stoods) parts built in
       let pays : budget u tables source.building (suc (length front)) + 2 * u < (2 + 2 * length source.building + S / u + 1) * u =
       subst (λ (l : List Pipeline). spent u l (built_in_order tables [] l) (suc (length front)) + 2 * u < (2 + 2 * length source.building + S / u + 1) * u) (sym parts)
       (built_pays u S (length source.building) some_given tables front p back back (built_of stoods) built (omega (arith, joins, octets_within)) (ap (λ (l : List Pipeline). length l) (sym parts))) in
-      let more = more_pages (length source.building) beside (S / u) u in
-      record {
-        made = b.made;
-        sink_is = b.sink_is;
-        number_is = b.number_is ∙ stoods_long tables [] front stoods are;
-        table_is = scan_table entries p scan;
-        has_column = scan_column entries source.columns source.are.each p scan;
-        finds = build_finds spec tables source.kept source.of.node the_plan source.building source.last (cut source).same (cut source).same_last (typed_builds row_is value_is source) (are_distinct source.kept source.are.kept_once) source.columns T (front_count source) (front_at source) texts (front_words source) N front p back stoods parts are
-            (one_at IsTaken front p back (subst (AllByRecursion IsTaken) parts (front_takes source T room))) (omega (arith, paid_for, units_within));
-        fits = omega (arith, size, fit);
-        grows = omega (arith, next, octets);
-        enough = less_then (budget u tables source.building (suc (length front)) + 2 * u) ((2 + 2 * length source.building + S / u + 1) * u) ((most u S beside source.building + 1) * u) pays more;
-      }
+      reach_paid spec tables source.kept source.of.node the_plan source.building source.last (cut source).same (cut source).same_last (typed_builds row_is value_is source) (are_distinct source.kept source.are.kept_once)
+      (all_front (ScansOne entries) source.building (source.last ∷ []) (scans_whole row_is value_is source)) source.columns source.are.each T (front_at source) texts (front_words source) (front_takes source T room) (units spec tables)
+      (cost_within row_is value_is source tables loaded) N u (most u S beside source.building) (omega (arith, units_within)) builds_fit front p back stoods parts are
+      (less_then (budget u tables source.building (suc (length front)) + 2 * u) ((2 + 2 * length source.building + S / u + 1) * u) ((most u S beside source.building + 1) * u) pays (more_pages (length source.building) beside (S / u) u))
     where
       less_then : (a b c : ℕ) → a < b → b ≤ c → a < c
       less_then a b c h g = omega (arith, h, g)

@@ -23,12 +23,12 @@ use Rattle.qw_low.specs.Meaning.{meaning}
 use Rattle.qw_low.specs.Promise.{Ends}
 use Rattle.qw_low.specs.Size.{size}
 use Rattle.qw_low.proofs.LessKnown.{IsLess, seen}
-use Rattle.qw_low.proofs.Promises.{Ends-then, Ends-weaker}
+use Rattle.qw_low.proofs.Promises.{Ends-more, Ends-then, Ends-weaker}
 use Rattle.qw_feed.specs.Cells.{HasRow, Uses, UsesNull, kinds_of}
-use Rattle.qw_feed.specs.Feeds.{Any, AtMost, FedTo, Tells, spend}
+use Rattle.qw_feed.specs.Feeds.{Any, AtMost, FedTo, Sink, Tells, spend}
 use Rattle.qw_feed.specs.Frames.{pos, Before, Below, From, Keeps}
-use Rattle.qw_feed.specs.Room.{Paid}
-use Rattle.qw_feed.specs.Rows.{BesideRoot, HasRows, Row, begin_block}
+use Rattle.qw_feed.specs.Room.{HasRoom, Paid}
+use Rattle.qw_feed.specs.Rows.{BesideRoot, HasRows, Row, begin_block, rows_sink}
 use Rattle.qw_feed.specs.Stages.{Among}
 use Rattle.qw_feed.proofs.Frames.{Never, Keeps-less, Keeps-then}
 use Rattle.qw_feed.proofs.RoomRuns.{room-kept}
@@ -59,12 +59,13 @@ use Rattle.qw_group_pipeline.specs.declared.columns.ValueColumn.{ValueColumn}
 use Rattle.qw_group_pipeline.proofs.GroupsFeed.{AreTheir, IsGood, IsGoodTo, group_units}
 use Rattle.qw_group_pipeline.proofs.RowFeeds.{by_result}
 use Rattle.qw_group_pipeline.proofs.ValuesCome.{AreRead, functions_of}
-use Rattle.qw_group_pipeline.proofs.WholeGroups.{all_come, query_feeds, result}
+use Rattle.qw_group_pipeline.proofs.WholeGroups.{all_come, query_feeds}
 use Rattle.qw_compile.specs.QueryLocals.{cell_start, own_start, query_readers, rows_end}
 use Rattle.qw_compile.proofs.PipelineRuns.{Grounds, Steady, less_known}
 use Rattle.qw_compile_whole.proofs.Gathered.{AreGathered, gathered_paid, key_long}
 use Rattle.qw_compile_whole.proofs.GroupBounded.{GoTogether, WalkReach, groups_paid, walked_of}
 use Rattle.qw_compile_whole.proofs.Widened.{less_widened, lies_before, rows_elsewhere, seen_where, stands_widened, table_seen, widened, widened_less}
+use Rattle.qw_physical.proofs.Orders.{Alike}
 
 -- ---- units of several, in any order
 spend_sum : (u : List Val → ℕ) (xs : List (List Val)) → spend u xs ≡ sum_by (λ (x : List Val). 1 + u x) xs
@@ -130,172 +131,212 @@ pub record IsWalked (T n : ℕ) (c : Cells) (base u : ℕ) (s0 : LowState) (quer
   pub has : HasRows (HasRow (LiesIn c) (map kind_of query.items)) (8 + 16 * length query.items) rows_base u budget found w
   pub keeps : Keeps (Steady T n) (BehindWords base) s0 w
 
-module _ (T n : ℕ) (columns : List ReadColumn) (literals : List Known) (contents : List (List (List Val))) (c : Cells) (base u most fuel N many : ℕ) (types : List ValType) (s0 : LowState) (grounds : Grounds T n columns literals c base u fuel N many types s0) where
-  abbrev own_first : ℕ
-  own_first = own_start T n (length columns)
+-- no more rows than there are may come, and they are paid for
+pub fewer_come : (total : ℕ) (xs ys : List (List Val)) → AtMost total (xs ++ ys) → AtMost total xs
+fewer_come total xs ys le = let all = length-append xs ys in omega (arith, le, all)
 
-  module _ (query : Grouped) (group : Group) (key : List ReadColumn) (values : List ValueColumn) (together : GoTogether query group key values literals) (fields : List Field) (field_kinds : kinds_of (sources_of fields) ≡ map kind_of group.values) (low_table : group.table < T)
-      (walk : Statement) (next : ℕ) (own : List ValType) (is : IsGroupPipeline literals (directory group.table) next key values (filter query.having ∷ []) (select query.items) walk own) (behind : own_first ≤ next) (room : next + length own ≤ many) (own_types : AreOwn types next own)
-      (budget : ℕ) (rows : List (List Val)) (few : 1 ≤ length group.functions → length rows < 10 ^ 18) (r : WalkReach query group key values u most N rows (groups_paid u group budget rows)) (s : LowState) (h : AreGathered T n c base u s0 group fields budget rows s) where
-    abbrev places : List Field
-    places = key_fields group fields
+pub rows_pay : (total width paid_for most u : ℕ) → paid_for + total * width + 2 * u < (most + 1) * u → (xs : List (List Val)) → AtMost total xs → paid_for + length xs * width + 2 * u < (most + 1) * u
+rows_pay total width paid_for most u all xs le = let less = mul-le (length xs) width total width le (omega arith) in omega (arith, less, all)
 
-    abbrev aggregates : List Aggregate
-    aggregates = aggregates_of group fields
+-- what is seen where the result has begun: what was seen, and what is between two places
+pub record Sees (c more : Cells) (literals : List Known) (many from to : ℕ) (s t : LowState) : Type 0 where
+  pub less : IsLess more t.cells
+  pub long : many ≤ length t.locals
+  pub also : (p : Part) (i : ℕ) (octets : List ℕ) → StandsIn c s p i octets → StandsIn more t p i octets
+  pub held : (row : List Val) → AreHeld literals row (seen more t)
+  pub there : (k at width : ℕ) → 2 ≤ width → from ≤ pos k at → pos k at + width ≤ to → more (Own k) at width ≡ t.cells (Own k) at width
 
-    abbrev wide : ℕ
-    wide = group_size places aggregates
+-- ---- the result begins behind something that stands between two places behind the tables of joins, and a block that reads it feeds the result
+module _ (T n : ℕ) (columns : List ReadColumn) (literals : List Known) (contents : List (List (List Val))) (c : Cells) (base u most fuel N many : ℕ) (types : List ValType) (s0 : LowState) (grounds : Grounds T n columns literals c base u fuel N many types s0)
+    (query : Grouped) (rows : List (List Val)) (paid_for : ℕ) (s : LowState) (keeps : Keeps (Steady T n) (Before base) s0 s) (part offset : ℕ) (room : HasRoom part offset s) (paid : Paid u paid_for offset s.held) (from to : ℕ) (from_behind : base ≤ from) (to_before : to ≤ pos part offset) (behind : base ≤ pos part offset) where
+  abbrev front : ℕ
+  front = pos part offset
 
-    abbrev d : ℕ
-    d = directory group.table
+  abbrev width : ℕ
+  width = 8 + 16 * length query.items
 
-    abbrev from : ℕ
-    from = pos h.part h.offset
+  abbrev around : Cells
+  around = widened from to s.cells c
 
-    -- the result begins where free space does
-    abbrev rows_base : ℕ
-    rows_base = pos h.has.part h.has.offset
+  abbrev RowAt : Cells → ℕ → ℕ → List Val → Type 0
+  RowAt = HasRow (LiesIn around) (map kind_of query.items)
 
-    abbrev more : Cells
-    more = widened (pos h.part h.offset) (pos h.has.part h.has.offset) s.cells c
+  less : IsLess c s.cells
+  less = less_known T n columns literals contents c base u most fuel N many types s0 grounds s keeps
 
-    abbrev paid_for : ℕ
-    paid_for = groups_paid u group budget rows
+  pub seen_beside : (k a b : ℕ) (v : Value) → around (Own k) a b ≡ Some v → BesideRoot front (pos k a) b
+  seen_beside =
+      let before = grounds.entries_before in
+      seen_where from to s.cells c (BesideRoot front) (λ k a b low high. inr (omega (arith, low, from_behind, before), omega (arith, high, to_before)))
+      (λ k a b v is'. let seen_low = (grounds.own_seen k a b v is').0 in inr (seen_low.0, omega (arith, seen_low.1, behind)))
 
-    abbrev width : ℕ
-    width = 8 + 16 * length query.items
+  module _ (t : LowState) (begun : RowsBegun RowAt width u paid_for part offset s t) where
+    cells_same : t.cells ≡ s.cells
+    cells_same = ap (λ (x : LowState). x.cells) begun.kept.others
 
-    abbrev RowHas : Cells → ℕ → ℕ → List Val → Type 0
-    RowHas = HasRow (LiesIn more) (map kind_of query.items)
+    same_t : Keeps (Steady T n) (Before base) s0 t
+    same_t = Keeps-then (Steady T n) (Before base) s0 s t keeps
+        (Keeps-less (Steady T n) (Before base) (From 5) (Before base) s t (λ i old. ⊎_elim inl (λ g'. inr (omega (arith, g'.0))) old) (λ at wide' low'. low') (rows_keep (Before base) RowAt width u paid_for part offset s t begun))
 
-    abbrev units : List Val → ℕ
-    units = group_units key values (filter query.having ∷ []) (select query.items) group.columns rows
+    pub sees : Sees c around literals many from to s t
+    sees = record {
+      less = subst (λ (x : Cells). IsLess around x) (sym cells_same) (widened_less from to s.cells c less);
+      long = let long = grounds.long in omega (arith, long, (same_t).many);
+      also = λ p i octets stands. stands_widened from to s.cells c less t p i octets (stands_later c s t p i octets (longer_kept 3 s t begun.kept) stands);
+      held = λ row. held_more c (seen around t) literals row (less_widened from to s.cells c less) (grounds.held t (λ i low high. (same_t).locals i (inr (low, high))) (begun.has.room.pages 0 (omega arith)) row);
+      there = λ k at wide' two low high. table_seen from to s.cells c k at wide' two low high ∙ sym (ap (λ (x : Cells). x (Own k) at wide') cells_same);
+    }
 
-    places_long : length places ≡ group.columns
-    places_long = key_long group fields together.can field_kinds
+  abbrev result : Sink
+  result = rows_sink RowAt width front u paid_for (AtMost (length (walked_of query rows).rows)) (fewer_come (length (walked_of query rows).rows))
 
-    table_before : from + 4096 ≤ rows_base
-    table_before = let directory_before = h.has.directory.behind in omega (arith, directory_before)
+  -- what comes of it is the result, in some order, and then what follows is done
+  pub result_then : (block : Statement) (next : ℕ) → own_start T n (length columns) ≤ next → (Told : ℕ → Type 0) → ((raised : ℕ) → Tells (walked_of query rows).codes raised → Told raised) →
+      ((t : LowState) → RowsBegun RowAt width u paid_for part offset s t → (flow : Flow (List Val)) × Alike flow (walked_of query rows) × Ends (size block * N) (FedTo result (Below next) Any flow [] t) Never (Tells flow.codes) (meaning most fuel block t)) →
+      (m : ℕ) (P : LowState → Type 0) (finish : Statement) → ((w : LowState) → IsWalked T n c base u s0 query paid_for rows w → Ends m P Never Told (meaning most fuel finish w)) →
+      Ends (6 + (size block * N + m)) P Never Told (meaning most fuel (seq begin_block (seq block finish)) s)
+  result_then block next low_next Told told feeds m P finish onward =
+      let before = grounds.entries_before in
+      let long = grounds.long in
+      let own_known = grounds.first_own in
+      let Walked : LowState → Type 0 = IsWalked T n c base u s0 query paid_for rows in
+      Ends-then P Never Told 6 (size block * N + m) (RowsBegun RowAt width u paid_for part offset s) (meaning most fuel begin_block s) (meaning most fuel (seq block finish))
+      (rows_begin_end Told most fuel s RowAt width u paid_for part offset (omega (arith, behind, before)) room (omega (arith, long, own_known, keeps.many))
+      (keeps.locals 0 (inl refl) ∙ grounds.descriptor) (keeps.cells 0 8 4 (omega (arith, before)) ∙ grounds.root) paid)
+      (λ t begun.
+      let fed = feeds t begun in
+      let flow : Flow (List Val) = fed.0 in
+      Ends-then P Never Told (size block * N) m Walked (meaning most fuel block t) (meaning most fuel finish)
+      (Ends-weaker (size block * N) (size block * N) (FedTo result (Below next) Any flow [] t) Walked Never Never (Tells flow.codes) Told (meaning most fuel block t) (omega arith)
+      (λ w done. record {
+        found = flow.rows;
+        same = fed.1.0;
+        none = none_left flow.codes (walked_of query rows).codes fed.1.1 done.none;
+        rows_base = front;
+        has = rows_elsewhere (LiesIn around) (LiesIn c) (λ p o octets. lies_before from to s.cells c p o octets) (map kind_of query.items) width front u paid_for flow.rows w done.has;
+        keeps = Keeps-then (Steady T n) (BehindWords base) s0 t w
+            (Keeps-less (Steady T n) (BehindWords base) (Steady T n) (Before base) s0 t (λ i old. old) (λ at wide' low'. low'.1) (same_t t begun))
+            (Keeps-less (Steady T n) (BehindWords base) (Below next) (BesideRoot front) t w (λ i old. ⊎_elim (λ z. inl z) (λ g'. inr (omega (arith, g'.0), omega (arith, g'.1, low_next))) old)
+            (λ at wide' low'. inr (omega (arith, low'.0), omega (arith, low'.1, behind))) done.keeps);
+      }) (λ w x. x) (λ code x. told code (tells_permuted flow.codes (walked_of query rows).codes code fed.1.1 x)) fed.2) onward)
 
-    less : IsLess c s.cells
-    less = less_known T n columns literals contents c base u most fuel N many types s0 grounds s (h.keeps)
+-- ---- the walk over groups
+module _ (T n : ℕ) (columns : List ReadColumn) (literals : List Known) (contents : List (List (List Val))) (c : Cells) (base u most fuel N many : ℕ) (types : List ValType) (s0 : LowState) (grounds : Grounds T n columns literals c base u fuel N many types s0)
+    (query : Grouped) (group : Group) (key : List ReadColumn) (values : List ValueColumn) (together : GoTogether query group key values literals) (fields : List Field) (field_kinds : kinds_of (sources_of fields) ≡ map kind_of group.values) (low_table : group.table < T)
+    (walk : Statement) (next : ℕ) (own : List ValType) (is : IsGroupPipeline literals (directory group.table) next key values (filter query.having ∷ []) (select query.items) walk own) (behind : own_start T n (length columns) ≤ next) (room : next + length own ≤ many) (own_types : AreOwn types next own)
+    (budget : ℕ) (rows : List (List Val)) (few : 1 ≤ length group.functions → length rows < 10 ^ 18) (r : WalkReach query group key values u most N rows (groups_paid u group budget rows)) (s : LowState) (h : AreGathered T n c base u s0 group fields budget rows s) where
+  abbrev places : List Field
+  places = key_fields group fields
 
-    paid : Paid u paid_for h.has.offset s.held
-    paid = gathered_paid T n c base u s0 group fields budget rows s together.can field_kinds h
+  abbrev aggregates : List Aggregate
+  aggregates = aggregates_of group fields
 
-    seen_beside : (k a b : ℕ) (v : Value) → more (Own k) a b ≡ Some v → BesideRoot rows_base (pos k a) b
-    seen_beside =
+  abbrev wide : ℕ
+  wide = group_size places aggregates
+
+  abbrev d : ℕ
+  d = directory group.table
+
+  abbrev from : ℕ
+  from = pos h.part h.offset
+
+  abbrev rows_base : ℕ
+  rows_base = pos h.has.part h.has.offset
+
+  abbrev paid_for : ℕ
+  paid_for = groups_paid u group budget rows
+
+  abbrev more : Cells
+  more = widened from rows_base s.cells c
+
+  abbrev RowHas : Cells → ℕ → ℕ → List Val → Type 0
+  RowHas = HasRow (LiesIn more) (map kind_of query.items)
+
+  abbrev units : List Val → ℕ
+  units = group_units key values (filter query.having ∷ []) (select query.items) group.columns rows
+
+  places_long : length places ≡ group.columns
+  places_long = key_long group fields together.can field_kinds
+
+  table_before : from + 4096 ≤ rows_base
+  table_before = let directory_before = h.has.directory.behind in omega (arith, directory_before)
+
+  result_behind : base ≤ rows_base
+  result_behind = omega (arith, table_before, h.behind)
+
+  paid : Paid u paid_for h.has.offset s.held
+  paid = gathered_paid T n c base u s0 group fields budget rows s together.can field_kinds h
+
+  turns : 1024 < fuel
+  turns = let cost = r.cost in let fueled = grounds.turns in omega (arith, cost, fueled)
+
+  all_good : AllByRecursion (IsGood key values (filter query.having ∷ []) (select query.items) fuel (length places) rows) (keys (length places) rows)
+  all_good =
+      let cost' = r.cost in
+      let fueled = grounds.turns in
+      subst (λ (m : ℕ). AllByRecursion (IsGood key values (filter query.having ∷ []) (select query.items) fuel m rows) (keys m rows)) (sym places_long) (goods key values (cost [] (filter query.having ∷ []) (select query.items)) fuel group.columns rows (keys group.columns rows) (omega (arith, cost', fueled)) r.stored r.typed)
+
+  theirs : AreTheir aggregates values
+  theirs = over_theirs group.functions (drop group.columns fields) values (sym together.theirs) (kinds_dropped group.columns fields ∙ (ap (λ (ks : List (Option Kind)). drop group.columns ks) field_kinds ∙ together.arguments))
+
+  -- ---- the result has begun
+  module _ (t : LowState) (begun : RowsBegun RowHas (8 + 16 * length query.items) u paid_for h.has.part h.has.offset s t) where
+    groups_t : HasGroups (length places) (HasGroup (StandsIn c s) places aggregates) wide h.part h.offset d u (budget + u + 4096) rows t
+    groups_t = record {
+      part = h.has.part;
+      offset = h.has.offset;
+      room = room-kept h.has.part h.has.offset 3 s t (omega arith) begun.kept h.has.room;
+      at = begun.later d (omega arith) ∙ h.has.at;
+      chains = h.has.chains;
+      directory = subst (λ (x : LowState). IsDirectory h.part h.offset rows_base h.has.chains x.cells x.own) (sym begun.kept.others) h.has.directory;
+      linked = λ j j_low. subst (λ (x : LowState). Linked (HasGroup (StandsIn c s) places aggregates rows) wide x.cells (pos h.part (h.offset + 4096)) rows_base (h.has.chains j)) (sym begun.kept.others) (h.has.linked j j_low);
+      home = h.has.home;
+      apart = h.has.apart;
+      all = h.has.all;
+      some = h.has.some;
+      same = h.has.same;
+      paid = subst (λ (x : LowState). Paid u (budget + u + 4096 + length (keys (length places) rows) * wide) h.has.offset x.held) (sym begun.kept.others) h.has.paid;
+    }
+
+    walk_fed : (flow : Flow (List Val)) × Alike flow (walked_of query rows)
+        × Ends (size walk * N) (FedTo (rows_sink RowHas (8 + 16 * length query.items) rows_base u paid_for (AtMost (length (walked_of query rows).rows)) (fewer_come (length (walked_of query rows).rows))) (Below next) Any flow [] t) Never (Tells flow.codes) (meaning most fuel walk t)
+    unfolding groups_t
+    walk_fed =
         let before = grounds.entries_before in
-        seen_where from rows_base s.cells c (BesideRoot rows_base) (λ k a b low high. inr (omega (arith, low, h.behind, before), high))
-        (λ k a b v is'. let seen_low = (grounds.own_seen k a b v is').0 in inr (seen_low.0, omega (arith, seen_low.1, h.behind, table_before)))
-
-    abbrev May : List (List Val) → Type 0
-    May = AtMost (length (walked_of query rows).rows)
-
-    fewer : (xs ys : List (List Val)) → AtMost (length (walked_of query rows).rows) (xs ++ ys) → AtMost (length (walked_of query rows).rows) xs
-    fewer xs ys le = let all = length-append xs ys in omega (arith, le, all)
-
-    enough : (xs : List (List Val)) → AtMost (length (walked_of query rows).rows) xs → paid_for + length xs * width + 2 * u < (most + 1) * u
-    enough xs le = let less' = mul-le (length xs) width (length (walked_of query rows).rows) width le (omega arith) in let all = r.enough in omega (arith, less', all)
-
-    turns : 1024 < fuel
-    turns = let cost = r.cost in let fueled = grounds.turns in omega (arith, cost, fueled)
-
-    all_good : AllByRecursion (IsGood key values (filter query.having ∷ []) (select query.items) fuel (length places) rows) (keys (length places) rows)
-    all_good =
         let cost' = r.cost in
         let fueled = grounds.turns in
-        subst (λ (m : ℕ). AllByRecursion (IsGood key values (filter query.having ∷ []) (select query.items) fuel m rows) (keys m rows)) (sym places_long) (goods key values (cost [] (filter query.having ∷ []) (select query.items)) fuel group.columns rows (keys group.columns rows) (omega (arith, cost', fueled)) r.stored r.typed)
+        let together_many = together.many in
+        let together_some = together.some in
+        let key_many = together.key_many in
+        let total : ℕ = length (walked_of query rows).rows in
+        let seen_there = sees T n columns literals contents c base u most fuel N many types s0 grounds query rows paid_for s h.keeps h.has.part h.has.offset h.has.room paid from rows_base h.behind (omega arith) result_behind t begun in
+        let done =
+        query_feeds more 5 (omega arith) most fuel many types turns u paid_for (AtMost total) (fewer_come total) query rows_base r.fits (rows_pay total (8 + 16 * length query.items) paid_for most u r.enough) (seen_beside T n columns literals contents c base u most fuel N many types s0 grounds query rows paid_for s h.keeps h.has.part h.has.offset h.has.room paid from rows_base h.behind (omega arith) result_behind)
+        literals d next key values walk own is (omega (arith, behind)) room (within_among (rows_end T) (cell_start T n (length columns)) next literals (omega arith) (omega (arith, behind)) grounds.within)
+        (all_front (λ (k : Known). DeclaresValue types k.operand) literals (map known_of (query_readers T n columns)) grounds.declared) own_types together.takes
+        together.kinds together.sized (omega arith, omega (arith, behind, low_table)) together.numbered together.numbered_values (omega (arith, key_many, together_some)) (key_many ∙ together_many) (together.theirs ∙ together.functions)
+        (StandsIn c s) places aggregates theirs (places_long ∙ sym key_many) h.part h.offset u (budget + u + 4096) rows t seen_there.also groups_t
+        (λ at wide' low high. inr (omega (arith, low, h.behind, before), high))
+        seen_there.there seen_there.less seen_there.long
+        (λ some'. few (let count = ap (λ (l : List SetFunctionKind). length l) together.theirs in let mapped = length-map values (λ (v : ValueColumn). v.function) in omega (arith, some', count, mapped)))
+        (subst (λ (m : ℕ). length (keys m rows) < fuel) (sym places_long) (let count = many_keys units (keys group.columns rows) in omega (arith, count, cost', fueled)))
+        seen_there.held grounds.fit all_good in
+        let flow : Flow (List Val) = all_come query (length key) (length places) (functions_of values) rows done.0 in
+        let taken : ℕ = 1025 + spend (λ (e : Row). group_units key values (filter query.having ∷ []) (select query.items) (length places) rows e.values) done.0 in
+        let taken_is : spend (λ (e : Row). group_units key values (filter query.having ∷ []) (select query.items) (length places) rows e.values) done.0 ≡ spend units (keys group.columns rows) =
+        sym (spend_values (group_units key values (filter query.having ∷ []) (select query.items) (length places) rows) done.0)
+        ∙ (sym (spend_permuted (group_units key values (filter query.having ∷ []) (select query.items) (length places) rows) (values_of done.0) (keys (length places) rows) done.1)
+        ∙ ap (λ (m : ℕ). spend (group_units key values (filter query.having ∷ []) (select query.items) m rows) (keys m rows)) places_long) in
+        let count : length (walked_of query rows).rows ≡ length flow.rows = length_permutation flow.rows (walked_of query rows).rows done.2.0 in (
+          flow,
+          done.2,
+          Ends-more (FedTo (rows_sink RowHas (8 + 16 * length query.items) rows_base u paid_for (AtMost total) (fewer_come total)) (Below next) Any flow [] t) Never (Tells flow.codes) (size walk * taken) (size walk * N) (meaning most fuel walk t)
+              (mul-le (size walk) taken (size walk) N (omega arith) (omega (arith, cost', taken_is))) (done.3 [] begun.has (omega (arith, count))),
+        )
 
-    theirs : AreTheir aggregates values
-    theirs = over_theirs group.functions (drop group.columns fields) values (sym together.theirs) (kinds_dropped group.columns fields ∙ (ap (λ (ks : List (Option Kind)). drop group.columns ks) field_kinds ∙ together.arguments))
-
-    -- ---- the result has begun
-    module _ (t : LowState) (begun : RowsBegun RowHas width u paid_for h.has.part h.has.offset s t) where
-      cells_same : t.cells ≡ s.cells
-      cells_same = ap (λ (x : LowState). x.cells) begun.kept.others
-
-      same_t : Keeps (Steady T n) (Before base) s0 t
-      same_t = Keeps-then (Steady T n) (Before base) s0 s t h.keeps
-          (Keeps-less (Steady T n) (Before base) (From 5) (Before base) s t (λ i old. ⊎_elim inl (λ g'. inr (omega (arith, g'.0))) old) (λ at wide' low'. low') (rows_keep (Before base) RowHas width u paid_for h.has.part h.has.offset s t begun))
-
-      groups_t : HasGroups (length places) (HasGroup (StandsIn c s) places aggregates) wide h.part h.offset d u (budget + u + 4096) rows t
-      groups_t = record {
-        part = h.has.part;
-        offset = h.has.offset;
-        room = room-kept h.has.part h.has.offset 3 s t (omega arith) begun.kept h.has.room;
-        at = begun.later d (omega arith) ∙ h.has.at;
-        chains = h.has.chains;
-        directory = subst (λ (x : LowState). IsDirectory h.part h.offset rows_base h.has.chains x.cells x.own) (sym begun.kept.others) h.has.directory;
-        linked = λ j j_low. subst (λ (x : LowState). Linked (HasGroup (StandsIn c s) places aggregates rows) wide x.cells (pos h.part (h.offset + 4096)) rows_base (h.has.chains j)) (sym begun.kept.others) (h.has.linked j j_low);
-        home = h.has.home;
-        apart = h.has.apart;
-        all = h.has.all;
-        some = h.has.some;
-        same = h.has.same;
-        paid = subst (λ (x : LowState). Paid u (budget + u + 4096 + length (keys (length places) rows) * wide) h.has.offset x.held) (sym begun.kept.others) h.has.paid;
-      }
-
-      also : (p : Part) (i : ℕ) (octets : List ℕ) → StandsIn c s p i octets → StandsIn more t p i octets
-      also p i octets stands = stands_widened from rows_base s.cells c less t p i octets (stands_later c s t p i octets (longer_kept 3 s t begun.kept) stands)
-
-      held : (row : List Val) → AreHeld literals row (seen more t)
-      held row = held_more c (seen more t) literals row (less_widened from rows_base s.cells c less) (grounds.held t (λ i low high. (same_t).locals i (inr (low, high))) (begun.has.room.pages 0 (omega arith)) row)
-
-      module _ (Told : ℕ → Type 0) (told : (raised : ℕ) → Tells (walked_of query rows).codes raised → Told raised) where
-        walk_fed : Ends (size walk * N) (IsWalked T n c base u s0 query paid_for rows) Never Told (meaning most fuel walk t)
-        unfolding groups_t
-        walk_fed =
-            let before = grounds.entries_before in
-            let long = grounds.long in
-            let cost' = r.cost in
-            let fueled = grounds.turns in
-            let together_many = together.many in
-            let together_some = together.some in
-            let key_many = together.key_many in
-            let done =
-            query_feeds more 5 (omega arith) most fuel many types turns u paid_for May fewer query rows_base r.fits enough seen_beside
-            literals d next key values walk own is (omega (arith, behind)) room (within_among (rows_end T) (cell_start T n (length columns)) next literals (omega arith) (omega (arith, behind)) grounds.within)
-            (all_front (λ (k : Known). DeclaresValue types k.operand) literals (map known_of (query_readers T n columns)) grounds.declared) own_types together.takes
-            together.kinds together.sized (omega arith, omega (arith, behind, low_table)) together.numbered together.numbered_values (omega (arith, key_many, together_some)) (key_many ∙ together_many) (together.theirs ∙ together.functions)
-            (StandsIn c s) places aggregates theirs (places_long ∙ sym key_many) h.part h.offset u (budget + u + 4096) rows t also groups_t
-            (λ at wide' low high. inr (omega (arith, low, h.behind, before), high))
-            (λ p at wide' two low high. table_seen from rows_base s.cells c p at wide' two low high ∙ sym (ap (λ (x : Cells). x (Own p) at wide') cells_same))
-            (subst (λ (x : Cells). IsLess more x) (sym cells_same) (widened_less from rows_base s.cells c less)) (omega (arith, long, (same_t).many))
-            (λ some'. few (let count = ap (λ (l : List SetFunctionKind). length l) together.theirs in let mapped = length-map values (λ (v : ValueColumn). v.function) in omega (arith, some', count, mapped)))
-            (subst (λ (m : ℕ). length (keys m rows) < fuel) (sym places_long) (let count = many_keys units (keys group.columns rows) in omega (arith, count, cost', fueled)))
-            held grounds.fit all_good in
-            let flow : Flow (List Val) = all_come query (length key) (length places) (functions_of values) rows done.0 in
-            let taken : ℕ = 1025 + spend (λ (e : Row). group_units key values (filter query.having ∷ []) (select query.items) (length places) rows e.values) done.0 in
-            let taken_is : spend (λ (e : Row). group_units key values (filter query.having ∷ []) (select query.items) (length places) rows e.values) done.0 ≡ spend units (keys group.columns rows) =
-            sym (spend_values (group_units key values (filter query.having ∷ []) (select query.items) (length places) rows) done.0)
-            ∙ (sym (spend_permuted (group_units key values (filter query.having ∷ []) (select query.items) (length places) rows) (values_of done.0) (keys (length places) rows) done.1)
-            ∙ ap (λ (m : ℕ). spend (group_units key values (filter query.having ∷ []) (select query.items) m rows) (keys m rows)) places_long) in
-            let count : length (walked_of query rows).rows ≡ length flow.rows = length_permutation flow.rows (walked_of query rows).rows done.2.0 in
-            Ends-weaker (size walk * taken) (size walk * N) (FedTo (result more 5 (omega arith) most fuel many types turns u paid_for May fewer query rows_base r.fits enough seen_beside) (Below next) Any flow [] t) (IsWalked T n c base u s0 query paid_for rows) Never Never (Tells flow.codes) Told (meaning most fuel walk t)
-            (mul-le (size walk) taken (size walk) N (omega arith) (omega (arith, cost', taken_is)))
-            (λ w fed. record {
-              found = flow.rows;
-              same = done.2.0;
-              none = none_left flow.codes (walked_of query rows).codes done.2.1 fed.none;
-              rows_base = rows_base;
-              has = rows_elsewhere (LiesIn more) (LiesIn c) (λ p o octets. lies_before from rows_base s.cells c p o octets) (map kind_of query.items) width rows_base u paid_for flow.rows w fed.has;
-              keeps = Keeps-then (Steady T n) (BehindWords base) s0 t w
-                  (Keeps-less (Steady T n) (BehindWords base) (Steady T n) (Before base) s0 t (λ i old. old) (λ at wide' low'. low'.1) same_t)
-                  (Keeps-less (Steady T n) (BehindWords base) (Below next) (BesideRoot rows_base) t w (λ i old. ⊎_elim (λ z. inl z) (λ g'. inr (omega (arith, g'.0), omega (arith, g'.1, behind))) old)
-                  (λ at wide' low'. inr (omega (arith, low'.0), omega (arith, low'.1, h.behind, table_before))) fed.keeps);
-            }) (λ w x. x) (λ code x. told code (tells_permuted flow.codes (walked_of query rows).codes code done.2.1 x))
-            (done.3 [] begun.has (omega (arith, count)))
-
-    -- then what follows is done
-    pub walk_then : (Told : ℕ → Type 0) → ((raised : ℕ) → Tells (walked_of query rows).codes raised → Told raised) → (m : ℕ) (P : LowState → Type 0) (finish : Statement) →
-        ((w : LowState) → IsWalked T n c base u s0 query paid_for rows w → Ends m P Never Told (meaning most fuel finish w)) →
-        Ends (6 + (size walk * N + m)) P Never Told (meaning most fuel (seq begin_block (seq walk finish)) s)
-    walk_then Told told m P finish onward =
-        let before = grounds.entries_before in
-        let long = grounds.long in
-        let own_known = grounds.first_own in
-        Ends-then P Never Told 6 (size walk * N + m) (RowsBegun RowHas width u paid_for h.has.part h.has.offset s) (meaning most fuel begin_block s) (meaning most fuel (seq walk finish))
-        (rows_begin_end Told most fuel s RowHas width u paid_for h.has.part h.has.offset (omega (arith, h.behind, table_before, before)) h.has.room (omega (arith, long, own_known, (h.keeps).many))
-        ((h.keeps).locals 0 (inl refl) ∙ grounds.descriptor) ((h.keeps).cells 0 8 4 (omega (arith, before)) ∙ grounds.root) paid)
-        (λ t begun. Ends-then P Never Told (size walk * N) m (IsWalked T n c base u s0 query paid_for rows) (meaning most fuel walk t) (meaning most fuel finish) (walk_fed t begun Told told) onward)
+  -- then what follows is done
+  pub walk_then : (Told : ℕ → Type 0) → ((raised : ℕ) → Tells (walked_of query rows).codes raised → Told raised) → (m : ℕ) (P : LowState → Type 0) (finish : Statement) →
+      ((w : LowState) → IsWalked T n c base u s0 query paid_for rows w → Ends m P Never Told (meaning most fuel finish w)) →
+      Ends (6 + (size walk * N + m)) P Never Told (meaning most fuel (seq begin_block (seq walk finish)) s)
+  walk_then Told told m P finish onward =
+      result_then T n columns literals contents c base u most fuel N many types s0 grounds query rows paid_for s h.keeps h.has.part h.has.offset h.has.room paid from rows_base h.behind (omega arith) result_behind walk next behind Told told walk_fed m P finish onward

@@ -35,7 +35,7 @@ use Rattle.qw_table.specs.Joins.{sources_of}
 use Rattle.qw_table.specs.Tables.{directory_block, values_of}
 use Rattle.qw_table.specs.declared.key.Field.{Field}
 use Rattle.qw_table.proofs.Chains.{Linked-same}
-use Rattle.qw_group.specs.Groups.{HasGroup, HasGroups, group_size}
+use Rattle.qw_group.specs.Groups.{HasGroup, group_size}
 use Rattle.qw_group.specs.declared.group.Aggregate.{Aggregate}
 use Rattle.qw_group.proofs.GroupFeeds.{group_same}
 use Rattle.qw_group.proofs.WalkRuns.{StandGroups}
@@ -89,15 +89,6 @@ module _ (T n : ℕ) (columns : List ReadColumn) (literals : List Known) (conten
 
     abbrev wide : ℕ
     wide = group_size places aggregates
-
-    abbrev into_places : List Field
-    into_places = key_fields into into_fields
-
-    abbrev into_aggregates : List Aggregate
-    into_aggregates = aggregates_of into into_fields
-
-    abbrev into_wide : ℕ
-    into_wide = group_size into_places into_aggregates
 
     abbrev from : ℕ
     from = pos h.part h.offset
@@ -197,9 +188,6 @@ module _ (T n : ℕ) (columns : List ReadColumn) (literals : List Known) (conten
       abbrev sink : Sink
       sink = entered more (rows_left T) (omega arith) most fuel many types turns into can_into into_fields k o u before r.entries r.chosen May q.first (omega (arith, low_into)) q.small q.few_rows q.chosen_rows q.enough q.met seen_before
 
-      has_none : HasGroups (length into_places) (HasGroup (StandsIn more t) into_places into_aggregates) into_wide k o d u before [] t
-      has_none = none_begun more into_places into_aggregates d u paid_for front s t begun
-
       module _ (Told : ℕ → Type 0) (told : (raised : ℕ) → Tells walked.codes raised → Told raised) where
         enters_end : Ends (size enters * N) (AreEntered T n c base u s0 query into into_fields paid_for rows) Never Told (meaning most fuel enters t)
         enters_end =
@@ -237,13 +225,13 @@ module _ (T n : ℕ) (columns : List ReadColumn) (literals : List Known) (conten
                 part = k;
                 offset = o;
                 behind = omega (arith, h.behind, table_before, begun.behind);
-                has = groups_elsewhere (StandsIn more w) (StandsIn c w) (λ p i octets. stands_before from front t.cells c w p i octets) into_places into_aggregates k o d u before flow.rows w fed'.has;
+                has = groups_elsewhere (StandsIn more w) (StandsIn c w) (λ p i octets. stands_before from front t.cells c w p i octets) (key_fields into into_fields) (aggregates_of into into_fields) k o d u before flow.rows w fed'.has;
                 keeps = Keeps-then (Steady T n) (Before base) s0 t w same_t
                     (Keeps-less (Steady T n) (Before base) (Below next) (Before (pos k o)) t w (λ i old. ⊎_elim (λ z. inl z) (λ g'. inr (omega (arith, g'.0), omega (arith, g'.1, behind))) old)
                     (λ at wide' low'. omega (arith, low', h.behind, table_before, begun.behind)) fed'.keeps);
               };
             }) (λ w x. x) (λ code x. told code (tells_permuted flow.codes walked.codes code done.2.1 x))
-            (done.3 [] has_none ([], subst (λ (l : List (List Val)). IsPermutation l walked.rows) (sym (append-nil flow.rows)) done.2.0))
+            (done.3 [] (none_begun more (key_fields into into_fields) (aggregates_of into into_fields) d u paid_for front s t begun) ([], subst (λ (l : List (List Val)). IsPermutation l walked.rows) (sym (append-nil flow.rows)) done.2.0))
 
     -- then what follows is done
     pub enter_then : (Told : ℕ → Type 0) → ((raised : ℕ) → Tells walked.codes raised → Told raised) → ((raised : ℕ) → IsRefusal raised → Told raised) → (m : ℕ) (P : LowState → Type 0) (rest : Statement) →
