@@ -68,9 +68,6 @@ module _ (row_is : (row other : List Val) → is_same_row row other ≡ true →
   abbrev whole : Whole
   whole = record { body = asked.grouped (grouped_of parts); distinct = false }
 
-  abbrev up : ℕ
-  up = given_up row_is value_is parts grouped given
-
   abbrev own : List ValType
   own = s.made.builds_own ++ (s.made.gathers_own ++ s.made.walk_own)
 
@@ -81,8 +78,8 @@ module _ (row_is : (row other : List Val) → is_same_row row other ≡ true →
   go_together = together row_is value_is parts grouped given T some sized
 
   few_or_many : (tables : List (List (List Val))) → AreOfEntries (entries_of query.sources) tables →
-      AreFew (promise_of_whole whole) T (literal_count (texts_of_grouped parts) (front_words given.source)) s.columns (texts_of_grouped parts) (front_words given.source) (front_at given.source) (table_of (entries_of (query_of s.before).sources)) s.made.building s.made.gathering (folded_query given) s.group key values up tables
-      ⊎ AreMany (promise_of_whole whole) T (literal_count (texts_of_grouped parts) (front_words given.source)) s.columns (texts_of_grouped parts) (front_words given.source) (front_at given.source) (table_of (entries_of (query_of s.before).sources)) s.made.building s.made.gathering s.group up tables
+      AreFew (promise_of_whole whole) T (literal_count (texts_of_grouped parts) (front_words given.source)) s.columns (texts_of_grouped parts) (front_words given.source) (front_at given.source) (table_of (entries_of (query_of s.before).sources)) s.made.building s.made.gathering (folded_query given) s.group key values (given_up row_is value_is parts grouped given) tables
+      ⊎ AreMany (promise_of_whole whole) T (literal_count (texts_of_grouped parts) (front_words given.source)) s.columns (texts_of_grouped parts) (front_words given.source) (front_at given.source) (table_of (entries_of (query_of s.before).sources)) s.made.building s.made.gathering s.group (given_up row_is value_is parts grouped given) tables
   few_or_many tables loaded = ⊎_elim
       (λ less. inl (record {
         bounded = group_kept row_is value_is parts grouped given tables loaded T (omega arith) go_together (λ some_function. less);
@@ -111,7 +108,7 @@ module _ (row_is : (row other : List Val) → is_same_row row other ≡ true →
           s.group key values s.made.fields s.made.field_kinds s.made.values_are (folded_kinds given s.made.kinds_are) s.made.table_is (built_low given.source) s.made.builds s.made.gathers s.made.walk s.made.builds_own s.made.gathers_own s.made.walk_own goes
           (leads_at s.made None none n many) s.made.sets_all go_together (built_at s.made None none n many)
           (gathered_at s.made None none n many) (walked_at s.made None none n many (filter s.behind_is.having ∷ []) (select s.behind_is.items) s.behind_is.operators_are s.behind_is.sink_is)
-          (few_by s.made None none short) alike (λ tables. up)
+          (few_by s.made None none short) alike (λ tables. given_up row_is value_is parts grouped given)
           (λ tables loaded. group_kept row_is value_is parts grouped given tables loaded T (omega arith) go_together (fewer given tables loaded none))
           (λ tables stoods loaded. walked_rows row_is value_is parts grouped given tables loaded stoods) m (is_made None none)
       by_guard (Some z) is =
@@ -122,4 +119,4 @@ module _ (row_is : (row other : List Val) → is_same_row row other ≡ true →
           s.group key values s.made.fields s.made.field_kinds s.made.values_are (folded_kinds given s.made.kinds_are) s.made.table_is (built_low given.source) s.made.builds s.made.gathers s.made.walk s.made.builds_own s.made.gathers_own s.made.walk_own goes
           (leads_at s.made (Some 4) counts n many) s.made.sets_all go_together (built_at s.made (Some 4) counts n many)
           (gathered_at s.made (Some 4) counts n many) (walked_at s.made (Some 4) counts n many (filter s.behind_is.having ∷ []) (select s.behind_is.items) s.behind_is.operators_are s.behind_is.sink_is)
-          (end_leads given.source T (omega arith) own) (few_by s.made (Some 4) counts short) alike (λ tables. up) (λ tables loaded. few_or_many tables loaded) m (is_made (Some 4) counts)
+          (end_leads given.source T (omega arith) own) (few_by s.made (Some 4) counts short) alike (λ tables. given_up row_is value_is parts grouped given) (λ tables loaded. few_or_many tables loaded) m (is_made (Some 4) counts)
