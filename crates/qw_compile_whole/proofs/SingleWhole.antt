@@ -148,5 +148,6 @@ module _ (row_is : (row other : List Val) → is_same_row row other ≡ true →
       by_guard (Some z) is =
           let counts : guard_for T (length values) ≡ Some 4 = counted_there T (length values) z is in
           single_long_compiled (promise_of_whole whole) layout T s.columns (texts_of_grouped parts) (front_words given.source) (table_of (entries_of (query_of s.before).sources)) (laid_columns given.source) s.made.octets_are s.made.utf8 (all_small row_is value_is parts grouped given) s.made.leads s.made.sets s.made.building s.made.taking (folded_query given)
-          s.group values s.made.fields s.made.field_kinds s.made.values_are (folded_kinds given s.made.kinds_are) s.made.table_is (built_low given.source) s.made.builds s.made.takes s.made.one s.made.builds_own s.made.takes_own s.made.one_own goes leads_at s.made.sets_all go_alone built_at (taken_at (Some 4) counts) made_at led (few_by (Some 4) counts short) alike (λ tables. given_up row_is value_is parts grouped given)
+          s.group values s.made.fields s.made.field_kinds s.made.values_are (folded_kinds given s.made.kinds_are) s.made.table_is (built_low given.source) s.made.builds s.made.takes s.made.one s.made.builds_own s.made.takes_own s.made.one_own goes
+          leads_at s.made.sets_all go_alone built_at (taken_at (Some 4) counts) made_at led (few_by (Some 4) counts short) alike (λ tables. given_up row_is value_is parts grouped given)
           (λ tables loaded. long_kept row_is value_is parts grouped given T (omega arith) go_alone tables loaded) (λ tables stoods loaded. walked_rows row_is value_is parts grouped given tables loaded stoods) m (is_made (Some 4) counts)
