@@ -26,7 +26,6 @@ use Rattle.qw_grouped.specs.Whole as asked
 use Rattle.qw_low.specs.declared.step.LowStep.{LowStep}
 use Rattle.qw_low.specs.Syntax.{Statement}
 use Rattle.qw_read.specs.Texts.{LeadsToAll}
-use Rattle.qw_read.specs.declared.constant.Word.{Word}
 use Rattle.qw_physical.specs.Coded.{pipeline_of}
 use Rattle.qw_physical.specs.Physical.{Operator, Sink, filter, select}
 use Rattle.qw_physical.specs.declared.pipeline.Pipeline as coded
@@ -37,7 +36,6 @@ use Rattle.qw_emit.specs.Alike.{AreAlike}
 use Rattle.qw_emit.specs.RunsOf.{IsMadeOf}
 use Rattle.qw_group_pipeline.specs.Groups.{Grouping, InEnd, IsGroupPipeline, IsGroupPipelineTo}
 use Rattle.qw_group_pipeline.specs.declared.columns.ValueColumn.{ValueColumn}
-use Rattle.qw_compile.specs.QueryLiterals.{query_words}
 use Rattle.qw_compile.specs.QueryLocals.{own_start}
 use Rattle.qw_compile.specs.QueryMade.{literal_locals, literals_by, readers_by, texts_by}
 use Rattle.qw_compile.specs.Statements.{AreCourses}
@@ -50,7 +48,7 @@ use Rattle.qw_compile_whole.specs.GuardedStatements.{IsGatheringBy, guard_for}
 use Rattle.qw_compile_whole.specs.WholeDistinct.{distinct_columns, distinct_grouping}
 use Rattle.qw_compile_whole.specs.WholeTexts.{texts_of_grouped}
 use Rattle.qw_compile_whole.proofs.ColumnTypes.{values_of_kinds}
-use Rattle.qw_compile_whole.proofs.FrontLed.{built_one_less, columns_many, end_leads, front_leads, laid_columns, literals_over, result_leads}
+use Rattle.qw_compile_whole.proofs.FrontLed.{built_one_less, columns_many, end_leads, front_leads, front_words, laid_columns, literals_over, result_leads}
 use Rattle.qw_compile_whole.proofs.GroupBounded.{GoTogether}
 use Rattle.qw_compile_whole.proofs.DistinctCompiled.{distinct_compiled}
 use Rattle.qw_compile_whole.proofs.EnterStands.{again_together}
@@ -89,12 +87,6 @@ module _ (row_is : (row other : List Val) → is_same_row row other ≡ true →
 
   abbrev T : ℕ
   T = length s.ps + 1
-
-  abbrev texts : List (List ℕ)
-  texts = texts_of_grouped parts
-
-  abbrev words : List Word
-  words = query_words (s.ps ++ s.behind ∷ [])
 
   abbrev key : List ReadColumn
   key = key_columns query
@@ -144,13 +136,13 @@ module _ (row_is : (row other : List Val) → is_same_row row other ≡ true →
 
   -- ---- over so many columns
   abbrev first : ℕ
-  first = own_start T (literal_locals texts all) (length s.columns)
+  first = own_start T (literal_locals (texts_of_grouped parts) all) (length s.columns)
 
   abbrev Enters : ℕ → List Operator → Type 0
-  Enters k os = IsGroupPipelineTo (InEnd (Grouping s.made.into_fields s.made.into) os) (literals_by T k texts all) (directory (length s.made.building)) (first + length s.made.builds_own + length s.made.gathers_own) key values s.made.enters s.made.enters_own
+  Enters k os = IsGroupPipelineTo (InEnd (Grouping s.made.into_fields s.made.into) os) (literals_by T k (texts_of_grouped parts) all) (directory (length s.made.building)) (first + length s.made.builds_own + length s.made.gathers_own) key values s.made.enters s.made.enters_own
 
   abbrev Walks : ℕ → List Operator → Sink → Type 0
-  Walks k os snk = IsGroupPipeline (literals_by T k texts all) (directory (length s.made.building + 1)) (first + length s.made.builds_own + length s.made.gathers_own + length s.made.enters_own) key_again [] os snk s.made.walk s.made.walk_own
+  Walks k os snk = IsGroupPipeline (literals_by T k (texts_of_grouped parts) all) (directory (length s.made.building + 1)) (first + length s.made.builds_own + length s.made.gathers_own + length s.made.enters_own) key_again [] os snk s.made.walk s.made.walk_own
 
   entered : Enters (length s.columns) (filter s.behind_is.having ∷ [])
   entered = subst (λ (os : List Operator). Enters (length s.columns) os) s.behind_is.operators_are s.made.entered
@@ -161,17 +153,17 @@ module _ (row_is : (row other : List Val) → is_same_row row other ≡ true →
       let led = end_leads given.source T (omega arith) own in
       let few_items = grouped.few_items in
       let again_leads = result_leads given.source T (omega arith) own (pipeline_of s.again) [] (map expression_of_column (distinct_columns 0 query.items)) s.again_is.operators_are s.again_is.sink_is (omega (arith, length-map (distinct_columns 0 query.items) expression_of_column, again_many 0 query.items, few_items)) in
-      distinct_compiled (promise_of_whole whole) layout T s.columns texts words (table_of (entries_of (query_of s.before).sources)) (laid_columns given.source) s.made.octets_are s.made.utf8 (all_small row_is value_is parts grouped given) s.made.leads s.made.sets s.made.building s.made.gathering (folded_query given)
+      distinct_compiled (promise_of_whole whole) layout T s.columns (texts_of_grouped parts) (front_words given.source) (table_of (entries_of (query_of s.before).sources)) (laid_columns given.source) s.made.octets_are s.made.utf8 (all_small row_is value_is parts grouped given) s.made.leads s.made.sets s.made.building s.made.gathering (folded_query given)
       s.made.group key values s.made.fields s.made.field_kinds (distinct_grouping (shown query)) s.made.into key_again [] s.made.into_fields s.made.into_kinds into_items s.made.values_are kinds_are s.made.table_is s.made.into_table room
       s.made.builds s.made.gathers s.made.enters s.made.walk s.made.builds_own s.made.gathers_own s.made.enters_own s.made.walk_own guard (guard_is (length s.ps) (length values)) goes
-      (subst (λ (k : ℕ). LeadsToAll (texts_by T k texts) s.made.leads) many s.made.leads_all) s.made.sets_all go_together go_again
-      (subst (λ (k : ℕ). AreCourses (literals_by T k texts all) (readers_by T texts all s.columns) first s.made.building s.made.builds s.made.builds_own) many s.made.built)
-      (subst (λ (k : ℕ). IsGatheringBy guard (literals_by T k texts all) (readers_by T texts all s.columns) (first + length s.made.builds_own) s.made.gathering s.made.group s.made.fields s.made.gathers s.made.gathers_own) many s.made.gathered)
+      (subst (λ (k : ℕ). LeadsToAll (texts_by T k (texts_of_grouped parts)) s.made.leads) many s.made.leads_all) s.made.sets_all go_together go_again
+      (subst (λ (k : ℕ). AreCourses (literals_by T k (texts_of_grouped parts) all) (readers_by T (texts_of_grouped parts) all s.columns) first s.made.building s.made.builds s.made.builds_own) many s.made.built)
+      (subst (λ (k : ℕ). IsGatheringBy guard (literals_by T k (texts_of_grouped parts) all) (readers_by T (texts_of_grouped parts) all s.columns) (first + length s.made.builds_own) s.made.gathering s.made.group s.made.fields s.made.gathers s.made.gathers_own) many s.made.gathered)
       (subst (λ (k : ℕ). Enters k (filter s.behind_is.having ∷ [])) many entered)
       (subst₂ (λ (os : List Operator) (k : Sink). Walks (length layout.columns) os k) s.again_is.operators_are s.again_is.sink_is (subst (λ (k : ℕ). Walks k (pipeline_of s.again).operators (pipeline_of s.again).sink) many s.made.walked))
       led (few_steps code block s.made.code_is short) alike (λ tables. given_up_distinct row_is value_is parts grouped given)
       (λ tables loaded. few_or_many row_is value_is parts grouped given T (omega arith) go_together tables loaded s.made.into go_again into_items guard (guard_is (length s.ps) (length values)) (fewer given tables loaded))
       m (subst (λ (l : List ValType). IsMadeOf m block (length l)) s.made.locals_are
       (made block s.made.code_is
-      (distinct_typed T texts s.ps s.behind s.columns s.used layout code locals small (all_small row_is value_is parts grouped given) key values key_again s.again s.behind_is.having s.made room entered (groups_can row_is value_is parts grouped given) go_again.can (values_of_kinds query grouped)
+      (distinct_typed T (texts_of_grouped parts) s.ps s.behind s.columns s.used layout code locals small (all_small row_is value_is parts grouped given) key values key_again s.again s.behind_is.having s.made room entered (groups_can row_is value_is parts grouped given) go_again.can (values_of_kinds query grouped)
       (front_leads given.source T (omega arith) own) led again_leads) (few_steps code block s.made.code_is short)))

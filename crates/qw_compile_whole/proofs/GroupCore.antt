@@ -151,7 +151,8 @@ module _ (row_is : (row other : List Val) → is_same_row row other ≡ true →
       gather_pays : groups_paid given_up source.group (budget given_up tables source.building (length source.building)) rows + 2 * given_up < (most given_up S beside source.building + 1) * given_up
       gather_pays =
           turned (budget given_up tables source.building (length source.building)) given_up (beside * given_up) (length (keys source.group.columns rows) * group_width source.group) ((most given_up S beside source.building + 1) * given_up) one_beside
-          (pays row_is value_is source widest widest_low rows_fit joins_fit T room tables loaded units_for octets_for S beside N units_within octets_within stoods stood (4096 + length (keys source.group.columns rows) * group_width source.group) (less (table_octets (kept_by spec) tables (placed spec)) (4096 + length (keys source.group.columns rows) * group_width source.group) octets_for group_octets_less octets_within))
+          (pays row_is value_is source widest widest_low rows_fit joins_fit T room tables loaded units_for octets_for S beside N units_within octets_within stoods stood (4096 + length (keys source.group.columns rows) * group_width source.group)
+          (less (table_octets (kept_by spec) tables (placed spec)) (4096 + length (keys source.group.columns rows) * group_width source.group) octets_for group_octets_less octets_within))
         where
           less : (j o p : ℕ) → o ≤ p → j + p ≤ S → j + o ≤ S
           less j o p e h = omega (arith, e, h)

@@ -231,7 +231,8 @@ module _ (row_is : (row other : List Val) → is_same_row row other ≡ true →
 
         -- ---- all of it
         abbrev IsKept : (most N : ℕ) → Type 0
-        IsKept pages N = IsGroupBounded T (front_count given.source) given.source.columns (texts_of_grouped parts) (front_words given.source) (front_at given.source) (table_of (entries_of (query_of given.source.parts).sources)) given.source.building given.source.last (folded_query given) given.source.group (key_columns query) (value_columns query) (λ raised. IsTold (whole_outcome (asked_whole query) tables) raised) given_up pages N tables
+        IsKept pages N = IsGroupBounded T (front_count given.source) given.source.columns (texts_of_grouped parts) (front_words given.source) (front_at given.source) (table_of (entries_of (query_of given.source.parts).sources)) given.source.building given.source.last
+            (folded_query given) given.source.group (key_columns query) (value_columns query) (λ raised. IsTold (whole_outcome (asked_whole query) tables) raised) given_up pages N tables
 
         pub group_kept : IsKept (whole_pages (asked_whole query) tables) (1 + whole_units (asked_whole query) tables)
         group_kept =

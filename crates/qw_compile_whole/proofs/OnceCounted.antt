@@ -38,7 +38,8 @@ module _ (row_is : (row other : List Val) → is_same_row row other ≡ true →
   query = grouped_of parts
 
   abbrev Few : Option ℕ → Type 0
-  Few guard = AreFewOnce guard (promise_of_whole (asked_distinct query)) T (front_count given.source) given.source.columns (texts_of_grouped parts) (front_words given.source) (front_at given.source) (table_of (entries_of (query_of given.source.parts).sources)) given.source.building given.source.last (folded_query given) given.source.group (key_columns query) (value_columns query) (distinct_grouping (shown query)) into (key_from 0 (distinct_columns 0 query.items)) []
+  Few guard = AreFewOnce guard (promise_of_whole (asked_distinct query)) T (front_count given.source) given.source.columns (texts_of_grouped parts) (front_words given.source) (front_at given.source) (table_of (entries_of (query_of given.source.parts).sources)) given.source.building given.source.last
+      (folded_query given) given.source.group (key_columns query) (value_columns query) (distinct_grouping (shown query)) into (key_from 0 (distinct_columns 0 query.items)) []
       (given_up_distinct row_is value_is parts whole given) tables
 
   abbrev Many : Type 0
@@ -71,9 +72,7 @@ module _ (row_is : (row other : List Val) → is_same_row row other ≡ true →
 
   -- where they aren't counted, there are few for any set function
   pub few_or_many : (guard : Option ℕ) → IsGuard guard → (guard ≡ None → 1 ≤ length query.functions → length (flow (front query) tables).rows < 10 ^ 18) →
-      AreFewOnce guard (promise_of_whole (asked_distinct query)) T (front_count given.source) given.source.columns (texts_of_grouped parts) (front_words given.source) (front_at given.source) (table_of (entries_of (query_of given.source.parts).sources)) given.source.building given.source.last (folded_query given) given.source.group (key_columns query) (value_columns query) (distinct_grouping (shown query)) into (key_from 0 (distinct_columns 0 query.items)) []
-      (given_up_distinct row_is value_is parts whole given) tables
-      ⊎ ((guard ≡ Some 4) × AreMany (promise_of_whole (asked_distinct query)) T (front_count given.source) given.source.columns (texts_of_grouped parts) (front_words given.source) (front_at given.source) (table_of (entries_of (query_of given.source.parts).sources)) given.source.building given.source.last given.source.group (given_up_distinct row_is value_is parts whole given) tables)
+      Few guard ⊎ ((guard ≡ Some 4) × Many)
   few_or_many None is_guard few = inl (are_few None (few refl) (λ counts. absurd (differ counts)))
   few_or_many (Some z) is_guard few =
       ⊎_elim (λ less. inl (are_few (Some z) (λ some_function. less) (λ counts. less))) (λ more. inr (ap (λ (k : ℕ). let o : Option ℕ = Some k in o) is_guard, are_many more)) (cases_lt (length reaching) (10 ^ 18))

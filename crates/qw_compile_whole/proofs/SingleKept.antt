@@ -185,7 +185,8 @@ module _ (row_is : (row other : List Val) → is_same_row row other ≡ true →
       take_pays : areas_paid given.source.group before + 2 * up < (M + 1) * up
       take_pays =
           turned before up (32 * length given.source.group.functions) ((M + 1) * up)
-          (pays row_is value_is given.source widest low rows_fit (omega arith) T room tables (loaded_front given tables loaded) (group_units general_hashing query planned) (group_octets query planned) S 1 N (omega arith) (omega arith) stoods stood (32 * length given.source.group.functions) (less (table_octets (kept_by (query_of given.source.parts)) tables (placed (query_of given.source.parts))) (32 * length given.source.group.functions) (group_octets query planned) (length (rows_behind query planned) * row_size (length query.items)) areas_low))
+          (pays row_is value_is given.source widest low rows_fit (omega arith) T room tables (loaded_front given tables loaded) (group_units general_hashing query planned) (group_octets query planned) S 1 N (omega arith) (omega arith) stoods stood
+          (32 * length given.source.group.functions) (less (table_octets (kept_by (query_of given.source.parts)) tables (placed (query_of given.source.parts))) (32 * length given.source.group.functions) (group_octets query planned) (length (rows_behind query planned) * row_size (length query.items)) areas_low))
         where
           less : (j o p r : ℕ) → o ≤ p → j + o ≤ (j + p) + r
           less j o p r e = omega (arith, e)

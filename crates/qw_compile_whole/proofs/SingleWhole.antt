@@ -23,7 +23,6 @@ use Rattle.qw_low.specs.Steps.{steps_of}
 use Rattle.qw_low.specs.Syntax.{Statement}
 use Rattle.qw_low.specs.Typing.{IsTyped}
 use Rattle.qw_read.specs.Texts.{LeadsToAll}
-use Rattle.qw_read.specs.declared.constant.Word.{Word}
 use Rattle.qw_physical.specs.Coded.{pipeline_of}
 use Rattle.qw_physical.specs.Physical.{Operator, Sink, filter, select}
 use Rattle.qw_physical.specs.declared.pipeline.Pipeline as coded
@@ -34,7 +33,6 @@ use Rattle.qw_emit.specs.Alike.{AreAlike}
 use Rattle.qw_emit.specs.RunsOf.{IsMadeOf}
 use Rattle.qw_group_pipeline.specs.Groups.{InSink, IsOneRow}
 use Rattle.qw_group_pipeline.specs.declared.columns.ValueColumn.{ValueColumn}
-use Rattle.qw_compile.specs.QueryLiterals.{query_words}
 use Rattle.qw_compile.specs.QueryLocals.{own_start, query_locals}
 use Rattle.qw_compile.specs.QueryMade.{literal_locals, literals_by, readers_by, texts_by}
 use Rattle.qw_compile.specs.Statements.{AreCourses}
@@ -48,7 +46,7 @@ use Rattle.qw_compile_whole.specs.SingleOf.{IsSingleOf}
 use Rattle.qw_compile_whole.specs.WholeTexts.{texts_of_grouped}
 use Rattle.qw_compile_whole.proofs.ColumnTypes.{values_of_kinds}
 use Rattle.qw_compile_whole.proofs.FoldedBehind.{kinds_folded}
-use Rattle.qw_compile_whole.proofs.FrontLed.{built_low, columns_many, end_leads, front_leads, laid_columns, literals_over}
+use Rattle.qw_compile_whole.proofs.FrontLed.{built_low, columns_many, end_leads, front_leads, front_words, laid_columns, literals_over}
 use Rattle.qw_compile_whole.proofs.GroupKept.{given_up, walked_rows}
 use Rattle.qw_compile_whole.proofs.GroupedFinished.{MakesModule, few_steps}
 use Rattle.qw_compile_whole.proofs.StatementParts.{PartsOf, parts_by, all_small, alone, behind_leads, fewer, folded_kinds, folded_query, goes_with, groups_can}
@@ -77,12 +75,6 @@ module _ (row_is : (row other : List Val) → is_same_row row other ≡ true →
   abbrev T : ℕ
   T = length s.ps
 
-  abbrev texts : List (List ℕ)
-  texts = texts_of_grouped parts
-
-  abbrev words : List Word
-  words = query_words (s.ps ++ s.behind ∷ [])
-
   abbrev all : List coded.Pipeline
   all = s.ps ++ s.behind ∷ []
 
@@ -91,9 +83,6 @@ module _ (row_is : (row other : List Val) → is_same_row row other ≡ true →
 
   abbrev whole : Whole
   whole = record { body = asked.grouped (grouped_of parts); distinct = false }
-
-  abbrev up : ℕ
-  up = given_up row_is value_is parts grouped given
 
   abbrev own : List ValType
   own = s.made.builds_own ++ (s.made.takes_own ++ s.made.one_own)
@@ -106,16 +95,16 @@ module _ (row_is : (row other : List Val) → is_same_row row other ≡ true →
 
   -- ---- with the columns of the layout
   abbrev first : ℕ
-  first = own_start T (literal_locals texts all) (length s.columns)
+  first = own_start T (literal_locals (texts_of_grouped parts) all) (length s.columns)
 
-  leads_at : LeadsToAll (texts_by T (length layout.columns) texts) s.made.leads
-  leads_at = subst (λ (k : ℕ). LeadsToAll (texts_by T k texts) s.made.leads) (columns_many given.source) s.made.leads_all
+  leads_at : LeadsToAll (texts_by T (length layout.columns) (texts_of_grouped parts)) s.made.leads
+  leads_at = subst (λ (k : ℕ). LeadsToAll (texts_by T k (texts_of_grouped parts)) s.made.leads) (columns_many given.source) s.made.leads_all
 
-  built_at : AreCourses (literals_by T (length layout.columns) texts all) (readers_by T texts all s.columns) first s.made.building s.made.builds s.made.builds_own
-  built_at = subst (λ (k : ℕ). AreCourses (literals_by T k texts all) (readers_by T texts all s.columns) first s.made.building s.made.builds s.made.builds_own) (columns_many given.source) s.made.built
+  built_at : AreCourses (literals_by T (length layout.columns) (texts_of_grouped parts) all) (readers_by T (texts_of_grouped parts) all s.columns) first s.made.building s.made.builds s.made.builds_own
+  built_at = subst (λ (k : ℕ). AreCourses (literals_by T k (texts_of_grouped parts) all) (readers_by T (texts_of_grouped parts) all s.columns) first s.made.building s.made.builds s.made.builds_own) (columns_many given.source) s.made.built
 
   abbrev Makes : ℕ → List Operator → Sink → Type 0
-  Makes k os snk = IsOneRow (InSink os snk) (literals_by T k texts all) (directory (length s.made.building)) (first + length s.made.builds_own + length s.made.takes_own) values s.made.one s.made.one_own
+  Makes k os snk = IsOneRow (InSink os snk) (literals_by T k (texts_of_grouped parts) all) (directory (length s.made.building)) (first + length s.made.builds_own + length s.made.takes_own) values s.made.one s.made.one_own
 
   made_at : Makes (length layout.columns) (filter s.behind_is.having ∷ []) (select s.behind_is.items)
   made_at =
@@ -127,9 +116,9 @@ module _ (row_is : (row other : List Val) → is_same_row row other ≡ true →
   block g = one_group_block_by g T (descriptor_size layout) s.made.leads s.made.sets s.made.builds (length s.made.building) (length s.group.functions) s.made.takes s.made.one
 
   module _ (guard : Option ℕ) (guard_is : guard_for T (length values) ≡ guard) where
-    taken_at : IsTakingBy guard (literals_by T (length layout.columns) texts all) (readers_by T texts all s.columns) (first + length s.made.builds_own) s.made.taking s.group s.made.fields s.made.takes s.made.takes_own
+    taken_at : IsTakingBy guard (literals_by T (length layout.columns) (texts_of_grouped parts) all) (readers_by T (texts_of_grouped parts) all s.columns) (first + length s.made.builds_own) s.made.taking s.group s.made.fields s.made.takes s.made.takes_own
     taken_at =
-        subst₂ (λ (g : Option ℕ) (k : ℕ). IsTakingBy g (literals_by T k texts all) (readers_by T texts all s.columns) (first + length s.made.builds_own) s.made.taking s.group s.made.fields s.made.takes s.made.takes_own) guard_is (columns_many given.source) s.made.taken
+        subst₂ (λ (g : Option ℕ) (k : ℕ). IsTakingBy g (literals_by T k (texts_of_grouped parts) all) (readers_by T (texts_of_grouped parts) all s.columns) (first + length s.made.builds_own) s.made.taking s.group s.made.fields s.made.takes s.made.takes_own) guard_is (columns_many given.source) s.made.taken
 
     code_by : code ≡ steps_of (block guard)
     code_by = s.made.code_is ∙ ap (λ (g : Option ℕ). steps_of (block g)) guard_is
@@ -140,24 +129,25 @@ module _ (row_is : (row other : List Val) → is_same_row row other ≡ true →
   pub single_whole : AreAlike (entries_of (grouped_of parts).sources) → length code ≤ 2097152 → (m : Module) → MakesModule code locals m → IsCompiled (promise_of_whole (record { body = asked.grouped (grouped_of parts); distinct = false })) layout m
   single_whole alike short m made = by_guard (guard_for T (length values)) refl
     where
-      led : AreLed (types T (entry_offset (length s.columns)) s.columns texts words own) s.made.taking.operators
+      led : AreLed (types T (entry_offset (length s.columns)) s.columns (texts_of_grouped parts) (front_words given.source) own) s.made.taking.operators
       led = end_leads given.source T (omega arith) own
 
-      is_made : (guard : Option ℕ) (is : guard_for T (length values) ≡ guard) → IsMadeOf m (block guard) (length (query_locals T (length texts) (length words) s.columns own))
+      is_made : (guard : Option ℕ) (is : guard_for T (length values) ≡ guard) → IsMadeOf m (block guard) (length (query_locals T (length (texts_of_grouped parts)) (length (front_words given.source)) s.columns own))
       is_made guard is =
           subst (λ (l : List ValType). IsMadeOf m (block guard) (length l)) s.made.locals_are
           (made (block guard) (code_by guard is)
           (subst (λ (g : Option ℕ). IsTyped (I32 ∷ locals) (block g)) is
-          (single_typed T texts s.ps s.behind s.columns s.used layout code locals small (all_small row_is value_is parts grouped given) s.group values s.made (built_low given.source) (groups_can row_is value_is parts grouped given) (values_of_kinds query grouped)
+          (single_typed T (texts_of_grouped parts) s.ps s.behind s.columns s.used layout code locals small (all_small row_is value_is parts grouped given) s.group values s.made (built_low given.source) (groups_can row_is value_is parts grouped given) (values_of_kinds query grouped)
           (front_leads given.source T (omega arith) own) led (behind_leads row_is value_is parts grouped given T (omega arith) own))) (few_by guard is short))
 
       by_guard : (guard : Option ℕ) → guard_for T (length values) ≡ guard → IsCompiled (promise_of_whole whole) layout m
       by_guard None uncounted =
-          single_compiled (promise_of_whole whole) layout T s.columns texts words (table_of (entries_of (query_of s.before).sources)) (laid_columns given.source) s.made.octets_are s.made.utf8 (all_small row_is value_is parts grouped given) s.made.leads s.made.sets s.made.building s.made.taking (folded_query given)
-          s.group values s.made.fields s.made.field_kinds s.made.values_are (folded_kinds given s.made.kinds_are) s.made.table_is (built_low given.source) s.made.builds s.made.takes s.made.one s.made.builds_own s.made.takes_own s.made.one_own goes leads_at s.made.sets_all go_alone built_at (taken_at None uncounted) made_at (few_by None uncounted short) alike (λ tables. up)
+          single_compiled (promise_of_whole whole) layout T s.columns (texts_of_grouped parts) (front_words given.source) (table_of (entries_of (query_of s.before).sources)) (laid_columns given.source) s.made.octets_are s.made.utf8 (all_small row_is value_is parts grouped given) s.made.leads s.made.sets s.made.building s.made.taking (folded_query given)
+          s.group values s.made.fields s.made.field_kinds s.made.values_are (folded_kinds given s.made.kinds_are) s.made.table_is (built_low given.source) s.made.builds s.made.takes s.made.one s.made.builds_own s.made.takes_own s.made.one_own goes leads_at s.made.sets_all go_alone built_at (taken_at None uncounted) made_at (few_by None uncounted short) alike (λ tables. given_up row_is value_is parts grouped given)
           (λ tables loaded. single_kept row_is value_is parts grouped given T (omega arith) go_alone tables loaded (fewer given tables loaded uncounted)) (λ tables stoods loaded. walked_rows row_is value_is parts grouped given tables loaded stoods) m (is_made None uncounted)
       by_guard (Some z) is =
           let counts : guard_for T (length values) ≡ Some 4 = counted_there T (length values) z is in
-          single_long_compiled (promise_of_whole whole) layout T s.columns texts words (table_of (entries_of (query_of s.before).sources)) (laid_columns given.source) s.made.octets_are s.made.utf8 (all_small row_is value_is parts grouped given) s.made.leads s.made.sets s.made.building s.made.taking (folded_query given)
-          s.group values s.made.fields s.made.field_kinds s.made.values_are (folded_kinds given s.made.kinds_are) s.made.table_is (built_low given.source) s.made.builds s.made.takes s.made.one s.made.builds_own s.made.takes_own s.made.one_own goes leads_at s.made.sets_all go_alone built_at (taken_at (Some 4) counts) made_at led (few_by (Some 4) counts short) alike (λ tables. up)
+          single_long_compiled (promise_of_whole whole) layout T s.columns (texts_of_grouped parts) (front_words given.source) (table_of (entries_of (query_of s.before).sources)) (laid_columns given.source) s.made.octets_are s.made.utf8 (all_small row_is value_is parts grouped given) s.made.leads s.made.sets s.made.building s.made.taking (folded_query given)
+          s.group values s.made.fields s.made.field_kinds s.made.values_are (folded_kinds given s.made.kinds_are) s.made.table_is (built_low given.source) s.made.builds s.made.takes s.made.one s.made.builds_own s.made.takes_own s.made.one_own goes
+          leads_at s.made.sets_all go_alone built_at (taken_at (Some 4) counts) made_at led (few_by (Some 4) counts short) alike (λ tables. given_up row_is value_is parts grouped given)
           (λ tables loaded. long_kept row_is value_is parts grouped given T (omega arith) go_alone tables loaded) (λ tables stoods loaded. walked_rows row_is value_is parts grouped given tables loaded stoods) m (is_made (Some 4) counts)

@@ -19,7 +19,6 @@ use Rattle.qw_grouped.specs.Query.{GroupedParts, grouped_of}
 use Rattle.qw_grouped.specs.Whole.{Whole}
 use Rattle.qw_grouped.specs.Whole as asked
 use Rattle.qw_low.specs.declared.step.LowStep.{LowStep}
-use Rattle.qw_read.specs.declared.constant.Word.{Word}
 use Rattle.qw_physical.specs.Coded.{pipeline_of}
 use Rattle.qw_physical.specs.Physical.{filter, select}
 use Rattle.qw_physical.specs.declared.pipeline.ReadColumn.{ReadColumn}
@@ -27,7 +26,6 @@ use Rattle.qw_promise.specs.Compiled.{GoesWith, IsCompiled}
 use Rattle.qw_emit.specs.Alike.{AreAlike}
 use Rattle.qw_emit.specs.RunsOf.{IsMadeOf}
 use Rattle.qw_group_pipeline.specs.declared.columns.ValueColumn.{ValueColumn}
-use Rattle.qw_compile.specs.QueryLiterals.{query_words}
 use Rattle.qw_compile.specs.QueryLocals.{query_locals}
 use Rattle.qw_compile.proofs.LocalsPlaced.{literal_count}
 use Rattle.qw_compile.proofs.QueryReach.{table_of}
@@ -38,7 +36,7 @@ use Rattle.qw_compile_whole.specs.StatementOf.{IsStatementOf}
 use Rattle.qw_compile_whole.specs.WholeTexts.{texts_of_grouped}
 use Rattle.qw_compile_whole.proofs.ColumnTypes.{values_of_kinds}
 use Rattle.qw_compile_whole.proofs.FoldedBehind.{kinds_folded}
-use Rattle.qw_compile_whole.proofs.FrontLed.{built_low, columns_many, end_leads, front_at, front_leads, laid_columns, literals_over}
+use Rattle.qw_compile_whole.proofs.FrontLed.{built_low, columns_many, end_leads, front_at, front_leads, front_words, laid_columns, literals_over}
 use Rattle.qw_compile_whole.proofs.GroupBounded.{GoTogether}
 use Rattle.qw_compile_whole.proofs.GroupCompiled.{grouped_compiled}
 use Rattle.qw_compile_whole.proofs.GroupKept.{first_kept, given_up, group_kept, rows_many, walked_rows}
@@ -61,12 +59,6 @@ module _ (row_is : (row other : List Val) → is_same_row row other ≡ true →
   abbrev T : ℕ
   T = length s.ps
 
-  abbrev texts : List (List ℕ)
-  texts = texts_of_grouped parts
-
-  abbrev words : List Word
-  words = query_words (s.ps ++ s.behind ∷ [])
-
   abbrev key : List ReadColumn
   key = key_columns query
 
@@ -75,9 +67,6 @@ module _ (row_is : (row other : List Val) → is_same_row row other ≡ true →
 
   abbrev whole : Whole
   whole = record { body = asked.grouped (grouped_of parts); distinct = false }
-
-  abbrev up : ℕ
-  up = given_up row_is value_is parts grouped given
 
   abbrev own : List ValType
   own = s.made.builds_own ++ (s.made.gathers_own ++ s.made.walk_own)
@@ -89,8 +78,8 @@ module _ (row_is : (row other : List Val) → is_same_row row other ≡ true →
   go_together = together row_is value_is parts grouped given T some sized
 
   few_or_many : (tables : List (List (List Val))) → AreOfEntries (entries_of query.sources) tables →
-      AreFew (promise_of_whole whole) T (literal_count texts words) s.columns texts words (front_at given.source) (table_of (entries_of (query_of s.before).sources)) s.made.building s.made.gathering (folded_query given) s.group key values up tables
-      ⊎ AreMany (promise_of_whole whole) T (literal_count texts words) s.columns texts words (front_at given.source) (table_of (entries_of (query_of s.before).sources)) s.made.building s.made.gathering s.group up tables
+      AreFew (promise_of_whole whole) T (literal_count (texts_of_grouped parts) (front_words given.source)) s.columns (texts_of_grouped parts) (front_words given.source) (front_at given.source) (table_of (entries_of (query_of s.before).sources)) s.made.building s.made.gathering (folded_query given) s.group key values (given_up row_is value_is parts grouped given) tables
+      ⊎ AreMany (promise_of_whole whole) T (literal_count (texts_of_grouped parts) (front_words given.source)) s.columns (texts_of_grouped parts) (front_words given.source) (front_at given.source) (table_of (entries_of (query_of s.before).sources)) s.made.building s.made.gathering s.group (given_up row_is value_is parts grouped given) tables
   few_or_many tables loaded = ⊎_elim
       (λ less. inl (record {
         bounded = group_kept row_is value_is parts grouped given tables loaded T (omega arith) go_together (λ some_function. less);
@@ -106,7 +95,7 @@ module _ (row_is : (row other : List Val) → is_same_row row other ≡ true →
   pub whole_finished : AreAlike (entries_of (grouped_of parts).sources) → length code ≤ 2097152 → (m : Module) → MakesModule code locals m → IsCompiled (promise_of_whole (record { body = asked.grouped (grouped_of parts); distinct = false })) layout m
   whole_finished alike short m made = by_guard (guard_for T (length values)) refl
     where
-      is_made : (guard : Option ℕ) → guard_for T (length values) ≡ guard → IsMadeOf m (guarded_block_of guard T (descriptor_size layout) s.made.leads s.made.sets s.made.builds (length s.made.building) s.made.gathers s.made.walk) (length (query_locals T (length texts) (length words) s.columns own))
+      is_made : (guard : Option ℕ) → guard_for T (length values) ≡ guard → IsMadeOf m (guarded_block_of guard T (descriptor_size layout) s.made.leads s.made.sets s.made.builds (length s.made.building) s.made.gathers s.made.walk) (length (query_locals T (length (texts_of_grouped parts)) (length (front_words given.source)) s.columns own))
       is_made guard is =
           made_by s.made guard is m made small short (all_small row_is value_is parts grouped given) (built_low given.source) (groups_can row_is value_is parts grouped given) (values_of_kinds query grouped)
           (front_leads given.source T (omega arith) own) (end_leads given.source T (omega arith) own) (behind_leads row_is value_is parts grouped given T (omega arith) own)
@@ -115,19 +104,19 @@ module _ (row_is : (row other : List Val) → is_same_row row other ≡ true →
       by_guard None none =
           let n : ℕ = length layout.columns in
           let many = columns_many given.source in
-          grouped_compiled (promise_of_whole whole) layout T s.columns texts words (table_of (entries_of (query_of s.before).sources)) (laid_columns given.source) s.made.octets_are s.made.utf8 (all_small row_is value_is parts grouped given) s.made.leads s.made.sets s.made.building s.made.gathering (folded_query given)
+          grouped_compiled (promise_of_whole whole) layout T s.columns (texts_of_grouped parts) (front_words given.source) (table_of (entries_of (query_of s.before).sources)) (laid_columns given.source) s.made.octets_are s.made.utf8 (all_small row_is value_is parts grouped given) s.made.leads s.made.sets s.made.building s.made.gathering (folded_query given)
           s.group key values s.made.fields s.made.field_kinds s.made.values_are (folded_kinds given s.made.kinds_are) s.made.table_is (built_low given.source) s.made.builds s.made.gathers s.made.walk s.made.builds_own s.made.gathers_own s.made.walk_own goes
           (leads_at s.made None none n many) s.made.sets_all go_together (built_at s.made None none n many)
           (gathered_at s.made None none n many) (walked_at s.made None none n many (filter s.behind_is.having ∷ []) (select s.behind_is.items) s.behind_is.operators_are s.behind_is.sink_is)
-          (few_by s.made None none short) alike (λ tables. up)
+          (few_by s.made None none short) alike (λ tables. given_up row_is value_is parts grouped given)
           (λ tables loaded. group_kept row_is value_is parts grouped given tables loaded T (omega arith) go_together (fewer given tables loaded none))
           (λ tables stoods loaded. walked_rows row_is value_is parts grouped given tables loaded stoods) m (is_made None none)
       by_guard (Some z) is =
           let counts : guard_for T (length values) ≡ Some 4 = counted_there T (length values) z is in
           let n : ℕ = length layout.columns in
           let many = columns_many given.source in
-          guarded_compiled (promise_of_whole whole) layout T s.columns texts words (table_of (entries_of (query_of s.before).sources)) (laid_columns given.source) s.made.octets_are s.made.utf8 (all_small row_is value_is parts grouped given) s.made.leads s.made.sets s.made.building s.made.gathering (folded_query given)
+          guarded_compiled (promise_of_whole whole) layout T s.columns (texts_of_grouped parts) (front_words given.source) (table_of (entries_of (query_of s.before).sources)) (laid_columns given.source) s.made.octets_are s.made.utf8 (all_small row_is value_is parts grouped given) s.made.leads s.made.sets s.made.building s.made.gathering (folded_query given)
           s.group key values s.made.fields s.made.field_kinds s.made.values_are (folded_kinds given s.made.kinds_are) s.made.table_is (built_low given.source) s.made.builds s.made.gathers s.made.walk s.made.builds_own s.made.gathers_own s.made.walk_own goes
           (leads_at s.made (Some 4) counts n many) s.made.sets_all go_together (built_at s.made (Some 4) counts n many)
           (gathered_at s.made (Some 4) counts n many) (walked_at s.made (Some 4) counts n many (filter s.behind_is.having ∷ []) (select s.behind_is.items) s.behind_is.operators_are s.behind_is.sink_is)
-          (end_leads given.source T (omega arith) own) (few_by s.made (Some 4) counts short) alike (λ tables. up) (λ tables loaded. few_or_many tables loaded) m (is_made (Some 4) counts)
+          (end_leads given.source T (omega arith) own) (few_by s.made (Some 4) counts short) alike (λ tables. given_up row_is value_is parts grouped given) (λ tables loaded. few_or_many tables loaded) m (is_made (Some 4) counts)

@@ -175,7 +175,8 @@ module _ (row_is : (row other : List Val) → is_same_row row other ≡ true →
 
     -- ---- all of it
     abbrev IsKept : (most N : ℕ) → Type 0
-    IsKept pages N = IsGroupBounded T (front_count source) source.columns texts (front_words source) (front_at source) (table_of (entries_of (query_of source.parts).sources)) source.building source.last (distinct_grouping (query_of source.parts)) source.group (key_from 0 (distinct_columns 0 (query_of source.parts).items)) [] (λ raised. IsTold (whole_outcome (asked_once (query_of source.parts)) tables) raised) given_up_once pages N tables
+    IsKept pages N = IsGroupBounded T (front_count source) source.columns texts (front_words source) (front_at source) (table_of (entries_of (query_of source.parts).sources)) source.building source.last
+        (distinct_grouping (query_of source.parts)) source.group (key_from 0 (distinct_columns 0 (query_of source.parts).items)) [] (λ raised. IsTold (whole_outcome (asked_once (query_of source.parts)) tables) raised) given_up_once pages N tables
 
     abbrev stored_once : ℕ
     stored_once = (table_octets (kept_by (query_of source.parts)) tables (placed (query_of source.parts)) + distinct_octets (length (query_of source.parts).items) (planned_rows (query_of source.parts) tables)) + length (once (planned_rows (query_of source.parts) tables)) * row_size (length (query_of source.parts).items)
@@ -190,7 +191,8 @@ module _ (row_is : (row other : List Val) → is_same_row row other ≡ true →
         let items = cells_are in
         let cells = ap (λ (c : ℕ). length (once planned) * row_size c) cells_are in
         subst (λ (m : ℕ). IsKept m (1 + whole_units (asked_once (query_of source.parts)) tables)) pages_are
-        (group_bounded row_is value_is source (distinct_grouping (query_of source.parts)) (omega (arith, same, some_item)) row_less (max (row_size (length (query_of source.parts).items)) (max (distinct_size (length (query_of source.parts).items)) (greatest_entry (kept_by (query_of source.parts)) (placed (query_of source.parts))))) widest_low (omega (arith, items)) (omega (arith, size)) (omega arith) T room (key_from 0 (distinct_columns 0 (query_of source.parts).items)) [] together tables loaded
+        (group_bounded row_is value_is source (distinct_grouping (query_of source.parts)) (omega (arith, same, some_item)) row_less
+        (max (row_size (length (query_of source.parts).items)) (max (distinct_size (length (query_of source.parts).items)) (greatest_entry (kept_by (query_of source.parts)) (placed (query_of source.parts))))) widest_low (omega (arith, items)) (omega (arith, size)) (omega arith) T room (key_from 0 (distinct_columns 0 (query_of source.parts).items)) [] together tables loaded
         (λ raised. IsTold (whole_outcome (asked_once (query_of source.parts)) tables) raised) (told_any (flow (query_of source.parts) tables).rows (once (flow (query_of source.parts) tables).rows) (flow (query_of source.parts) tables).codes) (distinct_units general_hashing planned) (distinct_octets (length (query_of source.parts).items) planned) units_low octets_low
         stored_once 1 (1 + whole_units (asked_once (query_of source.parts)) tables) (omega arith) (omega arith) (omega arith) no_function walk_tells keys_ok values_ok (length (once planned)) rows_low (omega (arith, cells)))
 

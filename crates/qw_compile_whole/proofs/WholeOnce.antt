@@ -307,7 +307,8 @@ module _ (row_is : (row other : List Val) → is_same_row row other ≡ true →
           both_paid octets few_octets =
               turned before given_up_distinct (length (keys given.source.group.columns rows) * group_width given.source.group) (length (keys into.columns entered) * group_width into) octets ((M + 1) * given_up_distinct)
               (paid_for (((4096 + length (keys given.source.group.columns rows) * group_width given.source.group) + (4096 + length (keys into.columns entered) * group_width into)) + octets)
-              (less (table_octets (kept_by (query_of given.source.parts)) tables (placed (query_of given.source.parts))) (4096 + length (keys given.source.group.columns rows) * group_width given.source.group) (group_octets query planned) (4096 + length (keys into.columns entered) * group_width into) (distinct_octets (length query.items) behind) octets (length (once behind) * row_size (length query.items)) first_octets second_octets few_octets))
+              (less (table_octets (kept_by (query_of given.source.parts)) tables (placed (query_of given.source.parts))) (4096 + length (keys given.source.group.columns rows) * group_width given.source.group) (group_octets query planned)
+              (4096 + length (keys into.columns entered) * group_width into) (distinct_octets (length query.items) behind) octets (length (once behind) * row_size (length query.items)) first_octets second_octets few_octets))
             where
               less : (j a p b d o r : ℕ) → a ≤ p → b ≡ d → o ≤ r → j + ((a + b) + o) ≤ ((j + p) + d) + r
               less j a p b d o r e f h = omega (arith, e, f, h)
