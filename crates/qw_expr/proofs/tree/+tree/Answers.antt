@@ -99,20 +99,10 @@ first_result-returns t c =
     (omega (arith, mt.short, begins.short, ma.short, c.in_ok-first.ensures.short))
 
 -- ---- the first result whose condition is true
-pub branch-scaled-requires : goal.branch-scaled-requires
-branch-scaled-requires t c =
-    let asks = rw c.in-Else.is at c.requires.asks in
-    (search (rules, the_lemmas), (rw c.deref.ensures asks.typed, (rw c.deref.ensures asks.takes, c.requires.served)))
-
 pub branch-returns-in-Else : goal.branch-returns-in-Else
 branch-returns-in-Else t c =
     rw c.in-Else.is
     (if_ok _ _ c.scaled.result (λ out made. made_more _ _ _ _ _ _ _ _ (includes_same _) c.requires.served made (omega arith)) (rw c.deref.ensures at c.scaled.ensures))
-
-pub branch-condition-requires : goal.branch-condition-requires
-branch-condition-requires t c =
-    let asks = rw c.in-When.is at c.requires.asks in
-    (search (rules, the_lemmas), (rw c.deref-in-When.ensures asks.typed.0, (rw c.deref-in-When.ensures asks.takes.0, c.requires.served)))
 
 pub branch-first_result-requires : goal.branch-first_result-requires
 branch-first_result-requires t c =
@@ -138,20 +128,10 @@ branch-returns-in_ok-second-in-When t c =
     (λ out does short. choice_made _ _ _ _ _ _ _ _ _ _ _ _ _ _ _ asks.typed c.requires.served begun mb (λ more low h eb. does more _ _ _ _ _ _ asks.typed asks.suits low h eb) short (branch_room _ _ _)) c.end_choice.ensures.emits c.end_choice.ensures.short)
 
 -- ---- the first argument that isn't null
-pub coalesce-scaled-requires : goal.coalesce-scaled-requires
-coalesce-scaled-requires t c =
-    let asks = rw c.in-Last.is at c.requires.asks in
-    (search (rules, the_lemmas), (rw c.deref.ensures asks.typed, (rw c.deref.ensures asks.takes, c.requires.served)))
-
 pub coalesce-returns-in-Last : goal.coalesce-returns-in-Last
 coalesce-returns-in-Last t c =
     rw c.in-Last.is
     (if_ok _ _ c.scaled.result (λ out made. made_more _ _ _ _ _ _ _ _ (includes_same _) c.requires.served made (omega arith)) (rw c.deref.ensures at c.scaled.ensures))
-
-pub coalesce-expression-requires : goal.coalesce-expression-requires
-coalesce-expression-requires t c =
-    let asks = rw c.in-More.is at c.requires.asks in
-    (search (rules, the_lemmas), (rw c.deref-in-More.ensures asks.typed.1.0.0.0, (rw c.deref-in-More.ensures asks.takes.1.0, c.requires.served)))
 
 pub coalesce-unless_null-requires : goal.coalesce-unless_null-requires
 coalesce-unless_null-requires t c =
@@ -179,11 +159,6 @@ coalesce-returns-in_ok-second-in-More t c =
     (coalesced_before _ _ _) (coalesced_room _ _)) c.end_choice.ensures.emits c.end_choice.ensures.short)
 
 -- ---- the first result whose value equals an operand's
-pub matched-against-requires : goal.matched-against-requires
-matched-against-requires t c =
-    let asks = rw c.in-Last.is at c.requires.asks in
-    (search (rules, the_lemmas), (rw c.deref.ensures asks.typed.0, (rw c.deref.ensures asks.takes.0, c.requires.served)))
-
 pub matched-first_result-requires : goal.matched-first_result-requires
 matched-first_result-requires t c =
     let mt = rw c.deref.ensures at c.in_ok-t-in-Last.ensures in
@@ -207,11 +182,6 @@ matched-returns-in_ok-second-in-Last t c =
     (if_short _ _ _ c.end_choice.result
     (λ out does short. choice_made _ _ _ _ _ _ _ _ _ _ _ _ _ _ _ asks.typed c.requires.served begun (made_more _ _ _ _ _ _ _ _ (λ k among. inr among) begun.served mb (at_most _))
     (λ more low h eb. does more _ _ _ _ _ _ asks.typed asks.suits low h eb) short (last_room _ _ _)) c.end_choice.ensures.emits c.end_choice.ensures.short)
-
-pub matched-against-requires-in-When : goal.matched-against-requires-in-When
-matched-against-requires-in-When t c =
-    let asks = rw c.in-When.is at c.requires.asks in
-    (search (rules, the_lemmas), (rw c.deref-in-When.ensures asks.typed.0, (rw c.deref-in-When.ensures asks.takes.0, c.requires.served)))
 
 pub matched-first_result-requires-in-When : goal.matched-first_result-requires-in-When
 matched-first_result-requires-in-When t c =
@@ -252,11 +222,6 @@ unless_among-returns-in-Last t c =
     (if_ok _ _ c.scaled.result
     (λ out made. made_more _ _ _ _ _ _ _ _ (includes_same _) c.requires.served (subst (λ k. Made (known_of c.args.known.now) (brought e k) (400 * nodes c.in-Last.argument.value + 85) c.args.emitter.now c.scaled.new.emitter out) same made) (omega arith))
     (rw c.deref.ensures at c.scaled.ensures))
-
-pub unless_among-expression-requires : goal.unless_among-expression-requires
-unless_among-expression-requires t c =
-    let asks = rw c.in-More.is at c.requires.asks in
-    (search (rules, the_lemmas), (rw c.deref-in-More.ensures asks.typed.1.0.1, (rw c.deref-in-More.ensures asks.takes.1.1, c.requires.served)))
 
 pub unless_among-among-requires : goal.unless_among-among-requires
 unless_among-among-requires t c =
