@@ -37,10 +37,10 @@ use Rattle.qw_physical.specs.declared.pipeline.ReadColumn.{ReadColumn}
 use Rattle.qw_operator.specs.Takes.{CanCarry}
 use Rattle.qw_operator.proofs.CarriedTyped.{IsReaderDeclared}
 use Rattle.qw_operator.proofs.Filters.{Runs}
+use Rattle.qw_operator.proofs.OperatorsFeed.{FeedsEnd}
 use Rattle.qw_operator.proofs.Promised.{AreOwn}
 use Rattle.qw_operator.proofs.Stood.{AllStand, Stood, built_of}
 use Rattle.qw_group_sink.specs.Carrying.{pipeline_cost_to}
-use Rattle.qw_group_sink.proofs.CarriedTo.{FeedsEnd}
 use Rattle.qw_group_sink.proofs.FieldParts.{take_few}
 use Rattle.qw_group_sink.proofs.PipelineTo.{ScannedTo, pipeline_to_feeds}
 use Rattle.qw_group_sink.proofs.RowCounted.{begins_spare}
@@ -136,7 +136,7 @@ module _ (T n : ℕ) (columns : List ReadColumn) (literals : List Known) (conten
     -- It is one of these sinks, which spare all that is before it, and may take these rows; behind what is seen and the tables a row's block feeds it.
     module _ (source : Source T n columns contents s0 p) (finds : Finds T n columns literals contents N stoods p) (cost : 1 + pipeline_cost_to values turn contents (built_of stoods) p ≤ N) (d : ℕ) (d_high : 5 + length stoods ≤ d) (d_low : d < rows_left T)
         (sink : (part offset : ℕ) → Sink) (spared : (k o at wide : ℕ) → at + wide ≤ pos k o → (sink k o).Spared at wide) (may : (k o : ℕ) → (sink k o).May (fed_over contents stoods p).rows)
-        (feeds : (k o : ℕ) → SeenBefore c k o → TablesBefore stoods k o → Runs c stoods (rows_left T) (sink k o) × FeedsEnd c stoods (rows_left T) (sink k o) most fuel many types End values turn)
+        (feeds : (k o : ℕ) → SeenBefore c k o → TablesBefore stoods k o → Runs c stoods (rows_left T) (sink k o) × FeedsEnd c stoods (rows_left T) (sink k o) most fuel many types End (select values) turn)
         (budget : ℕ) (s : LowState) (between : Between T n c base u s0 stoods budget s)
         (Post : LowState → Type 0) (taken : (k o : ℕ) → base ≤ pos k o → (w : LowState) → (sink k o).Has (fed_over contents stoods p).rows w → Keeps (Steady T n) (Before base) s0 w → Post w) where
       abbrev front : ℕ
