@@ -7,15 +7,12 @@ use Rattle.std.proofs.lemmas.List.Quantifiers.{position-Some}
 use Rattle.std.proofs.lemmas.Option.{slice_get_read}
 use Rattle.qw_types.specs.declared.schema.Column.{Column}
 use Rattle.std.specs.Str.{bytes_eq}
-use Rattle.std.proofs.Math.ListN.{drop_of_length-le}
 use Rattle.std.proofs.lemmas.List.{append-nil}
 use Rattle.std.proofs.lemmas.List.Elements.{Contains-append_left, Contains-append_right}
 use Rattle.qw_types.specs.Schema.{AreColumns}
 use Rattle.qw_types.specs.declared.schema.Table.{Table}
 use Rattle.qw_ast.specs.declared.script.Entry as coded_entry
-use Rattle.qw_ast.specs.declared.script.Joined as coded_join
 use Rattle.qw_ast.specs.declared.script.Source as coded_source
-use Rattle.qw_ast.proofs.StatementLemmas.{drop_next}
 use Rattle.qw_ast.specs.Grammar.{name_of}
 use Rattle.qw_ast.specs.Limits.{entries_of}
 use Rattle.qw_ast.specs.Syntax as written
@@ -52,9 +49,6 @@ pub record EntriesWith (schema : List Table) (made : List CodeEntry) (rest all :
   pub few : length made + length rest ≤ 8
   pub tables : HaveTables (as_entries made)
 
-pub entries_first : (schema : List Table) (all : List written.Entry) → length all ≤ 8 → EntriesWith schema [] all all
-entries_first schema all few = record { faults = refl; scope = refl; few = omega (arith, few); tables = tt }
-
 no_faults : (schema : List Table) (before : List (List ℕ)) (e : written.Entry) (es : List written.Entry) → is_none (place_of schema (name_of e.table)) ≡ false → list_any (bytes_eq (entry_name e)) before ≡ false
     → entries_faults schema before (e ∷ es) ≡ entries_faults schema (before ++ entry_name e ∷ []) es
 no_faults schema before e es known fresh =
@@ -89,11 +83,6 @@ entries_kept schema made made' x rest rest' all e first more known is fresh colu
       few = omega (arith, count, before_few);
       tables = rw more (tables_push made x before.tables columns);
     }
-
-pub entries_end : (schema : List Table) (made : List CodeEntry) (rest : List coded_entry.Entry) (all : List written.Entry) → length rest < 1 → EntriesWith schema made (map syntax.entry_of rest) all
-    → (entries_faults schema [] all ≡ []) × (as_entries made ≡ entries_from schema 0 all)
-entries_end schema made [] all none h = (sym h.faults, sym (append-nil (as_entries made)) ∙ h.scope)
-entries_end schema made (e ∷ rest) all none h = absurd (omega (arith, none))
 
 pub head_rest : {X : Type 0} (xs : List X) (d : X) → 1 ≤ length xs → xs ≡ get_or xs 0 d ∷ take (length xs - 1) (drop 1 xs)
 head_rest [] d h = absurd (omega (arith, h))
@@ -173,18 +162,3 @@ named_kept made made' made'' rest rest' s all first more joined before =
 pub named_end : (made : List coded_entry.Entry) (rest : List coded_source.Source) (all : List written.Entry) → length rest < 1 → map syntax.entry_of made ++ entries_of (map syntax.source_of rest) ≡ all → map syntax.entry_of made ≡ all
 named_end made [] all none h = sym (append-nil (map syntax.entry_of made)) ∙ h
 named_end made (s ∷ rest) all none h = absurd (omega (arith, none))
-
--- one joined entry more
-pub joined_kept : (joins : List coded_join.Joined) (i : ℕ) (d : coded_join.Joined) (made made' : List coded_entry.Entry) (all : List written.Entry) → i < length joins → made' ≡ made ++ (get_or joins i d).entry ∷ []
-    → map syntax.entry_of made ++ map (λ (j : written.Joined). j.entry) (map syntax.joined_of (drop i joins)) ≡ all → map syntax.entry_of made' ++ map (λ (j : written.Joined). j.entry) (map syntax.joined_of (drop (i + 1) joins)) ≡ all
-joined_kept joins i d made made' all lt more before =
-    let next = drop_next joins i d lt in
-    let others = map (λ (j : written.Joined). j.entry) (map syntax.joined_of (drop (i + 1) joins)) in
-    ap (λ (es : List coded_entry.Entry). map syntax.entry_of es ++ others) more ∙ push_map syntax.entry_of made (get_or joins i d).entry others
-    ∙ sym (ap (λ (js : List coded_join.Joined). map syntax.entry_of made ++ map (λ (j : written.Joined). j.entry) (map syntax.joined_of js)) next) ∙ before
-
-pub joined_end : (joins : List coded_join.Joined) (i : ℕ) (made : List coded_entry.Entry) (all : List written.Entry) → length joins ≤ i
-    → map syntax.entry_of made ++ map (λ (j : written.Joined). j.entry) (map syntax.joined_of (drop i joins)) ≡ all → map syntax.entry_of made ≡ all
-joined_end joins i made all le h =
-    let none : drop i joins ≡ [] = drop_of_length-le joins le in
-    sym (append-nil (map syntax.entry_of made)) ∙ sym (ap (λ (js : List coded_join.Joined). map syntax.entry_of made ++ map (λ (j : written.Joined). j.entry) (map syntax.joined_of js)) none) ∙ h

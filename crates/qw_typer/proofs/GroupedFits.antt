@@ -60,23 +60,4 @@ grouped_fits schema s entries groups behind functions after m within one two add
     let selected = no_both (selected_faults sc s.selected) (sources_faults schema 0 s.sources ++ (having_faults sc s ++ filter_faults (scope_of schema s) s)) none in
     let star = star_few schema s s.selected (subst HaveTables m.from.are m.from.tables) within.few_columns selected.0 in
     let same : starred_nodes entries s.selected ≡ starred_nodes es s.selected = ap (λ (fs : List Entry). starred_nodes fs s.selected) m.from.are in
-    let item_nodes = two.items_fit.nodes_fit in
-    let item_octets = two.items_fit.octets_fit in
-    let source_nodes = two.sources_fit.nodes_fit in
-    let source_octets = two.sources_fit.octets_fit in
-    let having_nodes = two.having_fits.nodes_fit in
-    let having_octets = two.having_fits.octets_fit in
-    let filter_nodes = two.filter_fits.nodes_fit in
-    let filter_octets = two.filter_fits.octets_fit in
-    let argument_nodes = one.arguments.nodes_fit in
-    let argument_octets = one.arguments.octets_fit in
-    let columns = one.columns_are in
-    let functions_are = one.functions_are in
-    let more_nodes = added.nodes_few in
-    let more_octets = added.octets_are in
-    let more = added.length_few in
-    record {
-      few_functions = one.few_functions;
-      nodes_fit = omega (arith, star, same, item_nodes, source_nodes, having_nodes, filter_nodes, argument_nodes, columns, functions_are, more_nodes, more);
-      octets_fit = omega (arith, item_octets, source_octets, having_octets, filter_octets, argument_octets, more_octets);
-    }
+    record { few_functions = one.few_functions; nodes_fit = omega arith; octets_fit = omega arith }

@@ -1,5 +1,5 @@
 -- GROUP BY and the set functions of a query, one after another; and what stands over the grouped table, up to the first fault.
-use Rattle.std.proofs.Common.{◌≡◌, ℕ, ◌+◌, ◌-◌, ◌≤◌, ◌<◌, List, [], ◌∷◌, ◌++◌, map, length, take, drop, sum_by, Option, Result, Ok, Err, refl, sym, ap, ◌∙◌, arith}
+use Rattle.std.proofs.Common.{◌≡◌, ℕ, ◌+◌, ◌-◌, ◌≤◌, ◌<◌, List, [], ◌∷◌, ◌++◌, map, length, sum_by, Option, Result, Ok, Err, refl, sym, ap, ◌∙◌, arith}
 use Rattle.std.specs.List.{flat_map}
 use Rattle.std.proofs.lemmas.List.{append-nil, append_assoc}
 use Rattle.std.proofs.lemmas.List.Sums.{sum_by-cons, sum_by_push}
@@ -24,7 +24,7 @@ use Rattle.qw_typer.specs.declared.refusal.Refusal.{Refusal}
 use Rattle.qw_typer.specs.declared.scope.FunctionColumn.{FunctionColumn as CodeFunction}
 use Rattle.qw_typer.specs.Faults.{Fault, argument_faults, first_token}
 use Rattle.qw_typer.specs.Functions.{Written, applied, counted, written}
-use Rattle.qw_typer.specs.Grouping.{as_grouped, kind_of_function, place_of_function}
+use Rattle.qw_typer.specs.Grouping.{as_grouped, kind_of_function}
 use Rattle.qw_typer.specs.Meant.{Entry, FunctionColumn, ungrouped}
 use Rattle.qw_typer.specs.Sizes.{text_octets}
 use Rattle.qw_typer.specs.Inner.Functions.{all_written, written_of}
@@ -173,9 +173,7 @@ arguments_fit made made' f rest rest' w all_nodes all_octets more first one befo
     let octets_rest = sum_by-cons argument_octets (written_of w) (all_written rest') in
     let nodes_left = from.nodes_left in
     let octets_left = from.octets_left in
-    let nodes_fit = one.nodes_fit in
-    let octets_fit = one.octets_fit in
-    record { nodes_left = omega (arith, nodes_more, nodes_rest, nodes_left, nodes_fit); octets_left = omega (arith, octets_more, octets_rest, octets_left, octets_fit) }
+    record { nodes_left = omega (arith, nodes_more, nodes_rest, nodes_left); octets_left = omega (arith, octets_more, octets_rest, octets_left) }
 
 pub arguments_end : (made : List made_function.SetFunction) (n k all_nodes all_octets : ℕ) → ArgumentsWith made n k all_nodes all_octets → FitsArguments made all_nodes all_octets
 arguments_end made n k all_nodes all_octets h = let a = h.nodes_left in let b = h.octets_left in record { nodes_fit = omega (arith, a); octets_fit = omega (arith, b) }
@@ -212,6 +210,4 @@ rows_added functions functions' f more one =
     let nodes_more = ap (λ (fs : List made_function.SetFunction). sum_by (λ (g : made_function.SetFunction). typed_nodes.nodes g.argument) fs) more ∙ sum_by_push (λ (g : made_function.SetFunction). typed_nodes.nodes g.argument) functions f in
     let octets_more = ap (λ (fs : List made_function.SetFunction). sum_by (λ (g : made_function.SetFunction). text_octets g.argument) fs) more ∙ sum_by_push (λ (g : made_function.SetFunction). text_octets g.argument) functions f in
     let many = ap (λ (fs : List made_function.SetFunction). length fs) more ∙ push_length functions f in
-    let nodes_fit = one.nodes_fit in
-    let octets_fit = one.octets_fit in
-    record { nodes_few = omega (arith, nodes_more, nodes_fit); octets_are = omega (arith, octets_more, octets_fit); length_few = omega (arith, many) }
+    record { nodes_few = omega (arith, nodes_more); octets_are = omega (arith, octets_more); length_few = omega (arith, many) }

@@ -1,11 +1,9 @@
 -- The result columns that the keys of an ORDER BY name: how they are found one after another, and that they are there.
 use Rattle.std.proofs.Common.{◌≡◌, ℕ, suc, ◌+◌, ◌-◌, ◌<◌, ◌≤◌, ◌^◌, Bool, true, false, List, [], ◌∷◌, ◌++◌, map, length, drop, get_or, Some, None, Result, Ok, Err, refl, sym, ap, subst, ◌∙◌, arith, append_assoc}
-use Rattle.std.specs.Prelude.{if◌then◌else◌, ◌&&◌, nat_le, not, Contains}
+use Rattle.std.specs.Prelude.{if◌then◌else◌, not, Contains}
 use Rattle.std.specs.List.{AllByRecursion}
-use Rattle.std.specs.Str.{bytes_eq}
 use Rattle.std.specs.Str.Parse.{digits_value, ParsesUnsigned}
 use Rattle.std.proofs.lemmas.Str.Parse.{parse_digits}
-use Rattle.std.proofs.lemmas.Bool.{and_parts, leb-true}
 use Rattle.std.proofs.Math.ListN.{drop_of_length-le}
 use Rattle.std.proofs.lemmas.List.{append-nil}
 use Rattle.std.proofs.lemmas.List.Elements.{Contains-append_left}
@@ -21,7 +19,7 @@ use Rattle.qw_order.specs.declared.sort_key.SortKey.{SortKey}
 use Rattle.qw_ast.proofs.StatementLemmas.{drop_next}
 use Rattle.qw_ast.specs.declared.script.SortSpecification as coded_sort
 use Rattle.qw_ast.specs.Grammar.{name_of}
-use Rattle.qw_ast.specs.Syntax.{column, Key, ordinal, result_column, SortSpecification}
+use Rattle.qw_ast.specs.Syntax.{column, result_column, SortSpecification}
 use Rattle.qw_ast.specs.SyntaxTree as syntax
 use Rattle.qw_typer.specs.declared.key.Named.{Named}
 use Rattle.qw_typer.specs.declared.key.Named.TheVariants as named
@@ -35,7 +33,6 @@ use Rattle.qw_typer.specs.Meant.{Scope, meant}
 use Rattle.qw_typer.specs.Inner.Queries.{GivesPosition, IsNamed, IsOneOf}
 use Rattle.qw_typer.specs.Inner.Typing.{outcome, spelled}
 use Rattle.qw_typer.proofs.FaultLemmas.{no_fault}
-use Rattle.qw_typer.proofs.SoundLemmas.{no_both, no_own, tested}
 use Rattle.qw_typer.proofs.StepLemmas.{push_more}
 
 -- ---- positions
@@ -43,58 +40,6 @@ use Rattle.qw_typer.proofs.StepLemmas.{push_more}
 wider : (n : ℕ) (ps : List ℕ) → AllByRecursion (λ (p : ℕ). p < n) ps → (m : ℕ) → n ≤ m → AllByRecursion (λ (p : ℕ). p < m) ps
 wider n [] h m le = tt
 wider n (p ∷ ps) h m le = let below = h.0 in (omega (arith, below, le), wider n ps h.1 m le)
-
-here_below : (b : Bool) (first n : ℕ) (ps : List ℕ) → first < n → AllByRecursion (λ (p : ℕ). p < n) ps → AllByRecursion (λ (p : ℕ). p < n) ((if b then first ∷ [] else []) ++ ps)
-here_below true first n ps lt h = (lt, h)
-here_below false first n ps lt h = h
-
--- each is one of the positions
-positions_below : {A : Type 0} (test : A → Bool) (first : ℕ) (xs : List A) → AllByRecursion (λ (p : ℕ). p < first + length xs) (positions_where test first xs)
-positions_below test first [] = tt
-positions_below test first (x ∷ xs) =
-    here_below (test x) first (first + length (x ∷ xs)) (positions_where test (suc first) xs) (omega arith)
-    (wider (suc first + length xs) (positions_where test (suc first) xs) (positions_below test (suc first) xs) (first + length (x ∷ xs)) (omega arith))
-
-below_all : {A : Type 0} (test : A → Bool) (xs : List A) (n : ℕ) → length xs ≤ n → AllByRecursion (λ (p : ℕ). p < n) (positions_where test 0 xs)
-below_all test xs n le = wider (0 + length xs) (positions_where test 0 xs) (positions_below test 0 xs) n (omega (arith, le))
-
--- without a fault there is one
-first_below : (name : List ℕ) (n : ℕ) (ps : List ℕ) → counted_faults name ps ≡ [] → AllByRecursion (λ (p : ℕ). p < n) ps → first_position ps < n
-first_below name n [] h all = absurd cc
-first_below name n (p ∷ []) h all = all.0
-first_below name n (p ∷ q ∷ ps) h all = absurd cc
-
--- an ordinal is one more than a position
-ordinal_below : (n : ℕ) (digits : List ℕ) → is_ordinal n digits ≡ true → digits_value 10 digits - 1 < n
-ordinal_below n digits h =
-    let p = and_parts (are_digits digits) (nat_le 1 (digits_value 10 digits) && nat_le (digits_value 10 digits) n) h in
-    let q = and_parts (nat_le 1 (digits_value 10 digits)) (nat_le (digits_value 10 digits) n) p.1 in
-    let least = leb-true 1 (digits_value 10 digits) q.0 in
-    let most = leb-true (digits_value 10 digits) n q.1 in
-    omega (arith, least, most)
-
-key_below : (scope : Scope) (names : List (List ℕ)) (columns : List meaning.Expression) → length names ≡ length columns → (key : Key) → key_faults scope names columns key ≡ [] → first_position (keyed scope names columns key) < length columns
-key_below scope names columns same (ordinal digits) h =
-    let is = tested (is_ordinal (length columns) digits) _ digits h in
-    in_range (is_ordinal (length columns) digits) is (ordinal_below (length columns) digits is)
-  where
-    in_range : (b : Bool) → b ≡ true → digits_value 10 digits - 1 < length columns → first_position (if b then (digits_value 10 digits - 1) ∷ [] else []) < length columns
-    in_range true e lt = lt
-    in_range false e lt = absurd cc
-key_below scope names columns same (result_column None name) h =
-    first_below (name_of name) (length columns) (positions_where (bytes_eq (name_of name)) 0 names) h (below_all (bytes_eq (name_of name)) names (length columns) (omega (arith, same)))
-key_below scope names columns same (result_column (Some qualifier) name) h =
-    let ps = positions_where (is_same_column (meant scope (column (Some qualifier) name))) 0 columns in
-    let q = no_own (column_faults scope (Some qualifier) name) (counted_faults (name_of name) ps) h in
-    first_below (name_of name) (length columns) ps q.1 (below_all (is_same_column (meant scope (column (Some qualifier) name))) columns (length columns) (omega arith))
-
--- each key is a result column
-pub keys_below : (scope : Scope) (names : List (List ℕ)) (columns : List meaning.Expression) → length names ≡ length columns → (order : List SortSpecification) → keys_faults scope names columns order ≡ []
-    → AllByRecursion (λ (k : SortKey). k.position < length columns) (keys_meant scope names columns order)
-keys_below scope names columns same [] h = tt
-keys_below scope names columns same (s ∷ order) h =
-    let q = no_both (key_faults scope names columns s.key) (keys_faults scope names columns order) h in
-    (key_below scope names columns same s.key q.0, keys_below scope names columns same order q.1)
 
 -- ---- one after another
 
@@ -134,9 +79,6 @@ positions_map test f first (x ∷ xs) = ap (λ (ps : List ℕ). (if test (f x) t
 pub record KeysWith (scope : Scope) (names : List (List ℕ)) (columns : List meaning.Expression) (made : List SortKey) (rest all : List SortSpecification) : Type 0 where
   pub faults : keys_faults scope names columns rest ≡ keys_faults scope names columns all
   pub meant : made ++ keys_meant scope names columns rest ≡ keys_meant scope names columns all
-
-pub keys_first : (scope : Scope) (names : List (List ℕ)) (columns : List meaning.Expression) (all : List SortSpecification) → KeysWith scope names columns [] all all
-keys_first scope names columns all = record { faults = refl; meant = refl }
 
 pub keys_kept : (scope : Scope) (names : List (List ℕ)) (columns : List meaning.Expression) (made made' : List SortKey) (k : SortKey) (rest rest' : List coded_sort.SortSpecification) (s : coded_sort.SortSpecification) (all : List SortSpecification) → rest ≡ s ∷ rest'
     → made' ≡ made ++ k ∷ [] → (key_faults scope names columns (syntax.key_of s.key) ≡ []) × (k ≡ key_meant scope names columns (syntax.sort_of s))

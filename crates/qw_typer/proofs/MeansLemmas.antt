@@ -1,7 +1,7 @@
 -- What follows of what a query means: its entries are tables of the schema, each item has a kind and a name, and each key is
 -- a result column.
 use Rattle.std.specs.Prelude.{if◌then◌else◌}
-use Rattle.std.proofs.Common.{Bool, position, ◌==◌, ◌≡◌, ◌<◌, ℕ, suc, true, false, List, [], ◌∷◌, ◌++◌, ◌+◌, ◌*◌, arith, map, length, get_or, Option, Some, None, refl, sym, ap, ◌∙◌, slice_get, subst, is_none}
+use Rattle.std.proofs.Common.{Bool, position, ◌==◌, ◌≡◌, ℕ, suc, true, false, List, [], ◌∷◌, ◌++◌, ◌+◌, ◌*◌, arith, map, length, get_or, Option, Some, None, refl, sym, ap, ◌∙◌, slice_get, subst, is_none}
 use Rattle.std.specs.List.{AllByRecursion, list_any}
 use Rattle.std.specs.Str.{bytes_eq}
 use Rattle.std.proofs.lemmas.List.{length-append, length-map}
@@ -22,11 +22,9 @@ use Rattle.qw_ast.specs.Syntax as written
 use Rattle.qw_ast.specs.Syntax.{SelectItem, Selected, all_columns, items, Select}
 use Rattle.qw_typer.specs.declared.fault.FaultKind.TheVariants.{DuplicateAlias, NotGrouped, UnknownTable}
 use Rattle.qw_typer.specs.Faults.{fault_where, faults, first_token, group_faults, item_faults, or_own}
-use Rattle.qw_typer.specs.Keys.{keys_meant}
 use Rattle.qw_typer.specs.Grouping.{columns_ungrouped, grouping_faults, is_grouped, starred, starred_faults}
 use Rattle.qw_typer.specs.Meant.{Entry, Grouping, Scope, column_grouped, meant}
 use Rattle.qw_typer.specs.Typed.{Means, columns_from, columns_meant, column_names, entries_faults, entries_from, entry_meant, entry_name, in_scope, item_names, items_meant, list_faults, order_faults, over_faults, place_of, result_names, entries_named, grouped_meant, scope_over, selected_faults, sources_meant, specification_meant}
-use Rattle.qw_typer.proofs.KeyLemmas.{keys_below}
 use Rattle.qw_typer.proofs.GroupedLemmas.{plain_scope}
 use Rattle.qw_typer.proofs.GroupedSound.{has_kind_at, starred_more}
 use Rattle.qw_typer.proofs.LawLemmas.{entries_meant, starred_length}
@@ -164,16 +162,3 @@ many scope (items list) = many_named 1 list ∙ sym (length-map list (λ (i : Se
 pub many_names : (schema : List Table) (s : Select) (whole : Whole) (names : List (List ℕ)) (keys : List SortKey) → Means schema s whole names keys → length names ≡ length (items_in whole.body)
 many_names schema s whole names keys means =
     ap (λ (ns : List (List ℕ)). length ns) means.names_are ∙ many (scope_over schema s) s.selected ∙ sym (ap (λ (es : List meaning.Expression). length es) (items_are schema s whole names keys means))
-
--- ---- keys
-
--- each key is one of the result columns
-pub keys_within : (schema : List Table) (s : Select) (whole : Whole) (names : List (List ℕ)) (keys : List SortKey) → Means schema s whole names keys → AllByRecursion (λ (k : SortKey). k.position < length (items_in whole.body)) keys
-keys_within schema s whole names keys means =
-    let q = no_own (entries_faults schema [] (entries_of s.sources)) (or_own (over_faults schema s) (order_faults schema s)) means.faultless in
-    let r = no_own (over_faults schema s) (order_faults schema s) q.1 in
-    let scope = scope_over schema s in
-    let columns = items_meant scope s.selected in
-    let below = keys_below scope (result_names scope s.selected) columns (many scope s.selected) s.order r.1 in
-    subst (λ (ks : List SortKey). AllByRecursion (λ (k : SortKey). k.position < length (items_in whole.body)) ks) (sym means.keys_are)
-    (subst (λ (es : List meaning.Expression). AllByRecursion (λ (k : SortKey). k.position < length es) (keys_meant scope (result_names scope s.selected) columns s.order)) (sym (items_are schema s whole names keys means)) below)

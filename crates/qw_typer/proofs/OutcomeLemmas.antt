@@ -1,14 +1,13 @@
 -- How outcomes go on: past what has no fault, and not past a fault.
 use Rattle.std.proofs.Common.{◌≡◌, Result, Ok, Err, refl}
 use Rattle.qw_scalar.specs.Expression as meaning
-use Rattle.qw_scalar.specs.declared.expression.Cond.{Cond}
 use Rattle.qw_typer.specs.declared.fault.FaultKind.{FaultKind}
 use Rattle.qw_typer.specs.declared.refusal.Token.{Token}
 use Rattle.qw_typer.specs.declared.refusal.Refusal.{Refusal}
 use Rattle.qw_typer.specs.declared.refusal.Refusal.TheVariants as refusal
 use Rattle.qw_typer.specs.declared.tree.Typed.{Typed}
 use Rattle.qw_typer.specs.Faults.{Fault}
-use Rattle.qw_typer.specs.Inner.Typing.{Gives, GivesCondition, Refuses, ◌>>=◌, spelled}
+use Rattle.qw_typer.specs.Inner.Typing.{Gives, Refuses, ◌>>=◌, spelled}
 
 pub refuses_then : {A B : Type 0} (r : Refusal) (x : Result A Fault) (f : A → Result B Fault) → Refuses r x → Refuses r (x >>= f)
 unfolding Refuses
@@ -20,9 +19,6 @@ refuses_after r x a f e h = rw e h
 
 pub gives_after : {A : Type 0} (r : Result Typed Refusal) (x : Result A Fault) (a : A) (f : A → Result meaning.Expression Fault) → x ≡ Ok a → Gives r (f a) → Gives r (x >>= f)
 gives_after r x a f e h = rw e h
-
-pub gives_condition_after : {A : Type 0} (r : Result Cond Refusal) (x : Result A Fault) (a : A) (f : A → Result meaning.Condition Fault) → x ≡ Ok a → GivesCondition r (f a) → GivesCondition r (x >>= f)
-gives_condition_after r x a f e h = rw e h
 
 pub refuses_memory : {A : Type 0} (r : Refusal) (x : Result A Fault) → r ≡ refusal.NoMemory → Refuses r x
 unfolding Refuses

@@ -1,52 +1,25 @@
 -- What a column reference may mean, counted entry by entry; and the set functions of the grouped table that the code keeps.
-use Rattle.std.proofs.Common.{◌≡◌, ℕ, ◌+◌, ◌≤◌, ◌<◌, ◌||◌, Bool, List, [], ◌∷◌, ◌++◌, map, length, ◌==◌, cond, Option, Some, None, option_map, position, slice_get, refl, sym, ap, ◌∙◌, arith, append_assoc}
+use Rattle.std.proofs.Common.{◌≡◌, ℕ, ◌+◌, ◌||◌, Bool, List, [], ◌∷◌, ◌++◌, map, length, ◌==◌, cond, Option, Some, None, option_map, position, slice_get, refl, sym, ap, ◌∙◌, append_assoc}
 use Rattle.std.specs.Prelude.{if◌then◌else◌, nat_lt, not}
 use Rattle.std.specs.List.{list_any, prefix_len}
 use Rattle.std.specs.Str.{bytes_eq}
 use Rattle.std.specs.Option.{option_and_then}
-use Rattle.std.proofs.lemmas.List.{append-nil, length-append, length-map}
+use Rattle.std.proofs.lemmas.List.{length-map}
 use Rattle.std.proofs.lemmas.Option.{slice_get-map}
 use Rattle.qw_scalar.specs.Expression as meaning
 use Rattle.qw_typer.specs.declared.scope.Entry.{Entry as CodeEntry}
 use Rattle.qw_typer.specs.declared.scope.FunctionColumn.{FunctionColumn as CodeFunction}
 use Rattle.qw_typer.specs.declared.scope.Grouping.{Grouping as CodeGrouping}
 use Rattle.qw_typer.specs.declared.scope.Found.{Found}
-use Rattle.qw_typer.specs.declared.scope.Found.TheVariants as found
 use Rattle.qw_typer.specs.Faults.{is_known}
 use Rattle.qw_typer.specs.Meant.{Entry, FunctionColumn, column_named, function_at, is_qualified, listed, referred}
 use Rattle.qw_typer.specs.Inner.Typing.{IsFound, as_entries, as_entry, as_function, as_grouping}
-
--- ---- two findings together
-
-pub with_none : (f : Found) (es fs : List meaning.Expression) → es ≡ [] → IsFound f fs → IsFound f (es ++ fs)
-with_none f es fs e h = rw e h
-
-pub none_with : (f : Found) (es fs : List meaning.Expression) → fs ≡ [] → IsFound f es → IsFound f (es ++ fs)
-none_with f es fs e h = rw (e, append-nil es) h
-
--- at least one
-pub some_found : (f : Found) (es : List meaning.Expression) → (f ≡ found.Nothing → ⊥) → IsFound f es → 1 ≤ length es
-some_found found.Nothing es some h = absurd (some refl)
-some_found (found.One p) es some h = rw h (omega arith)
-some_found found.Several es some h = omega (arith, h)
-
-pub both_found : (f g : Found) (es fs : List meaning.Expression) → (f ≡ found.Nothing → ⊥) → (g ≡ found.Nothing → ⊥) → IsFound f es → IsFound g fs → IsFound found.Several (es ++ fs)
-both_found f g es fs one two h k =
-    let a = some_found f es one h in
-    let b = some_found g fs two k in
-    omega (arith, length-append es fs, a, b)
-
-pub several_with : (es fs : List meaning.Expression) → 2 ≤ length es → IsFound found.Several (es ++ fs)
-several_with es fs h = omega (arith, length-append es fs, h)
 
 -- ---- entry by entry
 
 -- with what the rest may add, all is found
 abbrev pub FoundWith : Found → List meaning.Expression → List meaning.Expression → Type 0
 FoundWith f rest all = (es : List meaning.Expression) × IsFound f es × (es ++ rest ≡ all)
-
-pub found_first : (all : List meaning.Expression) → FoundWith found.Nothing all all
-found_first all = ([], refl, refl)
 
 pub found_kept : (qualifier : Option (List ℕ)) (name : List ℕ) (f f' here : Found) (rest rest' : List CodeEntry) (e : CodeEntry) (all : List meaning.Expression) → rest ≡ e ∷ rest'
     → ((es fs : List meaning.Expression) → IsFound f es → IsFound here fs → IsFound f' (es ++ fs))
@@ -56,11 +29,6 @@ found_kept qualifier name f f' here rest rest' e all first both is before =
     let part = if is_qualified qualifier (as_entry e) then listed (column_named (as_entry e) name) else [] in
     let next : before.0 ++ (part ++ referred (as_entries rest') qualifier name) ≡ all = ap (λ (es : List CodeEntry). before.0 ++ referred (as_entries es) qualifier name) (sym first) ∙ before.2 in
     (before.0 ++ part, both before.0 part before.1 is, append_assoc before.0 part (referred (as_entries rest') qualifier name) ∙ next)
-
-pub found_all : (qualifier : Option (List ℕ)) (name : List ℕ) (f : Found) (rest : List CodeEntry) (all : List meaning.Expression) → length rest < 1
-    → FoundWith f (referred (as_entries rest) qualifier name) all → IsFound f all
-found_all qualifier name f [] all none h = rw (sym h.2 ∙ append-nil h.0) h.1
-found_all qualifier name f (e ∷ rest) all none h = absurd (omega (arith, none))
 
 -- ---- a test of the entries that the code keeps
 

@@ -121,9 +121,6 @@ extract_good Holds field x d h = record { typed = (h.typed, d); columns = h.colu
 pub comparison_good : (Holds : ℕ → Ty → Type 0) (op : Comparison) (x y : meaning.Expression) → are_comparable (kind_of x) (kind_of y) ≡ true → IsGood Holds x → IsGood Holds y → IsGoodCondition Holds (meaning.comparison op x y)
 comparison_good Holds op x y e hx hy = record { typed = ((hx.typed, hy.typed), e); columns = (hx.columns, hy.columns) }
 
-joined_none : (k : Option Kind) → agree None k ≡ true
-joined_none k = refl
-
 -- ---- CASE
 
 scaled_all : (Holds : ℕ → Ty → Type 0) (cs : meaning.Choices) → AreGood Holds cs → AreScaled cs

@@ -46,26 +46,6 @@ joins_split own n e j joins lt is =
 one_more : (made made' : List made_join.Joined) (x : made_join.Joined) → made' ≡ made ++ x ∷ [] → length made' + 1 ≡ length made + 1 + 1
 one_more made made' x more = let a = ap (λ (xs : List made_join.Joined). length xs) more in let b = push_length made x in omega (arith, a, b)
 
-pub joins_kept : (own : List CodeEntry) (n : ℕ) (e : CodeEntry) (made made' : List made_join.Joined) (x : made_join.Joined) (rest rest' : List coded_join.Joined) (j : coded_join.Joined) (all : Result (List specified.Joined) Fault)
-    → n ≡ length made + 1 → n < length own → e ≡ get_or own n e → rest ≡ j ∷ rest' → made' ≡ made ++ x ∷ [] → typed_joined (as_entries (take (n + 1) own)) (as_entry e) (syntax.joined_of j) ≡ Ok (joined_of x)
-    → all ≡ AfterJoins own made (map syntax.joined_of rest) → all ≡ AfterJoins own made' (map syntax.joined_of rest')
-joins_kept own n e made made' x rest rest' j all number lt is first more gives before =
-    let w = syntax.joined_of j in
-    let others = map syntax.joined_of rest' in
-    let at : length made + 1 ≡ n = sym number in
-    let count : length made' + 1 ≡ n + 1 = one_more made made' x more ∙ ap (λ (k : ℕ). k + 1) at in
-    let r = typed_joins (as_entries (take (n + 1) own)) (as_entries (drop (n + 1) own)) others in
-    let from : all ≡ AfterJoins own made (w ∷ others) = rw first at before in
-    from
-    ∙ ap (λ (k : ℕ). typed_joins (as_entries (take k own)) (as_entries (drop k own)) (w ∷ others) >>= (λ xs. Ok (map joined_of made ++ xs))) at
-    ∙ ap (λ (q : Result (List specified.Joined) Fault). q >>= (λ xs. Ok (map joined_of made ++ xs))) (joins_split own n e w others lt is ∙ ap (λ (q : Result specified.Joined Fault). q >>= (λ y. r >>= (λ ys. Ok (y ∷ ys)))) gives)
-    ∙ added r
-    ∙ ap (λ (k : ℕ). typed_joins (as_entries (take k own)) (as_entries (drop k own)) others >>= (λ xs. Ok (map joined_of made' ++ xs))) (sym count)
-  where
-    added : (r : Result (List specified.Joined) Fault) → ((r >>= (λ xs. Ok (joined_of x ∷ xs))) >>= (λ xs. Ok (map joined_of made ++ xs))) ≡ (r >>= (λ xs. Ok (map joined_of made' ++ xs)))
-    added (Ok xs) = ap Ok (sym (ap (λ (ms : List made_join.Joined). map joined_of ms ++ xs) more ∙ push_map joined_of made x xs))
-    added (Err f) = refl
-
 pub joins_refused : (r : Refusal) (own : List CodeEntry) (n : ℕ) (e : CodeEntry) (made : List made_join.Joined) (rest rest' : List coded_join.Joined) (j : coded_join.Joined) (all : Result (List specified.Joined) Fault)
     → n ≡ length made + 1 → n < length own → e ≡ get_or own n e → rest ≡ j ∷ rest' → all ≡ AfterJoins own made (map syntax.joined_of rest) → Refuses r (typed_joined (as_entries (take (n + 1) own)) (as_entry e) (syntax.joined_of j)) → Refuses r all
 joins_refused r own n e made rest rest' j all number lt is first before refused =
@@ -79,26 +59,11 @@ joins_refused r own n e made rest rest' j all number lt is first before refused 
     (refuses_then r (typed_joined (as_entries (take (n + 1) own)) (as_entry e) w >>= (λ x. typed_joins (as_entries (take (n + 1) own)) (as_entries (drop (n + 1) own)) others >>= (λ xs. Ok (x ∷ xs)))) (λ xs. Ok (map joined_of made ++ xs))
     (refuses_then r (typed_joined (as_entries (take (n + 1) own)) (as_entry e) w) (λ x. typed_joins (as_entries (take (n + 1) own)) (as_entries (drop (n + 1) own)) others >>= (λ xs. Ok (x ∷ xs))) refused))
 
-pub joins_first : (own : List CodeEntry) (joins : List Joined) → typed_joins (as_entries (take 1 own)) (as_entries (drop 1 own)) joins ≡ AfterJoins own [] joins
-joins_first own joins = same (typed_joins (as_entries (take 1 own)) (as_entries (drop 1 own)) joins)
-  where
-    same : (r : Result (List specified.Joined) Fault) → r ≡ (r >>= (λ xs. Ok ([] ++ xs)))
-    same (Ok xs) = refl
-    same (Err f) = refl
-
 pub joins_end : (own : List CodeEntry) (made : List made_join.Joined) (rest : List coded_join.Joined) (all : Result (List specified.Joined) Fault) → length rest < 1 → all ≡ AfterJoins own made (map syntax.joined_of rest) → all ≡ Ok (map joined_of made)
 joins_end own made [] all none h = h ∙ ap Ok (append-nil (map joined_of made))
 joins_end own made (j ∷ rest) all none h = absurd (omega (arith, none))
 
 -- ---- a source
-
-pub source_gives : (own : List CodeEntry) (e : CodeEntry) (source : coded_source.Source) (joins : List made_join.Joined) (first : specified.Entry) (made : made_source.Source) → 0 < length own → e ≡ get_or own 0 e
-    → typed_joins (as_entries (take 1 own)) (as_entries (drop 1 own)) (map syntax.joined_of source.joins.items) ≡ Ok (map joined_of joins) → source_of made ≡ record { first = entry_meant (as_entry e); joins = map joined_of joins }
-    → typed_source (as_entries own) (syntax.source_of source) ≡ Ok (source_of made)
-source_gives [] e source joins first made some is gives same = absurd (omega (arith, some))
-source_gives (f ∷ own) e source joins first made some is gives same =
-    ap (λ (q : Result (List specified.Joined) Fault). q >>= (λ js. Ok (record { first = entry_meant (as_entry f); joins = js }))) gives
-    ∙ ap (λ (g : CodeEntry). Ok (record { first = entry_meant (as_entry g); joins = map joined_of joins })) (sym is) ∙ ap Ok (sym same)
 
 pub source_refused : (r : Refusal) (own : List CodeEntry) (source : coded_source.Source) → 0 < length own → Refuses r (typed_joins (as_entries (take 1 own)) (as_entries (drop 1 own)) (map syntax.joined_of source.joins.items))
     → Refuses r (typed_source (as_entries own) (syntax.source_of source))
@@ -156,13 +121,6 @@ sources_refused r entries own made rest rest' s all o first before refused =
     (refuses_then r (typed_source (as_entries own) (syntax.source_of s) >>= (λ x. typed_sources (as_entries behind) others >>= (λ xs. Ok (x ∷ xs)))) (λ xs. Ok (map source_of made ++ xs))
     (refuses_then r (typed_source (as_entries own) (syntax.source_of s)) (λ x. typed_sources (as_entries behind) others >>= (λ xs. Ok (x ∷ xs))) refused))
 
-pub sources_first : (entries : List CodeEntry) (sources : List Source) → typed_sources (as_entries entries) sources ≡ AfterSources entries [] sources
-sources_first entries sources = same (typed_sources (as_entries entries) sources)
-  where
-    same : (r : Result (List specified.Source) Fault) → r ≡ (r >>= (λ xs. Ok ([] ++ xs)))
-    same (Ok xs) = refl
-    same (Err f) = refl
-
 pub sources_end : (entries : List CodeEntry) (made : List made_source.Source) (rest : List coded_source.Source) (all : Result (List specified.Source) Fault) → length rest < 1 → all ≡ AfterSources entries made (map syntax.source_of rest) → all ≡ Ok (map source_of made)
 sources_end entries made [] all none h = h ∙ ap Ok (append-nil (map source_of made))
 sources_end entries made (s ∷ rest) all none h = absurd (omega (arith, none))
@@ -198,21 +156,13 @@ pub record TestsWith (made : List Cond) (n k all_nodes all_octets : ℕ) : Type 
   pub nodes_left : sum_by typed.nodes_of made + n ≤ all_nodes
   pub octets_left : sum_by text_octets_of made + k ≤ all_octets
 
-pub tests_first : (n k : ℕ) → TestsWith [] n k n k
-tests_first n k = record { nodes_left = omega arith; octets_left = omega arith }
-
 pub tests_more : (made made' new : List Cond) (n k m j all_nodes all_octets : ℕ) → made' ≡ made ++ new → FitsTests new n k → TestsWith made (n + m) (k + j) all_nodes all_octets → TestsWith made' m j all_nodes all_octets
 tests_more made made' new n k m j all_nodes all_octets more one before =
     let nodes_more : sum_by typed.nodes_of made' ≡ sum_by typed.nodes_of made + sum_by typed.nodes_of new = ap (λ (cs : List Cond). sum_by typed.nodes_of cs) more ∙ sum_by-append typed.nodes_of made new in
     let octets_more : sum_by text_octets_of made' ≡ sum_by text_octets_of made + sum_by text_octets_of new = ap (λ (cs : List Cond). sum_by text_octets_of cs) more ∙ sum_by-append text_octets_of made new in
-    let nodes_fit = one.nodes_fit in
-    let octets_fit = one.octets_fit in
     let nodes_left = before.nodes_left in
     let octets_left = before.octets_left in
-    record { nodes_left = omega (arith, nodes_more, nodes_fit, nodes_left); octets_left = omega (arith, octets_more, octets_fit, octets_left) }
-
-tests_last : (made : List Cond) (all_nodes all_octets : ℕ) → TestsWith made 0 0 all_nodes all_octets → FitsTests made all_nodes all_octets
-tests_last made all_nodes all_octets all = let n = all.nodes_left in let k = all.octets_left in record { nodes_fit = omega (arith, n); octets_fit = omega (arith, k) }
+    record { nodes_left = omega (arith, nodes_more, nodes_left); octets_left = omega (arith, octets_more, octets_left) }
 
 abbrev pub JoinsWith : List made_join.Joined → (rest all : List Joined) → Type 0
 JoinsWith made rest all = TestsWith (tests_in made) (over_joins nodes_condition rest) (over_joins octets_condition rest) (over_joins nodes_condition all) (over_joins octets_condition all)
@@ -225,10 +175,6 @@ joins_fit made made' x rest rest' j all more first one before =
     tests_more (tests_in made) (tests_in made') x.on.items (nodes_condition (syntax.condition_of j.on)) (octets_condition (syntax.condition_of j.on)) (over_joins nodes_condition (map syntax.joined_of rest')) (over_joins octets_condition (map syntax.joined_of rest'))
     (over_joins nodes_condition all) (over_joins octets_condition all) tests one (rw first at before)
 
-pub joins_fit_end : (made : List made_join.Joined) (rest : List coded_join.Joined) (all : List Joined) → length rest < 1 → JoinsWith made (map syntax.joined_of rest) all → FitsTests (tests_in made) (over_joins nodes_condition all) (over_joins octets_condition all)
-joins_fit_end made [] all none h = tests_last (tests_in made) (over_joins nodes_condition all) (over_joins octets_condition all) h
-joins_fit_end made (j ∷ rest) all none h = absurd (omega (arith, none))
-
 abbrev pub SourcesWith : List made_source.Source → (rest all : List Source) → Type 0
 SourcesWith made rest all = TestsWith (tests_on made) (over_sources nodes_condition rest) (over_sources octets_condition rest) (over_sources nodes_condition all) (over_sources octets_condition all)
 
@@ -240,7 +186,3 @@ sources_fit made made' x rest rest' s all more first one before =
     ap tests_on more ∙ flat_map-append (λ (t : made_source.Source). tests_in t.joins.items) made (x ∷ []) ∙ ap (λ (cs : List Cond). tests_on made ++ cs) (append-nil (tests_in x.joins.items)) in
     tests_more (tests_on made) (tests_on made') (tests_in x.joins.items) (over_joins nodes_condition (map syntax.joined_of s.joins.items)) (over_joins octets_condition (map syntax.joined_of s.joins.items))
     (over_sources nodes_condition (map syntax.source_of rest')) (over_sources octets_condition (map syntax.source_of rest')) (over_sources nodes_condition all) (over_sources octets_condition all) tests one (rw first at before)
-
-pub sources_fit_end : (made : List made_source.Source) (rest : List coded_source.Source) (all : List Source) → length rest < 1 → SourcesWith made (map syntax.source_of rest) all → FitsTests (tests_on made) (over_sources nodes_condition all) (over_sources octets_condition all)
-sources_fit_end made [] all none h = tests_last (tests_on made) (over_sources nodes_condition all) (over_sources octets_condition all) h
-sources_fit_end made (s ∷ rest) all none h = absurd (omega (arith, none))

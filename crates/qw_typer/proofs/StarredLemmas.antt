@@ -1,8 +1,7 @@
 -- The columns of `*` over the grouped table, one after another: each is grouped, or the first that isn't is refused.
-use Rattle.std.proofs.Common.{◌≡◌, ℕ, suc, ◌+◌, ◌*◌, ◌-◌, ◌≤◌, ◌<◌, false, true, List, [], ◌∷◌, ◌++◌, map, length, drop, get_or, Option, Some, None, Result, Ok, Err, is_none, unwrap_or, option_map, refl, sym, ap, ◌∙◌, arith, append_assoc}
+use Rattle.std.proofs.Common.{◌≡◌, ℕ, suc, ◌+◌, ◌*◌, ◌-◌, ◌≤◌, ◌<◌, true, List, [], ◌∷◌, ◌++◌, map, length, drop, get_or, Option, Some, None, Err, is_none, unwrap_or, option_map, sym, ap, ◌∙◌, arith}
 use Rattle.std.proofs.Math.ListN.{drop_of_length-le}
-use Rattle.std.proofs.lemmas.List.{append-nil, map-append}
-use Rattle.std.proofs.lemmas.List.Sums.{sum_by_push}
+use Rattle.std.proofs.lemmas.List.{append-nil}
 use Rattle.qw_types.specs.declared.schema.Column.{Column}
 use Rattle.qw_scalar.specs.Expression as meaning
 use Rattle.qw_scalar.specs.Tree.{expression_of}
@@ -16,9 +15,9 @@ use Rattle.qw_typer.specs.declared.scope.Entry.{Entry as CodeEntry}
 use Rattle.qw_typer.specs.declared.scope.Place.{Place}
 use Rattle.qw_typer.specs.Faults.{Fault, fault_where, group_faults}
 use Rattle.qw_typer.specs.Grouping.{columns_ungrouped, starred, starred_faults}
-use Rattle.qw_typer.specs.Meant.{Entry, Grouping, column_grouped}
-use Rattle.qw_typer.specs.Typed.{columns_from, columns_meant}
-use Rattle.qw_typer.specs.Inner.Typing.{Refuses, as_entries, outcome, spelled}
+use Rattle.qw_typer.specs.Meant.{Grouping, column_grouped}
+use Rattle.qw_typer.specs.Typed.{columns_from}
+use Rattle.qw_typer.specs.Inner.Typing.{Refuses, as_entries, outcome}
 use Rattle.qw_typer.proofs.StepLemmas.{push_map}
 
 -- ---- the columns of an entry
@@ -100,21 +99,6 @@ faultless_end g columns i number all le h = sym h ∙ ap (λ (cs : List Column).
 
 -- ---- entry by entry
 
-pub entry_faultless : (g : Grouping) (rest rest' : List CodeEntry) (e : CodeEntry) (all : List Fault) → rest ≡ e ∷ rest' → columns_ungrouped g (64 * e.number) e.columns.now ≡ []
-    → starred_faults (Some g) (as_entries rest) ≡ all → starred_faults (Some g) (as_entries rest') ≡ all
-entry_faultless g rest rest' e all first none before =
-    sym (ap (λ (fs : List Fault). fs ++ starred_faults (Some g) (as_entries rest')) none) ∙ sym (ap (λ (es : List CodeEntry). starred_faults (Some g) (as_entries es)) first) ∙ before
-
-pub entry_starred : (g : Grouping) (made made' : List Expr) (rest rest' : List CodeEntry) (e : CodeEntry) (all : List meaning.Expression) → rest ≡ e ∷ rest'
-    → map expression_of made' ≡ map expression_of made ++ starred (Some g) (columns_from (64 * e.number) e.columns.now)
-    → map expression_of made ++ starred (Some g) (columns_meant (as_entries rest)) ≡ all → map expression_of made' ++ starred (Some g) (columns_meant (as_entries rest')) ≡ all
-entry_starred g made made' rest rest' e all first more before =
-    let own = columns_from (64 * e.number) e.columns.now in
-    let others = columns_meant (as_entries rest') in
-    ap (λ es. es ++ starred (Some g) others) more ∙ append_assoc (map expression_of made) (starred (Some g) own) (starred (Some g) others)
-    ∙ sym (ap (λ es. map expression_of made ++ es) (map-append (λ (x : meaning.Expression). unwrap_or (column_grouped g x) meaning.null) own others))
-    ∙ sym (ap (λ (es : List CodeEntry). map expression_of made ++ starred (Some g) (columns_meant (as_entries es))) first) ∙ before
-
 refused_before : (r : Refusal) (fs gs : List Fault) → Refuses r (outcome fs true) → Refuses r (outcome (fs ++ gs) true)
 unfolding Refuses
 refused_before refusal.NoMemory fs gs h = tt
@@ -127,23 +111,3 @@ entry_refused g r rest rest' e all first h before =
     let fs = columns_ungrouped g (64 * e.number) e.columns.now in
     let is : fs ++ starred_faults (Some g) (as_entries rest') ≡ all = sym (ap (λ (es : List CodeEntry). starred_faults (Some g) (as_entries es)) first) ∙ before in
     rw is at (refused_before r fs (starred_faults (Some g) (as_entries rest')) h)
-
-pub entries_faultless : (g : Grouping) (rest : List CodeEntry) (all : List Fault) → length rest < 1 → starred_faults (Some g) (as_entries rest) ≡ all → all ≡ []
-entries_faultless g [] all none h = sym h
-entries_faultless g (e ∷ rest) all none h = absurd (omega (arith, none))
-
-pub entries_starred : (g : Grouping) (made : List Expr) (rest : List CodeEntry) (all : List meaning.Expression) → length rest < 1 → map expression_of made ++ starred (Some g) (columns_meant (as_entries rest)) ≡ all
-    → map expression_of made ≡ all
-entries_starred g made [] all none h = sym (append-nil (map expression_of made)) ∙ h
-entries_starred g made (e ∷ rest) all none h = absurd (omega (arith, none))
-
--- ---- the select list
-
-pub starred_refused : (r : Refusal) (fs : List Fault) (items : List meaning.Expression) → Refuses r (outcome fs true) → Refuses r (outcome fs items)
-unfolding Refuses
-starred_refused refusal.NoMemory fs items h = tt
-starred_refused (refusal.Fault kind token) [] items h = absurd cc
-starred_refused (refusal.Fault kind token) (f ∷ fs) items h = let same : f ≡ record { kind = kind; name = spelled token } = cc in ap Err same
-
-pub starred_given : (fs : List Fault) (items made : List meaning.Expression) → (fs ≡ []) × (made ≡ items) → outcome fs items ≡ Ok made
-starred_given fs items made h = rw h.0 (ap Ok (sym h.1))

@@ -86,22 +86,6 @@ entry_columns made made' rest rest' e all first more before =
     ap (λ es. es ++ others) more ∙ append_assoc (map expression_of made) (columns_from (64 * e.number) e.columns.now) others
     ∙ sym (ap (λ (es : List CodeEntry). map expression_of made ++ columns_meant (as_entries es)) first) ∙ before
 
-pub entries_columns : (made : List Expr) (rest : List CodeEntry) (all : List meaning.Expression) → length rest < 1 → map expression_of made ++ columns_meant (as_entries rest) ≡ all → map expression_of made ≡ all
-entries_columns made [] all none h = sym (append-nil (map expression_of made)) ∙ h
-entries_columns made (e ∷ rest) all none h = absurd (omega (arith, none))
-
--- one name more
-pub name_kept : (columns : List Column) (i : ℕ) (d : Column) (names names' : List (List ℕ)) (name : List ℕ) (all : List (List ℕ)) → i < length columns → name ≡ (get_or columns i d).name → names' ≡ names ++ name ∷ []
-    → names ++ map (λ (c : Column). c.name) (drop i columns) ≡ all → names' ++ map (λ (c : Column). c.name) (drop (i + 1) columns) ≡ all
-name_kept columns i d names names' name all lt is more before =
-    let others = map (λ (c : Column). c.name) (drop (i + 1) columns) in
-    ap (λ (ns : List (List ℕ)). ns ++ others) more ∙ push_more names name others ∙ ap (λ (n : List ℕ). names ++ n ∷ others) is
-    ∙ sym (ap (λ (cs : List Column). names ++ map (λ (c : Column). c.name) cs) (drop_next columns i d lt)) ∙ before
-
-pub names_end : (columns : List Column) (i : ℕ) (names all : List (List ℕ)) → length columns ≤ i → names ++ map (λ (c : Column). c.name) (drop i columns) ≡ all → names ≡ all
-names_end columns i names all le h =
-    sym (append-nil names) ∙ sym (ap (λ (cs : List Column). names ++ map (λ (c : Column). c.name) cs) (drop_of_length-le columns le)) ∙ h
-
 -- the names of one entry more
 pub entry_names : (names names' : List (List ℕ)) (rest rest' : List CodeEntry) (e : CodeEntry) (all : List (List ℕ)) → rest ≡ e ∷ rest' → names' ≡ names ++ map (λ (c : Column). c.name) e.columns.now
     → names ++ column_names (as_entries rest) ≡ all → names' ++ column_names (as_entries rest') ≡ all
@@ -109,10 +93,6 @@ entry_names names names' rest rest' e all first more before =
     let others = column_names (as_entries rest') in
     ap (λ ns. ns ++ others) more ∙ append_assoc names (map (λ (c : Column). c.name) e.columns.now) others
     ∙ sym (ap (λ (es : List CodeEntry). names ++ column_names (as_entries es)) first) ∙ before
-
-pub entries_names : (names : List (List ℕ)) (rest : List CodeEntry) (all : List (List ℕ)) → length rest < 1 → names ++ column_names (as_entries rest) ≡ all → names ≡ all
-entries_names names [] all none h = sym (append-nil names) ∙ h
-entries_names names (e ∷ rest) all none h = absurd (omega (arith, none))
 
 pub names_step : (names : List (List ℕ)) (name : List ℕ) (i : SelectItem) (others : List SelectItem) (all : List (List ℕ)) → name ≡ item_name (length names + 1) i
     → names ++ item_names (length names + 1) (i ∷ others) ≡ all → (names ++ name ∷ []) ++ item_names (length (names ++ name ∷ []) + 1) others ≡ all

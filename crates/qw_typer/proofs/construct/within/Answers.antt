@@ -12,12 +12,6 @@ same_count r n n' k same h = rw same h
 
 pub returns-clause-fits : goal.returns-clause-fits
 returns-clause-fits c n k m j p i operand least greatest =
-    let n1 = operand.nodes_fit in
-    let k1 = operand.octets_fit in
-    let n2 = least.nodes_fit in
-    let k2 = least.octets_fit in
-    let n3 = greatest.nodes_fit in
-    let k3 = greatest.octets_fit in
     let e1 = ap typed.nodes c.in_ok-operand.ensures.first in
     let e2 = ap typed.nodes c.in_ok-operand.ensures.second in
     let e3 = ap typed.nodes c.in_ok-operand.ensures.third in
@@ -25,4 +19,4 @@ returns-clause-fits c n k m j p i operand least greatest =
     let o2 = ap text_octets c.in_ok-operand.ensures.second in
     let o3 = ap text_octets c.in_ok-operand.ensures.third in
     same_count c.with_not.result (1 + (1 + (n + (m + p)))) (2 + (n + (m + p))) (k + (j + i)) (omega arith)
-    (c.with_not.ensures.fits (1 + (n + (m + p))) (k + (j + i)) (record { nodes_fit = omega (arith, n1, n2, n3, e1, e2, e3); octets_fit = omega (arith, k1, k2, k3, o1, o2, o3) }))
+    (c.with_not.ensures.fits (1 + (n + (m + p))) (k + (j + i)) (record { nodes_fit = omega (arith, e1, e2, e3); octets_fit = omega (arith, o1, o2, o3) }))

@@ -1,4 +1,3 @@
-use Rattle.std.proofs.Common.{rules, ◌≡◌, refl}
 use Rattle.std.proofs.lemmas.Result.{err_from_is_err_and}
 use Rattle.qw_ast.specs.SyntaxTree as syntax
 use Rattle.qw_scalar.specs.Tree.{expression_of}

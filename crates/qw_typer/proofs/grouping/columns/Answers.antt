@@ -1,6 +1,5 @@
-use Rattle.std.proofs.Common.{rules, ◌≡◌, ◌-◌, [], ◌∷◌, ◌++◌, length, map, take, drop}
+use Rattle.std.proofs.Common.{rules, ◌≡◌, ◌-◌, [], ◌∷◌, ◌++◌, length, take, drop}
 use Rattle.std.proofs.lemmas.Result.{err_from_is_err_and}
-use Rattle.qw_ast.specs.SyntaxTree as syntax
 use Rattle.qw_typer.specs.Inner.Typing.{as_entries}
 use Rattle.qw_typer.proofs.EntryLemmas.{head_rest}
 use Rattle.qw_typer.proofs.GroupingLemmas.{columns_end, columns_kept, columns_refused}

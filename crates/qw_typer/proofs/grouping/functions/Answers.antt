@@ -1,6 +1,5 @@
-use Rattle.std.proofs.Common.{rules, ◌≡◌, ◌-◌, [], ◌∷◌, ◌++◌, length, map, take, drop}
+use Rattle.std.proofs.Common.{rules, ◌≡◌, ◌-◌, [], ◌∷◌, ◌++◌, length, take, drop}
 use Rattle.std.proofs.lemmas.Result.{err_from_is_err_and}
-use Rattle.qw_typer.specs.Inner.Functions.{all_written}
 use Rattle.qw_typer.specs.Inner.Typing.{as_entries}
 use Rattle.qw_typer.proofs.GroupingLemmas.{arguments_end, arguments_fit, functions_end, functions_kept, functions_refused}
 use Rattle.qw_typer.proofs.StepLemmas.{first_rest}

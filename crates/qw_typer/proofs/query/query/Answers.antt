@@ -1,4 +1,4 @@
-use Rattle.std.proofs.Common.{rules, ◌≡◌, List, map, ◌∙◌, ap, length, subst, sym}
+use Rattle.std.proofs.Common.{rules, ◌≡◌, map}
 use Rattle.std.proofs.lemmas.Result.{err_from_is_err_and}
 use Rattle.qw_ast.specs.Limits.{entries_of}
 use Rattle.qw_ast.specs.SyntaxTree as syntax

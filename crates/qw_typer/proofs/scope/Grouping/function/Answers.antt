@@ -1,4 +1,4 @@
-use Rattle.std.proofs.Common.{rules, ◌≡◌, ◌+◌, ◌<◌, ◌==◌, ◌∙◌, sym, ap, length, Option, Some, None, option_map, slice_get, slice_index_or, ℕ}
+use Rattle.std.proofs.Common.{rules, ◌≡◌, ◌+◌, ◌<◌, ◌==◌, ◌∙◌, sym, ap, length, Some, None, option_map, slice_get, slice_index_or}
 use Rattle.qw_scalar.specs.Expression as meaning
 use Rattle.std.proofs.lemmas.List.Quantifiers.{position-Some}
 use Rattle.std.proofs.lemmas.Option.{slice_get-get_or}
