@@ -48,7 +48,6 @@ pub mod GroupedReady
 pub mod GroupedStands
 pub mod GroupedTyped
 pub mod GuardedCompiled
-pub mod GuardedEnds
 pub mod GuardedFinished
 pub mod GuardedFronts
 pub mod GuardedTyped
@@ -82,7 +81,7 @@ pub mod FieldCounts
 pub mod FirstTaken
 pub mod FirstTakenBounded
 pub mod SingleFinished
-pub mod SingleLong
+pub mod TakenFronts
 pub mod SingleLongCompiled
 pub mod SingleLongFinished
 pub mod SingleLongTyped
