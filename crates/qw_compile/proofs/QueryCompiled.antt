@@ -1,5 +1,5 @@
 -- The module around a query's statement is the compiled form of what is promised of the query.
-use Rattle.std.proofs.Common.{◌≡◌, ℕ, suc, ◌+◌, ◌*◌, ◌^◌, ◌≤◌, IsUtf8, List, [], ◌∷◌, ◌++◌, length, length-append, map, Some, sym, subst, arith}
+use Rattle.std.proofs.Common.{◌≡◌, ℕ, suc, ◌+◌, ◌*◌, ◌^◌, ◌≤◌, IsUtf8, List, [], ◌∷◌, ◌++◌, length, length-append, map, Some, refl, sym, subst, arith}
 use Rattle.std.specs.List.{AllByRecursion, concat}
 use Rattle.qw_types.specs.declared.kind.Kind.{Kind}
 use Rattle.qw_types.specs.declared.value.Val.{Val}
@@ -33,10 +33,11 @@ use Rattle.qw_emit.proofs.ModuleCompiled.{AreReady, Ending, module_compiled}
 use Rattle.qw_low.specs.Begin.{first_state}
 use Rattle.qw_compile.specs.QueryLocals.{own_start, query_locals, query_readers}
 use Rattle.qw_compile.specs.Statements.{AreCourses, Course, IsCourse, query_block}
+use Rattle.qw_compile.proofs.LocalsDeclared.{first_own_types, rest_own_types}
 use Rattle.qw_compile.proofs.LocalsPlaced.{literal_count, literals_known, texts_placed, words_placed}
 use Rattle.qw_compile.proofs.PipelineRuns.{AreStood, fed_over}
-use Rattle.qw_compile.proofs.QueryRuns.{AreLaid, IsAnswered, LastReach, Reach, whole_ends}
-use Rattle.qw_compile.proofs.QueryTyped.{known_typed, own_types, query_locals_long, types}
+use Rattle.qw_compile.proofs.QueryRuns.{AreLaid, IsAnswered, LastReach, Reach, Setting, whole_ends}
+use Rattle.qw_compile.proofs.QueryTyped.{own_types, query_locals_long, types}
 
 -- Over tables, with bounds of their own: each pipeline that is reached finds what it looks up, and stays within the bounds; and what it raises is told.
 pub record IsBounded (T n : ℕ) (columns : List ReadColumn) (texts : List (List ℕ)) (words : List Word) (at : ℕ) (table_of : ℕ → ℕ) (building : List Pipeline) (last : Pipeline) (items : List Expression) (Told : ℕ → Type 0) (u most N : ℕ) (tables : List (List (List Val))) : Type 0 where
@@ -78,9 +79,12 @@ module _ (promise : Promise) (layout : Layout) (T : ℕ) (columns : List ReadCol
       bounded_ends =
           let long = query_locals_long T (length texts) (length words) columns (builds_own ++ last_own) in
           let two = length-append builds_own last_own in
-          whole_ends layout tables limit others ready goes_with.small T columns texts words table_of laid texts_are utf8 small_words most N N u (types T at columns texts words (builds_own ++ last_own)) leads sets leads_all sets_all (omega (arith, long))
-          b.some (omega arith) b.u_low (known_typed T at columns texts words (builds_own ++ last_own)) building last items last_is kinds_are builds last_course builds_own last_own built made (omega (arith, long, two)) (own_types T at columns texts words (builds_own ++ last_own)) all_built
-          b.budget Told b.reached b.told b.last_reached b.told_last
+          let S : Setting = record { layout = layout; tables = tables; limit = limit; are_ready = ready; small = goes_with.small; T = T; columns = columns; texts = texts; words = words; table_of = table_of; laid = laid; texts_are = texts_are; utf8 = utf8; small_words = small_words; leads = leads; sets = sets; leads_all = leads_all; sets_all = sets_all; most = most; N = N; u = u; some = b.some; u_low = b.u_low; own = builds_own ++ last_own } in
+          let owned = own_types T at columns texts words (builds_own ++ last_own) in
+          whole_ends S Told
+          (record { building = building; builds = builds; builds_own = builds_own; built = built; no_more = omega (arith, all_built); own_room = omega (arith, long, two); own_types = first_own_types (types T at columns texts words (builds_own ++ last_own)) own_first (builds_own ++ last_own) builds_own last_own refl owned; budget = b.budget; reached = b.reached; told = b.told })
+          last items last_is kinds_are last_course last_own made (omega (arith, long, two)) (rest_own_types (types T at columns texts words (builds_own ++ last_own)) own_first (builds_own ++ last_own) builds_own last_own refl owned)
+          (λ stoods are. subst (λ (k : ℕ). LastReach T n columns (literals_known T at texts words) tables u most N table_of stoods last (length items) (b.budget k)) (sym all_built) (b.last_reached stoods are)) b.told_last
 
     pub query_compiled : size whole ≤ 2 ^ 22 → AreAlike promise.entries → (u : List (List (List Val)) → ℕ) →
         (bounded : (tables : List (List (List Val))) → AreOfEntries promise.entries tables → IsBounded T n columns texts words at table_of building last items (IsTold (promise.outcome tables)) (u tables) (promise.pages tables) (1 + promise.units tables) tables) →

@@ -40,10 +40,10 @@ use Rattle.qw_feed.specs.Rows.{HasRows, finish_block, in_order}
 use Rattle.qw_feed.specs.Cells.{HasRow}
 use Rattle.qw_feed.proofs.Frames.{Never, Keeps-less, Keeps-same, Keeps-then, Keeps-kept}
 use Rattle.qw_feed.proofs.RoomRuns.{room-kept}
-use Rattle.qw_expr.specs.Computes.{Known, AreHeld, AreDeclared}
+use Rattle.qw_expr.specs.Computes.{Known, AreHeld}
 use Rattle.qw_expr.specs.Cells.{Holds}
 use Rattle.qw_read.specs.Constants.{IsSet, IsSmall, SetsAll, known_constant, literal_of}
-use Rattle.qw_read.specs.Reading.{known_of, HasOctets, StandsAt}
+use Rattle.qw_read.specs.Reading.{HasOctets, StandsAt}
 use Rattle.qw_read.specs.Texts.{HasPlace, LeadsToAll, LieThere, known_texts}
 use Rattle.qw_read.specs.declared.constant.Constant.{Constant}
 use Rattle.qw_read.specs.declared.constant.Word.{Word}
@@ -68,12 +68,12 @@ use Rattle.qw_emit.proofs.QueryBegins.{SpaceBegun, query_space}
 use Rattle.qw_emit.proofs.QueryEnds.{BehindWords, rows_left}
 use Rattle.qw_emit.proofs.SeenTexts.{shown}
 use Rattle.qw_compile.specs.Literals.{constants_from}
-use Rattle.qw_compile.specs.QueryLocals.{base_start, rows_end, cell_start, own_start, query_readers, read_by, text_start, word_start}
-use Rattle.qw_compile.specs.Statements.{AreCourses, Course, IsCourse, builds_block, course_block, query_block, result_block}
+use Rattle.qw_compile.specs.QueryLocals.{base_start, rows_end, cell_start, own_start, query_locals, query_readers, read_by, text_start, word_start}
+use Rattle.qw_compile.specs.Statements.{AreCourses, Course, IsCourse, builds_block, course_block, result_block}
 use Rattle.qw_compile.proofs.RowsRead.{column_at, inside_from, inside_of}
 use Rattle.qw_compile.proofs.LocalsPlaced.{at_each_over, each_over, literal_count, literals_known, literals_within, texts_placed, words_placed}
-use Rattle.qw_compile.proofs.PipelineRuns.{AllBuilt, AreStood, Between, Entered, Finds, Grounds, IsReached, IsResult, IsStanding, Source, Steady, builds_end, entry_width, fed_over, readers_of, result_then, scanned_rows}
-use Rattle.qw_compile.proofs.LocalsDeclared.{first_own_types, rest_own_types}
+use Rattle.qw_compile.proofs.PipelineRuns.{AllBuilt, AreStood, Between, Entered, Finds, Grounds, IsReached, IsStanding, Source, Steady, builds_end, entry_width, fed_over, readers_of, result_then, scanned_rows, stood_many}
+use Rattle.qw_compile.proofs.QueryTyped.{known_typed, query_locals_long, types as query_types}
 use Rattle.qw_compile.proofs.LiteralLemmas.{texts_from, texts_in_locals, texts_up, words_in_locals, words_small, words_up}
 
 -- ---- columns of the layout are those that are read
@@ -149,28 +149,76 @@ fit_words row x (w ∷ words) = (one w, fit_words row (x + 1) words)
     one (word.Number n s) = tt
     one (word.Date d) = tt
 
-module _ (layout : Layout) (tables : List (List (List Val))) (limit others : ℕ) (are_ready : AreReady layout tables limit) (small : descriptor_size layout ≤ page) (T : ℕ) (columns : List ReadColumn) (texts : List (List ℕ)) (words : List Word) (table_of : ℕ → ℕ)
-    (laid : AreLaid table_of layout.columns columns) (texts_are : layout.literals ≡ concat texts) (utf8 : AllByRecursion IsUtf8 texts) (small_words : AllByRecursion IsSmall words) (most fuel N u : ℕ) (types : List ValType) where
-  abbrev n : ℕ
+-- A query's module over tables that are ready: `own` are the types of the locals that its pipelines have of their own, `most` bounds the pages, `u` the octets of a
+-- request, and each part of the statement takes no more than N times its size.
+pub record Setting : Type 0 where
+  pub layout : Layout
+  pub tables : List (List (List Val))
+  pub limit : ℕ
+  pub are_ready : AreReady layout tables limit
+  pub small : descriptor_size layout ≤ page
+  pub T : ℕ
+  pub columns : List ReadColumn
+  pub texts : List (List ℕ)
+  pub words : List Word
+  pub table_of : ℕ → ℕ
+  pub laid : AreLaid table_of layout.columns columns
+  pub texts_are : layout.literals ≡ concat texts
+  pub utf8 : AllByRecursion IsUtf8 texts
+  pub small_words : AllByRecursion IsSmall words
+  pub leads : Statement
+  pub sets : Statement
+  pub leads_all : LeadsToAll (texts_placed T (entry_offset (length layout.columns)) texts) leads
+  pub sets_all : SetsAll (words_placed T (length texts) words) sets
+  pub most : ℕ
+  pub N : ℕ
+  pub u : ℕ
+  pub some : 1 ≤ N
+  pub u_low : u ≤ page
+  pub own : List ValType
+
+-- where each of two takes no more than so many times its size, both do
+pub both_end : (most fuel N : ℕ) (P M : LowState → Type 0) (R : ℕ → Type 0) (a b : Statement) (s : LowState) → Ends (size a * N) M Never R (meaning most fuel a s) → ((t : LowState) → M t → Ends (size b * N) P Never R (meaning most fuel b t)) →
+    Ends (size (seq a b) * N) P Never R (meaning most fuel (seq a b) s)
+both_end most fuel N P M R a b s front onward =
+    Ends-more P Never R (size a * N + size b * N) (size (seq a b) * N) (meaning most fuel (seq a b) s) (omega (arith, add-mul (size a) (size b) N))
+    (Ends-then P Never R (size a * N) (size b * N) M (meaning most fuel a s) (meaning most fuel b) front onward)
+
+module _ (S : Setting) where
+  open S use {layout, tables, limit, are_ready, small, T, columns, texts, words, table_of, laid, texts_are, utf8, small_words, leads, sets, leads_all, sets_all, most, N, u, some, u_low, own}
+
+  abbrev pub n : ℕ
   n = literal_count texts words
 
-  abbrev at : ℕ
+  abbrev pub at : ℕ
   at = entry_offset (length layout.columns)
 
-  abbrev literals : List Known
+  abbrev pub literals : List Known
   literals = literals_known T at texts words
 
-  abbrev base : ℕ
+  abbrev pub base : ℕ
   base = descriptor_size layout
 
-  abbrev first : LowState
+  abbrev pub others : ℕ
+  others = length (query_locals T (length texts) (length words) columns own)
+
+  abbrev pub first : LowState
   first = first_state layout tables limit (first_locals others)
 
-  abbrev c : Cells
+  abbrev pub c : Cells
   c = shown base (cells_of layout tables)
 
-  abbrev many : ℕ
+  abbrev pub many : ℕ
   many = suc others
+
+  abbrev pub own_first : ℕ
+  own_first = own_start T n (length columns)
+
+  abbrev pub types : List ValType
+  types = query_types T at columns texts words own
+
+  abbrev pub GroundsAt : LowState → Type 0
+  GroundsAt s0 = Grounds T n columns literals c base u N N many types s0
 
   -- ---- the rows of an entry
   ready : IsReady layout are_ready.placed tables are_ready.descriptor limit are_ready.memory
@@ -250,7 +298,7 @@ module _ (layout : Layout) (tables : List (List (List Val))) (limit others : ℕ
       indices_all = each_over p.entry T (λ k column. k < length columns) (λ (r : Reader). r.index < length columns) (λ b c' k column h. h) (base_start T n) (cell_start T n (length columns)) 0 columns
           (at_each_over p.entry (λ k column. k < length columns) 0 columns (λ i column there owned. let inside = slice_get_within columns i column there in omega (arith, inside)))
 
-      pub source : Source T n columns tables s0 p
+      source : Source T n columns tables s0 p
       source = record {
         few = few;
         entered = entered_all;
@@ -270,9 +318,6 @@ module _ (layout : Layout) (tables : List (List (List Val))) (limit others : ℕ
   abbrev constants : List Constant
   constants = words_placed T (length texts) words
 
-  abbrev own_first : ℕ
-  own_first = own_start T n (length columns)
-
   -- nothing has been placed, and the literals are in their locals
   pub record IsBegun (s : LowState) : Type 0 where
     pub kept : Kept 1 first s
@@ -283,179 +328,207 @@ module _ (layout : Layout) (tables : List (List (List Val))) (limit others : ℕ
   texts_there : LieThere first text_literals texts
   texts_there = ready_texts layout are_ready.placed tables are_ready.descriptor limit are_ready.memory (first_locals others) ready small text_literals texts texts_are (texts_from (text_start T) at texts)
 
-  module _ (leads sets : Statement) (leads_all : LeadsToAll text_literals leads) (sets_all : SetsAll constants sets) (room : own_first ≤ many) where
-    sets_end : (t u' : LowState) → SpaceBegun base others first t → Kept (text_start T) t u' → AllByRecursion (HasPlace u') text_literals → (R : ℕ → Type 0) → Ends (size sets) IsBegun Never R (meaning most fuel sets u')
-    sets_end t u' begun kept places R =
-        let long = begun.many in
-        Ends-weaker (size sets) (size sets) (λ v. Kept (word_start T (length texts)) u' v × AllByRecursion (IsSet v) constants × ((row : List Val) → AreHeld (map known_constant constants) row v)) IsBegun Never Never (λ code. ⊥) R (meaning most fuel sets u') (omega arith)
-        (λ v set. record {
-          kept = Kept-then 1 (text_start T) first t v (omega arith) begun.kept (Kept-then (text_start T) (word_start T (length texts)) t u' v (omega arith) kept set.0);
-          room = room-kept 0 base (text_start T) t v (omega arith) (Kept-then (text_start T) (word_start T (length texts)) t u' v (omega arith) kept set.0) begun.room;
-          places = places_same u' v 0 (word_start T (length texts)) (λ j low high. set.0.below j high) (text_start T) text_literals (omega arith) (texts_in_locals (text_start T) at texts) places;
-          set = set.1;
-        }) (λ v x. x) (λ code x. absurd x)
-        (sets_all.runs most fuel (word_start T (length texts)) u' (words_small IsSmall (word_start T (length texts)) words small_words)
-        (words_up (word_start T (length texts)) (word_start T (length texts) + length words) (length u'.locals) constants (omega (arith, kept.many, long, room)) (words_in_locals (word_start T (length texts)) words)))
+  own_low : own_first ≤ many
+  own_low = let long = query_locals_long T (length texts) (length words) columns own in omega (arith, long)
 
-    -- then what follows is done
-    pub leads_then : (t : LowState) → SpaceBegun base others first t → (R : ℕ → Type 0) (m : ℕ) (P : LowState → Type 0) (rest : Statement) → ((s : LowState) → IsBegun s → Ends m P Never R (meaning most fuel rest s)) →
-        Ends (size leads + (size sets + m)) P Never R (meaning most fuel (seq leads (seq sets rest)) t)
-    leads_then t begun R m P rest onward =
-        let long = begun.many in
-        Ends-then P Never R (size leads) (size sets + m) (λ u'. Kept (text_start T) t u' × AllByRecursion (HasPlace u') text_literals × ((row : List Val) → AreHeld (known_texts text_literals texts) row u')) (meaning most fuel leads t) (meaning most fuel (seq sets rest))
-        (Ends-weaker (size leads) (size leads) (λ u'. Kept (text_start T) t u' × AllByRecursion (HasPlace u') text_literals × ((row : List Val) → AreHeld (known_texts text_literals texts) row u'))
-        (λ u'. Kept (text_start T) t u' × AllByRecursion (HasPlace u') text_literals × ((row : List Val) → AreHeld (known_texts text_literals texts) row u')) Never Never (λ code. ⊥) R (meaning most fuel leads t) (omega arith) (λ v x. x) (λ v x. x) (λ code x. absurd x)
-        (leads_all.runs most fuel (text_start T) texts t (lie_there_kept 1 first t text_literals texts begun.kept texts_there) begun.descriptor (omega arith)
-        (texts_up (text_start T) (text_start T + 2 * length texts) (length t.locals) text_literals (omega (arith, long, room)) (texts_in_locals (text_start T) at texts))))
-        (λ u' led. Ends-then P Never R (size sets) m IsBegun (meaning most fuel sets u') (meaning most fuel rest) (sets_end t u' begun led.0 led.1 R) onward)
+  sets_end : (t u' : LowState) → SpaceBegun base others first t → Kept (text_start T) t u' → AllByRecursion (HasPlace u') text_literals → (R : ℕ → Type 0) → Ends (size sets) IsBegun Never R (meaning most N sets u')
+  sets_end t u' begun kept places R =
+      let long = begun.many in
+      Ends-weaker (size sets) (size sets) (λ v. Kept (word_start T (length texts)) u' v × AllByRecursion (IsSet v) constants × ((row : List Val) → AreHeld (map known_constant constants) row v)) IsBegun Never Never (λ code. ⊥) R (meaning most N sets u') (omega arith)
+      (λ v set. record {
+        kept = Kept-then 1 (text_start T) first t v (omega arith) begun.kept (Kept-then (text_start T) (word_start T (length texts)) t u' v (omega arith) kept set.0);
+        room = room-kept 0 base (text_start T) t v (omega arith) (Kept-then (text_start T) (word_start T (length texts)) t u' v (omega arith) kept set.0) begun.room;
+        places = places_same u' v 0 (word_start T (length texts)) (λ j low high. set.0.below j high) (text_start T) text_literals (omega arith) (texts_in_locals (text_start T) at texts) places;
+        set = set.1;
+      }) (λ v x. x) (λ code x. absurd x)
+      (sets_all.runs most N (word_start T (length texts)) u' (words_small IsSmall (word_start T (length texts)) words small_words)
+      (words_up (word_start T (length texts)) (word_start T (length texts) + length words) (length u'.locals) constants (omega (arith, kept.many, long, own_low)) (words_in_locals (word_start T (length texts)) words)))
 
-    module _ (s0 : LowState) (begun : IsBegun s0) (some : 1 ≤ N) (turns : N ≤ fuel) (u_low : u ≤ page) (declared : AreDeclared types (literals ++ map known_of (query_readers T n columns))) where
-      pub cells_first : s0.cells ≡ first.cells
-      cells_first = ap (λ (x : LowState). x.cells) begun.kept.others
+  -- then what follows is done
+  leads_then : (t : LowState) → SpaceBegun base others first t → (R : ℕ → Type 0) (m : ℕ) (P : LowState → Type 0) (rest : Statement) → ((s : LowState) → IsBegun s → Ends m P Never R (meaning most N rest s)) →
+      Ends (size leads + (size sets + m)) P Never R (meaning most N (seq leads (seq sets rest)) t)
+  leads_then t begun R m P rest onward =
+      let long = begun.many in
+      Ends-then P Never R (size leads) (size sets + m) (λ u'. Kept (text_start T) t u' × AllByRecursion (HasPlace u') text_literals × ((row : List Val) → AreHeld (known_texts text_literals texts) row u')) (meaning most N leads t) (meaning most N (seq sets rest))
+      (Ends-weaker (size leads) (size leads) (λ u'. Kept (text_start T) t u' × AllByRecursion (HasPlace u') text_literals × ((row : List Val) → AreHeld (known_texts text_literals texts) row u'))
+      (λ u'. Kept (text_start T) t u' × AllByRecursion (HasPlace u') text_literals × ((row : List Val) → AreHeld (known_texts text_literals texts) row u')) Never Never (λ code. ⊥) R (meaning most N leads t) (omega arith) (λ v x. x) (λ v x. x) (λ code x. absurd x)
+      (leads_all.runs most N (text_start T) texts t (lie_there_kept 1 first t text_literals texts begun.kept texts_there) begun.descriptor (omega arith)
+      (texts_up (text_start T) (text_start T + 2 * length texts) (length t.locals) text_literals (omega (arith, long, own_low)) (texts_in_locals (text_start T) at texts))))
+      (λ u' led. Ends-then P Never R (size sets) m IsBegun (meaning most N sets u') (meaning most N rest) (sets_end t u' begun led.0 led.1 R) onward)
 
-      pub sizes_first : s0.columns ≡ first.columns
-      sizes_first = ap (λ (x : LowState). x.columns) begun.kept.others
+  module _ (s0 : LowState) (begun : IsBegun s0) where
+    cells_first : s0.cells ≡ first.cells
+    cells_first = ap (λ (x : LowState). x.cells) begun.kept.others
 
-      pub long_first : length s0.locals ≡ many
-      long_first = begun.kept.many ∙ ap suc (length-replicate {A = Value} others (Number 0))
+    sizes_first : s0.columns ≡ first.columns
+    sizes_first = ap (λ (x : LowState). x.columns) begun.kept.others
 
-      own_seen : (k a b : ℕ) (v : Value) → c (Own k) a b ≡ Some v → ((12 ≤ pos k a) × (pos k a + b ≤ base)) × (s0.cells (Own k) a b ≡ Some v)
-      own_seen (suc k) a b v is = absurd cc
-      own_seen zero a b v is = by_test (nat_le 24 a && nat_le (a + b) base) refl is
-        where
-          by_test : (inside : Bool) → (nat_le 24 a && nat_le (a + b) base) ≡ inside → (if inside then first.cells (Own 0) a b else None) ≡ Some v → ((12 ≤ pos 0 a) × (pos 0 a + b ≤ base)) × (s0.cells (Own 0) a b ≡ Some v)
-          by_test false tested found = absurd cc
-          by_test true tested found = let tests = inside_of base a b tested in ((omega (arith, tests.0), omega (arith, tests.1)), ap (λ (d : Cells). d (Own 0) a b) (ap (λ (x : LowState). x.cells) begun.kept.others) ∙ found)
+    long_first : length s0.locals ≡ many
+    long_first = begun.kept.many ∙ ap suc (length-replicate {A = Value} others (Number 0))
 
-      held : (s : LowState) → ((i : ℕ) → 8 + T ≤ i → i < base_start T n → slice_get s.locals i ≡ slice_get s0.locals i) → slice_get s.own 0 ≡ Some page → (row : List Val) → AreHeld literals row (seen c s)
-      held s same first_page row =
-          let IsHeld : Known → Type 0 = λ (k : Known). (v : Val) × (value_of k.expression (at_row row) ≡ Ok v) × Holds k.operand v (seen c s) in
-          let places : AllByRecursion (HasPlace s) text_literals =
-          places_same s0 s (8 + T) (base_start T n) same (text_start T) text_literals (omega arith) (texts_up (text_start T) (text_start T + 2 * length texts) (base_start T n) text_literals (omega arith) (texts_in_locals (text_start T) at texts)) begun.places in
-          let set : AllByRecursion (IsSet (seen c s)) constants =
-          sets_same s0 (seen c s) (word_start T (length texts)) (word_start T (length texts) + length words) (λ j down up. same j (omega (arith, down)) (omega (arith, up))) constants (words_in_locals (word_start T (length texts)) words) begun.set in
-          let there : LieThere (seen c s) text_literals texts =
-          lie_there_within first (seen c s) first_page 24 base at text_literals texts
-          (λ a b low high. let inside : (nat_le 24 a && nat_le (a + b) base) ≡ true = inside_from base a b low high in rw inside refl)
-          (texts_from (text_start T) at texts) (omega arith) (let octets = ap (λ (l : List ℕ). length l) texts_are in omega (arith, octets)) texts_there in
-          all-append IsHeld (known_texts text_literals texts) (map known_constant constants) (texts_held (seen c s) row text_literals texts places there) (constants_held row (seen c s) constants set)
+    own_seen : (k a b : ℕ) (v : Value) → c (Own k) a b ≡ Some v → ((12 ≤ pos k a) × (pos k a + b ≤ base)) × (s0.cells (Own k) a b ≡ Some v)
+    own_seen (suc k) a b v is = absurd cc
+    own_seen zero a b v is = by_test (nat_le 24 a && nat_le (a + b) base) refl is
+      where
+        by_test : (inside : Bool) → (nat_le 24 a && nat_le (a + b) base) ≡ inside → (if inside then first.cells (Own 0) a b else None) ≡ Some v → ((12 ≤ pos 0 a) × (pos 0 a + b ≤ base)) × (s0.cells (Own 0) a b ≡ Some v)
+        by_test false tested found = absurd cc
+        by_test true tested found = let tests = inside_of base a b tested in ((omega (arith, tests.0), omega (arith, tests.1)), ap (λ (d : Cells). d (Own 0) a b) (ap (λ (x : LowState). x.cells) begun.kept.others) ∙ found)
 
-      pub grounds : Grounds T n columns literals c base u fuel N many types s0
-      grounds = record {
-        some = some;
-        turns = turns;
-        small = small;
-        entries_before = let count = laid.many in omega (arith, count);
-        u_low = u_low;
-        descriptor = begun.kept.below 0 (omega arith) ∙ refl;
-        long = omega (arith, long_first);
-        first_own = room;
-        first_page = ap (λ (x : LowState). slice_get x.own 0) begun.kept.others;
-        root = ap (λ (d : Cells). d (Own 0) 8 4) cells_first ∙ (head-known layout are_ready.placed tables are_ready.descriptor limit are_ready.memory ready).2;
-        columns_seen = λ k a b. sym (ap (λ (d : Cells). d (Column k) a b) cells_first);
-        own_seen = own_seen;
-        held = held;
-        fit = λ row. all-append (λ (k : Known). HasLeaves (Fits row) k.expression) (known_texts text_literals texts) (map known_constant constants) (fit_texts row text_literals texts utf8) (fit_words row (word_start T (length texts)) words);
-        within = literals_within (Inside (rows_end T) (cell_start T n (length columns))) T at texts words (λ i low high. (omega (arith, low), omega (arith, high)));
-        declared = declared;
-      }
+    held : (s : LowState) → ((i : ℕ) → 8 + T ≤ i → i < base_start T n → slice_get s.locals i ≡ slice_get s0.locals i) → slice_get s.own 0 ≡ Some page → (row : List Val) → AreHeld literals row (seen c s)
+    held s same first_page row =
+        let IsHeld : Known → Type 0 = λ (k : Known). (v : Val) × (value_of k.expression (at_row row) ≡ Ok v) × Holds k.operand v (seen c s) in
+        let places : AllByRecursion (HasPlace s) text_literals =
+        places_same s0 s (8 + T) (base_start T n) same (text_start T) text_literals (omega arith) (texts_up (text_start T) (text_start T + 2 * length texts) (base_start T n) text_literals (omega arith) (texts_in_locals (text_start T) at texts)) begun.places in
+        let set : AllByRecursion (IsSet (seen c s)) constants =
+        sets_same s0 (seen c s) (word_start T (length texts)) (word_start T (length texts) + length words) (λ j down up. same j (omega (arith, down)) (omega (arith, up))) constants (words_in_locals (word_start T (length texts)) words) begun.set in
+        let there : LieThere (seen c s) text_literals texts =
+        lie_there_within first (seen c s) first_page 24 base at text_literals texts
+        (λ a b low high. let inside : (nat_le 24 a && nat_le (a + b) base) ≡ true = inside_from base a b low high in rw inside refl)
+        (texts_from (text_start T) at texts) (omega arith) (let octets = ap (λ (l : List ℕ). length l) texts_are in omega (arith, octets)) texts_there in
+        all-append IsHeld (known_texts text_literals texts) (map known_constant constants) (texts_held (seen c s) row text_literals texts places there) (constants_held row (seen c s) constants set)
 
-      pub between_none : (budget : ℕ) → Between T n c base u s0 [] budget s0
-      between_none budget = record {
-        part = 0;
-        offset = base;
-        room = begun.room;
-        paid = inl (ap (λ (x : LowState). x.held) begun.kept.others);
-        behind = omega arith;
-        fronts = λ t st there. absurd cc;
-        stand = λ t st there. absurd cc;
-        keeps = Keeps-same (Steady T n) (Before base) s0;
-      }
+    pub grounds : GroundsAt s0
+    grounds = record {
+      some = some;
+      turns = omega arith;
+      small = small;
+      entries_before = let count = laid.many in omega (arith, count);
+      u_low = u_low;
+      descriptor = begun.kept.below 0 (omega arith) ∙ refl;
+      long = omega (arith, long_first);
+      first_own = own_low;
+      first_page = ap (λ (x : LowState). slice_get x.own 0) begun.kept.others;
+      root = ap (λ (d : Cells). d (Own 0) 8 4) cells_first ∙ (head-known layout are_ready.placed tables are_ready.descriptor limit are_ready.memory ready).2;
+      columns_seen = λ k a b. sym (ap (λ (d : Cells). d (Column k) a b) cells_first);
+      own_seen = own_seen;
+      held = held;
+      fit = λ row. all-append (λ (k : Known). HasLeaves (Fits row) k.expression) (known_texts text_literals texts) (map known_constant constants) (fit_texts row text_literals texts utf8) (fit_words row (word_start T (length texts)) words);
+      within = literals_within (Inside (rows_end T) (cell_start T n (length columns))) T at texts words (λ i low high. (omega (arith, low), omega (arith, high)));
+      declared = known_typed T at columns texts words own;
+    }
 
-    -- ---- the whole
-    module _ (some : 1 ≤ N) (turns : N ≤ fuel) (u_low : u ≤ page) (declared : AreDeclared types (literals ++ map known_of (query_readers T n columns)))
-        (building : List Pipeline) (last : Pipeline) (items : List Expression) (last_is : last.sink ≡ select items) (kinds_are : map kind_of items ≡ map (λ (k : Kind). Some k) layout.cells) (builds : List Course) (last_course : Course) (builds_own last_own : List ValType)
-        (built : AreCourses literals (query_readers T n columns) own_first building builds builds_own) (made : IsCourse literals (query_readers T n columns) (own_first + length builds_own) last last_course last_own)
-        (own_room : own_first + length builds_own + length last_own ≤ many) (own_types : AreOwn types own_first (builds_own ++ last_own)) (all_built : length building ≡ T) (budget : ℕ → ℕ) (Told : ℕ → Type 0)
-        (reached : (front : List Pipeline) (p : Pipeline) (back : List Pipeline) (stoods : List Stood) → building ≡ front ++ p ∷ back → AreStood tables [] front stoods →
-        Reach T n columns literals tables u most N table_of stoods p (budget (length front)) (budget (suc (length front))))
-        (told : (front : List Pipeline) (p : Pipeline) (back : List Pipeline) (stoods : List Stood) → building ≡ front ++ p ∷ back → AreStood tables [] front stoods → (raised : ℕ) → Tells (fed_over tables stoods p).codes raised → Told raised)
-        (last_reached : (stoods : List Stood) → AreStood tables [] building stoods → LastReach T n columns literals tables u most N table_of stoods last (length items) (budget T))
-        (told_last : (stoods : List Stood) → AreStood tables [] building stoods → (raised : ℕ) → Tells (fed_over tables stoods last).codes raised → Told raised) where
-      abbrev pub whole : Statement
-      whole = query_block T base leads sets builds last_course
+    between_none : (budget : ℕ) → Between T n c base u s0 [] budget s0
+    between_none budget = record {
+      part = 0;
+      offset = base;
+      room = begun.room;
+      paid = inl (ap (λ (x : LowState). x.held) begun.kept.others);
+      behind = omega arith;
+      fronts = λ t st there. absurd cc;
+      stand = λ t st there. absurd cc;
+      keeps = Keeps-same (Steady T n) (Before base) s0;
+    }
 
+    pub source_of : (p : Pipeline) → p.table ≡ table_of p.entry → HasColumnOf columns p.entry → Source T n columns tables s0 p
+    source_of p table_is has_column = source p table_is has_column s0 cells_first sizes_first
+
+  -- ---- the tables of joins
+  -- Those that build them: their blocks have their own locals first, they stay within bounds, and what they raise is told.
+  pub record Joins (Told : ℕ → Type 0) : Type 0 where
+    pub building : List Pipeline
+    pub builds : List Course
+    pub builds_own : List ValType
+    pub built : AreCourses literals (query_readers T n columns) own_first building builds builds_own
+    pub no_more : length building ≤ T
+    pub own_room : own_first + length builds_own ≤ many
+    pub own_types : AreOwn types own_first builds_own
+    pub budget : ℕ → ℕ
+    pub reached : (front : List Pipeline) (p : Pipeline) (back : List Pipeline) (stoods : List Stood) → building ≡ front ++ p ∷ back → AreStood tables [] front stoods →
+        Reach T n columns literals tables u most N table_of stoods p (budget (length front)) (budget (suc (length front)))
+    pub told : (front : List Pipeline) (p : Pipeline) (back : List Pipeline) (stoods : List Stood) → building ≡ front ++ p ∷ back → AreStood tables [] front stoods → (raised : ℕ) → Tells (fed_over tables stoods p).codes raised → Told raised
+
+  -- what holds where they have been built
+  pub record Joined (Told : ℕ → Type 0) (j : Joins Told) (t : LowState) : Type 0 where
+    pub s0 : LowState
+    pub begun : IsBegun s0
+    pub stoods : List Stood
+    pub are : AreStood tables [] j.building stoods
+    pub stood_is : length stoods ≡ length j.building
+    pub between : Between T n c base u s0 stoods (j.budget (length j.building)) t
+
+  module _ (Told : ℕ → Type 0) (j : Joins Told) where
+    -- the whole, whatever follows
+    abbrev pub around : Statement → Statement
+    around rest = seq (space_block base) (seq leads (seq sets (seq (builds_block T 0 j.builds) rest)))
+
+    module _ (s0 : LowState) (begun : IsBegun s0) where
+      reached_at : (front : List Pipeline) (p : Pipeline) (back : List Pipeline) (stoods : List Stood) → j.building ≡ front ++ p ∷ back → AreStood tables [] front stoods →
+          IsReached T n columns literals tables u most N s0 stoods p (j.budget (length front)) (j.budget (suc (length front)))
+      reached_at front p back stoods parts are =
+          let r = j.reached front p back stoods parts are in
+          record {
+            made = r.made;
+            sink_is = r.sink_is;
+            number_is = r.number_is;
+            source = source_of s0 begun p r.table_is r.has_column;
+            finds = r.finds;
+            fits = r.fits;
+            grows = r.grows;
+            enough = r.enough;
+          }
+
+      joined : Ends (size (builds_block T 0 j.builds) * N) (Joined Told j) Never Told (meaning most N (builds_block T 0 j.builds) s0)
+      joined =
+          Ends-weaker (size (builds_block T 0 j.builds) * N) (size (builds_block T 0 j.builds) * N)
+          (AllBuilt T n columns literals tables c base u most N N many types s0 (grounds s0 begun) Told j.building j.budget reached_at j.told j.no_more j.building (j.budget (length j.building))) (Joined Told j)
+          Never Never Told Told (meaning most N (builds_block T 0 j.builds) s0) (omega arith)
+          (λ t h. record {
+            s0 = s0;
+            begun = begun;
+            stoods = h.stoods;
+            are = h.are;
+            stood_is = stood_many T n columns literals tables c base u most N N many types s0 (grounds s0 begun) Told [] j.building h.stoods h.are;
+            between = h.between;
+          }) (λ t x. x) (λ code x. x)
+          (builds_end T n columns literals tables c base u most N N many types s0 (grounds s0 begun) Told j.building j.budget reached_at j.told j.no_more [] j.building [] 0 refl tt refl j.builds own_first j.builds_own (omega arith) j.own_room j.own_types j.built s0
+          (between_none s0 begun (j.budget 0)))
+
+    pub joins_then : (m : ℕ) (P : LowState → Type 0) (rest : Statement) → m ≤ size rest * N → ((t : LowState) → Joined Told j t → Ends m P Never Told (meaning most N rest t)) → Ends (size (around rest) * N) P Never Told (meaning most N (around rest) first)
+    joins_then m P rest fits onward =
+        let B : ℕ = size (builds_block T 0 j.builds) in
+        let a : ℕ = 7 + (size leads + size sets) in
+        Ends-more P Never Told (7 + (size leads + (size sets + (B * N + m)))) (size (around rest) * N) (meaning most N (around rest) first)
+        (omega (arith, add-mul a (B + size rest) N, add-mul B (size rest) N, at_least a N some, fits))
+        (Ends-then P Never Told 7 (size leads + (size sets + (B * N + m))) (SpaceBegun base others first) (meaning most N (space_block base) first) (meaning most N (seq leads (seq sets (seq (builds_block T 0 j.builds) rest))))
+        (query_space layout tables limit others are_ready small (omega (arith, own_low)) Told most N)
+        (λ t begun. leads_then t begun Told (B * N + m) P (seq (builds_block T 0 j.builds) rest) (λ s0 start.
+        Ends-then P Never Told (B * N) m (Joined Told j) (meaning most N (builds_block T 0 j.builds) s0) (meaning most N rest) (joined s0 start) onward)))
+
+    -- ---- the rows of the result
+    -- what holds of those that a last part left, where they are of the items' kinds, and these octets are paid for
+    pub settled_ends : (s0 : LowState) → IsBegun s0 → (items : List Expression) → map kind_of items ≡ map (λ (k : Kind). Some k) layout.cells → 8 + 16 * length items + u ≤ page → (paid rows_base : ℕ) (found : List (List Val)) (w : LowState) → Keeps (Steady T n) (BehindWords base) s0 w →
+        HasRows (HasRow (LiesIn c) (map kind_of items)) (8 + 16 * length items) rows_base u paid found w → Ends 12 (λ t. (settled : Settled layout tables t) × (in_order settled.found ≡ found)) Never Told (meaning most N finish_block w)
+    settled_ends s0 begun items kinds_are fits paid rows_base found w kept has =
+        let IsFirst : ℕ → Type 0 = λ (i : ℕ). i ≡ 0 in
+        let items_many : length items ≡ length layout.cells = sym (length-map items kind_of) ∙ (ap (λ (ks : List (Option Kind)). length ks) kinds_are ∙ length-map layout.cells (λ (k : Kind). Some k)) in
+        let keeps : Keeps IsFirst (BehindWords base) first w =
+        Keeps-then IsFirst (BehindWords base) first s0 w (Keeps-kept IsFirst (BehindWords base) 1 first s0 (λ i z. omega (arith, z)) begun.kept)
+        (Keeps-less IsFirst (BehindWords base) (Steady T n) (BehindWords base) s0 w (λ i z. inl z) (λ a wide b. b) kept) in
+        let one : HasRows (HasRow (LiesIn c) (map kind_of items)) (8 + 16 * length layout.cells) rows_base u paid found w =
+        subst (λ (m : ℕ). HasRows (HasRow (LiesIn c) (map kind_of items)) (8 + 16 * m) rows_base u paid found w) items_many has in
+        let two : HasRows (HasRow (LiesIn c) (map (λ (k : Kind). Some k) layout.cells)) (8 + 16 * length layout.cells) rows_base u paid found w =
+        subst (λ (ks : List (Option Kind)). HasRows (HasRow (LiesIn c) ks) (8 + 16 * length layout.cells) rows_base u paid found w) kinds_are one in
+        rows_left layout tables limit others Told most N rows_base u paid IsFirst w found (omega (arith, fits, items_many)) keeps two
+
+    module _ (last : Pipeline) (items : List Expression) (last_is : last.sink ≡ select items) (kinds_are : map kind_of items ≡ map (λ (k : Kind). Some k) layout.cells) (last_course : Course) (last_own : List ValType)
+        (made : IsCourse literals (query_readers T n columns) (own_first + length j.builds_own) last last_course last_own) (last_room : own_first + length j.builds_own + length last_own ≤ many) (last_types : AreOwn types (own_first + length j.builds_own) last_own)
+        (last_reached : (stoods : List Stood) → AreStood tables [] j.building stoods → LastReach T n columns literals tables u most N table_of stoods last (length items) (j.budget (length j.building)))
+        (told_last : (stoods : List Stood) → AreStood tables [] j.building stoods → (raised : ℕ) → Tells (fed_over tables stoods last).codes raised → Told raised) where
       abbrev Answered : LowState → Type 0
-      Answered = IsAnswered layout tables building last
+      Answered = IsAnswered layout tables j.building last
 
-      items_many : length items ≡ length layout.cells
-      items_many = sym (length-map items kind_of) ∙ (ap (λ (ks : List (Option Kind)). length ks) kinds_are ∙ length-map layout.cells (λ (k : Kind). Some k))
+      result_ends : (t : LowState) → Joined Told j t → Ends (6 + (size (course_block T last_course) * N + 12)) Answered Never Told (meaning most N (result_block T last_course) t)
+      result_ends t h =
+          let r = last_reached h.stoods h.are in
+          let paid : ℕ = j.budget (length j.building) in
+          result_then T n columns literals tables c base u most N N many types h.s0 (grounds h.s0 h.begun) Told j.building j.budget (reached_at h.s0 h.begun) j.told j.no_more last items last_is h.stoods h.are
+          (source_of h.s0 h.begun last r.table_is r.has_column) r.finds r.fits r.enough last_course (own_first + length j.builds_own) last_own (omega arith)
+          last_room made last_types (told_last h.stoods h.are) t h.between 12 Answered finish_block
+          (λ w found. Ends-weaker 12 12 (λ v. (settled : Settled layout tables v) × (in_order settled.found ≡ (fed_over tables h.stoods last).rows)) Answered Never Never Told Told (meaning most N finish_block w) (omega arith)
+          (λ v left. record { stoods = h.stoods; are = h.are; none = found.none; settled = left.0; rows = left.1 }) (λ v x. x) (λ code x. x)
+          (settled_ends h.s0 h.begun items kinds_are r.fits paid found.rows_base (fed_over tables h.stoods last).rows w found.keeps found.has))
 
-      last_here : (stoods : List Stood) → AreStood tables [] building stoods → LastReach T n columns literals tables u most N table_of stoods last (length items) (budget (length building))
-      last_here stoods are = subst (λ (k : ℕ). LastReach T n columns literals tables u most N table_of stoods last (length items) (budget k)) (sym all_built) (last_reached stoods are)
-
-      no_more : length building ≤ T
-      no_more = omega (arith, all_built)
-
-      module _ (s0 : LowState) (begun : IsBegun s0) where
-        g : Grounds T n columns literals c base u fuel N many types s0
-        g = grounds s0 begun some turns u_low declared
-
-        reached_at : (front : List Pipeline) (p : Pipeline) (back : List Pipeline) (stoods : List Stood) → building ≡ front ++ p ∷ back → AreStood tables [] front stoods →
-            IsReached T n columns literals tables u most N s0 stoods p (budget (length front)) (budget (suc (length front)))
-        reached_at front p back stoods parts are =
-            let r = reached front p back stoods parts are in
-            record {
-              made = r.made;
-              sink_is = r.sink_is;
-              number_is = r.number_is;
-              source = source p r.table_is r.has_column s0 (cells_first s0 begun some turns u_low declared) (sizes_first s0 begun some turns u_low declared);
-              finds = r.finds;
-              fits = r.fits;
-              grows = r.grows;
-              enough = r.enough;
-            }
-
-        -- from the rows that were fed to what is settled
-        finish_ends : (stoods : List Stood) → AreStood tables [] building stoods → (w : LowState) → IsResult T n tables c base u (budget (length building)) s0 last items stoods w → Ends 12 Answered Never Told (meaning most fuel finish_block w)
-        finish_ends stoods are w r =
-            let fits = (last_here stoods are).fits in
-            let IsFirst : ℕ → Type 0 = λ (i : ℕ). i ≡ 0 in
-            let keeps : Keeps IsFirst (BehindWords base) first w =
-            Keeps-then IsFirst (BehindWords base) first s0 w (Keeps-kept IsFirst (BehindWords base) 1 first s0 (λ i z. omega (arith, z)) begun.kept)
-            (Keeps-less IsFirst (BehindWords base) (Steady T n) (BehindWords base) s0 w (λ i z. inl z) (λ a wide b. b) r.keeps) in
-            let rows = (fed_over tables stoods last).rows in
-            let one : HasRows (HasRow (LiesIn c) (map kind_of items)) (8 + 16 * length layout.cells) r.rows_base u (budget (length building)) rows w =
-            subst (λ (m : ℕ). HasRows (HasRow (LiesIn c) (map kind_of items)) (8 + 16 * m) r.rows_base u (budget (length building)) rows w) items_many r.has in
-            let two : HasRows (HasRow (LiesIn c) (map (λ (k : Kind). Some k) layout.cells)) (8 + 16 * length layout.cells) r.rows_base u (budget (length building)) rows w =
-            subst (λ (ks : List (Option Kind)). HasRows (HasRow (LiesIn c) ks) (8 + 16 * length layout.cells) r.rows_base u (budget (length building)) rows w) kinds_are one in
-            Ends-weaker 12 12 (λ t. (settled : Settled layout tables t) × (in_order settled.found ≡ rows)) Answered Never Never Told Told (meaning most fuel finish_block w) (omega arith)
-            (λ t left. record { stoods = stoods; are = are; none = r.none; settled = left.0; rows = left.1 }) (λ t x. x) (λ code x. x)
-            (rows_left layout tables limit others Told most fuel r.rows_base u (budget (length building)) IsFirst w rows (omega (arith, fits, items_many)) keeps two)
-
-        result_ends : (t : LowState) → AllBuilt T n columns literals tables c base u most fuel N many types s0 g Told building budget reached_at told no_more building (budget (length building)) t →
-            Ends (6 + (size (course_block T last_course) * N + 12)) Answered Never Told (meaning most fuel (result_block T last_course) t)
-        result_ends t h =
-            let r = last_here h.stoods h.are in
-            result_then T n columns literals tables c base u most fuel N many types s0 g Told building budget reached_at told no_more last items last_is h.stoods h.are
-            (source last r.table_is r.has_column s0 (cells_first s0 begun some turns u_low declared) (sizes_first s0 begun some turns u_low declared)) r.finds r.fits r.enough last_course (own_first + length builds_own) last_own (omega arith)
-            (omega (arith, own_room)) made (rest_own_types types own_first (builds_own ++ last_own) builds_own last_own refl own_types) (told_last h.stoods h.are) t h.between 12 Answered finish_block (λ w r'. finish_ends h.stoods h.are w r')
-
-        pipelines_end : Ends (size (builds_block T 0 builds) * N + (6 + (size (course_block T last_course) * N + 12))) Answered Never Told (meaning most fuel (seq (builds_block T 0 builds) (result_block T last_course)) s0)
-        pipelines_end =
-            Ends-then Answered Never Told (size (builds_block T 0 builds) * N) (6 + (size (course_block T last_course) * N + 12)) (AllBuilt T n columns literals tables c base u most fuel N many types s0 g Told building budget reached_at told no_more building (budget (length building)))
-            (meaning most fuel (builds_block T 0 builds) s0) (meaning most fuel (result_block T last_course))
-            (builds_end T n columns literals tables c base u most fuel N many types s0 g Told building budget reached_at told no_more [] building [] 0 refl tt refl builds own_first builds_own (omega arith) (omega (arith, own_room))
-            (first_own_types types own_first (builds_own ++ last_own) builds_own last_own refl own_types) built s0 (between_none s0 begun some turns u_low declared (budget 0)))
-            result_ends
-
-      pub whole_ends : Ends (size whole * N) Answered Never Told (meaning most fuel whole first)
+      pub whole_ends : Ends (size (around (result_block T last_course)) * N) Answered Never Told (meaning most N (around (result_block T last_course)) first)
       whole_ends =
-          let B : ℕ = size (builds_block T 0 builds) in
           let C : ℕ = size (course_block T last_course) in
-          let a : ℕ = 7 + (size leads + size sets) + 18 in
-          Ends-more Answered Never Told (7 + (size leads + (size sets + (B * N + (6 + (C * N + 12)))))) (size whole * N) (meaning most fuel whole first)
-          (omega (arith, add-mul a (B + C) N, add-mul B C N, at_least a N some))
-          (Ends-then Answered Never Told 7 (size leads + (size sets + (B * N + (6 + (C * N + 12))))) (SpaceBegun base others first) (meaning most fuel (space_block base) first) (meaning most fuel (seq leads (seq sets (seq (builds_block T 0 builds) (result_block T last_course)))))
-          (query_space layout tables limit others are_ready small (omega (arith, room)) Told most fuel)
-          (λ t begun. leads_then t begun Told (B * N + (6 + (C * N + 12))) Answered (seq (builds_block T 0 builds) (result_block T last_course)) (λ s0 start. pipelines_end s0 start)))
+          joins_then (6 + (C * N + 12)) Answered (result_block T last_course) (omega (arith, add-mul 18 C N, at_least 18 N some)) result_ends

@@ -1,126 +1,68 @@
 -- The run of a grouped query's statement, from the memory that it begins with to the rows that are found: those that GROUP BY, HAVING and the select list
 -- make of what reaches them, in some order (ISO/IEC 9075:1992, 7.7 to 7.9).
-use Rattle.std.proofs.Common.{◌≡◌, ℕ, suc, ◌+◌, ◌*◌, ◌<◌, ◌≤◌, IsUtf8, Some, List, [], ◌∷◌, ◌++◌, length, map, refl, sym, subst, arith}
-use Rattle.std.specs.List.{AllByRecursion, concat}
-use Rattle.std.specs.List.Sorted.{IsPermutation}
+use Rattle.std.proofs.Common.{◌≡◌, ℕ, ◌+◌, ◌*◌, ◌^◌, ◌<◌, ◌≤◌, Option, Some, List, [], ◌∷◌, length, map, arith}
 use Rattle.std.proofs.Math.Nat.{add-mul}
 use Rattle.qw_types.specs.declared.kind.Kind.{Kind}
-use Rattle.qw_types.specs.declared.value.Val.{Val}
-use Rattle.qw_linear.specs.Memory.{page}
 use Rattle.qw_module.specs.declared.instruction.ValType.{ValType}
 use Rattle.qw_scalar.specs.Typing.{kind_of}
 use Rattle.qw_grouped.specs.Grouped.{Grouped}
-use Rattle.qw_map.specs.Layout.{Layout, descriptor_size, entry_offset}
 use Rattle.qw_low.specs.Syntax.{Statement, seq}
-use Rattle.qw_low.specs.State.{Cells, LowState}
-use Rattle.qw_low.specs.Begin.{first_state, cells_of}
+use Rattle.qw_low.specs.State.{LowState}
 use Rattle.qw_low.specs.Meaning.{meaning}
 use Rattle.qw_low.specs.Promise.{Ends}
 use Rattle.qw_low.specs.Size.{size}
-use Rattle.qw_low.proofs.Promises.{Ends-more, Ends-weaker}
+use Rattle.qw_low.proofs.Promises.{Ends-more}
 use Rattle.qw_low.proofs.Results.{at_least}
-use Rattle.qw_feed.specs.Cells.{kinds_of}
-use Rattle.qw_feed.specs.Rows.{begin_block, finish_block, in_order}
+use Rattle.qw_feed.specs.Feeds.{Tells}
+use Rattle.qw_feed.specs.Rows.{begin_block, finish_block}
 use Rattle.qw_feed.proofs.Frames.{Never}
-use Rattle.qw_expr.specs.Computes.{Known, AreDeclared}
-use Rattle.qw_read.specs.Constants.{IsSmall, SetsAll}
-use Rattle.qw_read.specs.Reading.{known_of}
-use Rattle.qw_read.specs.Texts.{LeadsToAll}
-use Rattle.qw_read.specs.declared.constant.Word.{Word}
-use Rattle.qw_table.specs.Joins.{sources_of}
-use Rattle.qw_table.specs.declared.key.Field.{Field}
-use Rattle.qw_physical.specs.Physical.{Pipeline, filter, select}
+use Rattle.qw_physical.specs.Physical.{filter, select}
 use Rattle.qw_physical.specs.declared.pipeline.ReadColumn.{ReadColumn}
 use Rattle.qw_operator.specs.Carries.{directory}
 use Rattle.qw_operator.proofs.Promised.{AreOwn}
 use Rattle.qw_operator.proofs.Stood.{Stood}
-use Rattle.qw_emit.specs.RunsOf.{first_locals}
-use Rattle.qw_emit.proofs.ModuleCompiled.{AreReady, Settled}
-use Rattle.qw_emit.proofs.SeenTexts.{shown}
-use Rattle.qw_group_sink.specs.Grouping.{Group}
 use Rattle.qw_group_pipeline.specs.Groups.{IsGroupPipeline}
 use Rattle.qw_group_pipeline.specs.declared.columns.ValueColumn.{ValueColumn}
-use Rattle.qw_compile.specs.QueryLocals.{own_start, query_readers}
-use Rattle.qw_compile.specs.Statements.{AreCourses, Course, build_block, builds_block}
-use Rattle.qw_compile.proofs.LocalsDeclared.{rest_own_types}
-use Rattle.qw_compile.proofs.LocalsPlaced.{literal_count, literals_known, texts_placed, words_placed}
-use Rattle.qw_compile.proofs.PipelineRuns.{AreStood, Grounds, fed_over}
-use Rattle.qw_compile.proofs.QueryRuns.{AreLaid, IsBegun}
-use Rattle.qw_compile_whole.specs.GroupedStatements.{IsGathering, grouped_block}
-use Rattle.qw_compile_whole.proofs.FrontEnds.{HasSettled, front_then, settle_ends}
-use Rattle.qw_compile_whole.proofs.Gathered.{AreGathered}
-use Rattle.qw_compile_whole.proofs.GroupBounded.{GoTogether, IsGroupBounded, groups_paid, rows_met, walked_of}
+use Rattle.qw_compile.proofs.PipelineRuns.{AreStood, fed_over}
+use Rattle.qw_compile.proofs.QueryRuns.{Joined, Joins, Setting, around, base, both_end, c, first, grounds, joins_then, literals, many, n, own_first, types}
+use Rattle.qw_compile_whole.specs.GuardedStatements.{IsGatheringBy, gather_block}
+use Rattle.qw_compile_whole.proofs.FrontEnds.{Collects, IsGroupAnswered, answer_ends}
+use Rattle.qw_compile_whole.proofs.GroupBounded.{GatherReach, GoTogether, WalkReach, groups_paid, rows_met, walked_of}
+use Rattle.qw_compile_whole.proofs.GuardedFronts.{GatheredBy, IsGuard, gathers_end}
 use Rattle.qw_compile_whole.proofs.Walked.{walk_then}
 
--- The rows of the result are what comes of the groups of the rows that the last pipeline of the front feeds over the tables that the others built.
-pub record IsGroupAnswered (layout : Layout) (tables : List (List (List Val))) (building : List Pipeline) (gathering : Pipeline) (query : Grouped) (t : LowState) : Type 0 where
-  pub stoods : List Stood
-  pub are : AreStood tables [] building stoods
-  pub none : (fed_over tables stoods gathering).codes ≡ []
-  pub none_behind : (walked_of query (rows_met tables stoods gathering)).codes ≡ []
-  pub settled : Settled layout tables t
-  pub rows : IsPermutation (in_order settled.found) (walked_of query (rows_met tables stoods gathering)).rows
+module _ (S : Setting) (Told : ℕ → Type 0) (j : Joins S Told) (guard : Option ℕ) (is_guard : IsGuard guard) (g : Collects S Told j (IsGatheringBy guard)) (query : Grouped) (key : List ReadColumn) (values : List ValueColumn) (together : GoTogether query g.group key values (literals S))
+    (kinds_are : map kind_of query.items ≡ map (λ (k : Kind). Some k) S.layout.cells) (walk : Statement) (walk_own : List ValType)
+    (walked : IsGroupPipeline (literals S) (directory g.group.table) (own_first S + length j.builds_own + length g.own) key values (filter query.having ∷ []) (select query.items) walk walk_own)
+    (walk_room : own_first S + length j.builds_own + length g.own + length walk_own ≤ many S) (walk_types : AreOwn (types S) (own_first S + length j.builds_own + length g.own) walk_own)
+    (gathered : (stoods : List Stood) → AreStood S.tables [] j.building stoods → GatherReach S.T (n S) S.columns (literals S) S.tables S.u S.most S.N S.table_of g.group stoods g.gathering (j.budget (length j.building)))
+    (told_gathered : (stoods : List Stood) → AreStood S.tables [] j.building stoods → (raised : ℕ) → Tells (fed_over S.tables stoods g.gathering).codes raised → Told raised)
+    (reached : (stoods : List Stood) → AreStood S.tables [] j.building stoods → (fed_over S.tables stoods g.gathering).codes ≡ [] → WalkReach query g.group key values S.u S.most S.N (rows_met S.tables stoods g.gathering) (groups_paid S.u g.group (j.budget (length j.building)) (rows_met S.tables stoods g.gathering)))
+    (told_walked : (stoods : List Stood) → AreStood S.tables [] j.building stoods → (fed_over S.tables stoods g.gathering).codes ≡ [] → (raised : ℕ) → Tells (walked_of query (rows_met S.tables stoods g.gathering)).codes raised → Told raised)
+    (fewer : guard ≡ Some 4 → (stoods : List Stood) → AreStood S.tables [] j.building stoods → length (rows_met S.tables stoods g.gathering) < 10 ^ 18) where
+  open S use {T, columns, tables, most, N, u}
 
-module _ (layout : Layout) (tables : List (List (List Val))) (limit others : ℕ) (are_ready : AreReady layout tables limit) (small : descriptor_size layout ≤ page) (T : ℕ) (columns : List ReadColumn) (texts : List (List ℕ)) (words : List Word) (table_of : ℕ → ℕ)
-    (laid : AreLaid table_of layout.columns columns) (texts_are : layout.literals ≡ concat texts) (utf8 : AllByRecursion IsUtf8 texts) (small_words : AllByRecursion IsSmall words) (most fuel N u : ℕ) (types : List ValType) where
-  abbrev n : ℕ
-  n = literal_count texts words
+  abbrev Answered : LowState → Type 0
+  Answered = IsGroupAnswered S.layout tables j.building g.gathering query
 
-  abbrev at : ℕ
-  at = entry_offset (length layout.columns)
+  abbrev tail : Statement
+  tail = seq begin_block (seq walk finish_block)
 
-  abbrev literals : List Known
-  literals = literals_known T at texts words
+  -- the walk over the groups, and the end
+  tail_ends : (t : LowState) (h : Joined S Told j t) (w : LowState) → GatheredBy S Told j t h g.group g.fields g.gathering w → Ends (size tail * N) Answered Never Told (meaning most N tail w)
+  tail_ends t h w after =
+      let budget : ℕ = j.budget (length j.building) in
+      let r = reached h.stoods h.are after.1 in
+      Ends-more Answered Never Told (6 + (size walk * N + 12)) (size tail * N) (meaning most N tail w) (omega (arith, add-mul 18 (size walk) N, at_least 18 N S.some))
+      (walk_then T (n S) columns (literals S) tables (c S) (base S) u most N N (many S) (types S) h.s0 (grounds S h.s0 h.begun) query g.group key values together g.fields g.field_kinds g.room_T walk (own_first S + length j.builds_own + length g.own) walk_own walked (omega arith) walk_room walk_types
+      budget (rows_met tables h.stoods g.gathering) (gathered h.stoods h.are).few r w after.0 Told (told_walked h.stoods h.are after.1) 12 Answered finish_block
+      (λ w' done. answer_ends S Told j t h g.gathering after.1 query kinds_are r.fits (groups_paid u g.group budget (rows_met tables h.stoods g.gathering)) w' done))
 
-  abbrev base : ℕ
-  base = descriptor_size layout
+  abbrev rest : Statement
+  rest = seq (gather_block guard T g.group.table g.gathers) tail
 
-  abbrev first : LowState
-  first = first_state layout tables limit (first_locals others)
-
-  abbrev c : Cells
-  c = shown base (cells_of layout tables)
-
-  abbrev many : ℕ
-  many = suc others
-
-  abbrev own_first : ℕ
-  own_first = own_start T n (length columns)
-
-  module _ (leads sets : Statement) (leads_all : LeadsToAll (texts_placed T at texts) leads) (sets_all : SetsAll (words_placed T (length texts) words) sets) (turns : N ≤ fuel) (declared : AreDeclared types (literals ++ map known_of (query_readers T n columns)))
-      (building : List Pipeline) (gathering : Pipeline) (query : Grouped) (group : Group) (key : List ReadColumn) (values : List ValueColumn) (together : GoTogether query group key values literals) (fields : List Field) (field_kinds : kinds_of (sources_of fields) ≡ map kind_of group.values)
-      (is_select : gathering.sink ≡ select group.values) (kinds_are : map kind_of query.items ≡ map (λ (k : Kind). Some k) layout.cells) (table_is : group.table ≡ length building) (room_T : length building < T)
-      (builds : List Course) (gathers : Course) (walk : Statement) (builds_own gathers_own walk_own : List ValType) (built : AreCourses literals (query_readers T n columns) own_first building builds builds_own)
-      (gathered : IsGathering literals (query_readers T n columns) (own_first + length builds_own) gathering group fields gathers gathers_own)
-      (walked : IsGroupPipeline literals (directory (length building)) (own_first + length builds_own + length gathers_own) key values (filter query.having ∷ []) (select query.items) walk walk_own)
-      (own_room : own_first + length builds_own + length gathers_own + length walk_own ≤ many) (own_types : AreOwn types own_first (builds_own ++ (gathers_own ++ walk_own))) (Told : ℕ → Type 0)
-      (b : IsGroupBounded T n columns texts words at table_of building gathering query group key values Told u most N tables) where
-    abbrev pub whole : Statement
-    whole = grouped_block T base leads sets builds (length building) gathers walk
-
-    abbrev Answered : LowState → Type 0
-    Answered = IsGroupAnswered layout tables building gathering query
-
-    -- what follows the groups: the walk over them, and the end
-    walks_end : (s0 : LowState) (begun : IsBegun layout tables limit others are_ready small T columns texts words table_of laid texts_are utf8 small_words most fuel N u types s0) → Grounds T n columns literals c base u fuel N many types s0 → (stoods : List Stood) → AreStood tables [] building stoods →
-        (fed_over tables stoods gathering).codes ≡ [] → (w : LowState) → AreGathered T n c base u s0 group fields (b.budget (length building)) (rows_met tables stoods gathering) w → Ends (6 + (size walk * N + 12)) Answered Never Told (meaning most fuel (seq begin_block (seq walk finish_block)) w)
-    walks_end s0 begun g stoods are none w h =
-        let rows : List (List Val) = rows_met tables stoods gathering in
-        walk_then T n columns literals tables c base u most fuel N many types s0 g query group key values together fields field_kinds (omega (arith, table_is, room_T)) walk (own_first + length builds_own + length gathers_own) walk_own
-        (subst (λ (k : ℕ). IsGroupPipeline literals (directory k) (own_first + length builds_own + length gathers_own) key values (filter query.having ∷ []) (select query.items) walk walk_own) (sym table_is) walked) (omega arith) (omega (arith, own_room))
-        (rest_own_types types (own_first + length builds_own) (gathers_own ++ walk_own) gathers_own walk_own refl (rest_own_types types own_first (builds_own ++ (gathers_own ++ walk_own)) builds_own (gathers_own ++ walk_own) refl own_types))
-        (b.budget (length building)) rows (b.gathered stoods are).few (b.walked stoods are none) w h Told (b.told_walked stoods are none) 12 Answered finish_block
-        (λ w' done. Ends-weaker 12 12 (HasSettled layout tables query rows) Answered Never Never Told Told (meaning most fuel finish_block w') (omega arith)
-        (λ t left. record { stoods = stoods; are = are; none = none; none_behind = left.none; settled = left.settled; rows = left.same }) (λ t x. x) (λ code x. x)
-        (settle_ends layout tables limit others are_ready small T columns texts words table_of laid texts_are utf8 small_words most fuel N u types s0 begun query kinds_are (b.walked stoods are none).fits Told (groups_paid u group (b.budget (length building)) rows) rows w' done))
-
-    pub grouped_ends : Ends (size whole * N) Answered Never Told (meaning most fuel whole first)
-    grouped_ends =
-        let B : ℕ = size (builds_block T 0 builds) in
-        let G : ℕ = size (build_block T (length building) gathers) in
-        let W : ℕ = size walk in
-        let a : ℕ = 7 + (size leads + size sets) + 18 in
-        Ends-more Answered Never Told (7 + (size leads + (size sets + (B * N + (G * N + (6 + (W * N + 12))))))) (size whole * N) (meaning most fuel whole first)
-        (omega (arith, add-mul a (B + (G + W)) N, add-mul B (G + W) N, add-mul G W N, at_least a N b.some))
-        (front_then layout tables limit others are_ready small T columns texts words table_of laid texts_are utf8 small_words most fuel N u types leads sets leads_all sets_all b.some turns b.u_low declared building gathering group together.can fields field_kinds is_select table_is room_T
-        builds gathers builds_own gathers_own walk_own built gathered (omega (arith, own_room)) own_types Told b.budget b.reached b.told b.gathered b.told_gathered (6 + (W * N + 12)) Answered (seq begin_block (seq walk finish_block)) walks_end)
+  pub grouped_ends : Ends (size (around S Told j rest) * N) Answered Never Told (meaning most N (around S Told j rest) (first S))
+  grouped_ends =
+      joins_then S Told j (size rest * N) Answered rest (omega arith) (λ t h.
+      both_end most N N Answered (GatheredBy S Told j t h g.group g.fields g.gathering) Told (gather_block guard T g.group.table g.gathers) tail t
+      (gathers_end S Told j t h guard is_guard g together.can (gathered h.stoods h.are) (told_gathered h.stoods h.are) (λ counts. fewer counts h.stoods h.are)) (λ w after. tail_ends t h w after))

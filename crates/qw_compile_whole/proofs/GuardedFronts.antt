@@ -1,52 +1,33 @@
--- The run of a grouped query's statement up to its groups, whatever follows, whether its rows are counted or not: where they are, they are few.
-use Rattle.std.proofs.Common.{◌≡◌, ℕ, suc, ◌+◌, ◌*◌, ◌^◌, ◌&&◌, ◌<◌, ◌≤◌, nat_le, Bool, true, false, if◌then◌else◌, IsUtf8, Option, Some, None, List, [], ◌∷◌, ◌++◌, length, map, slice_get, refl, sym, ap, subst, arith}
-use Rattle.std.specs.List.{AllByRecursion, concat}
-use Rattle.std.proofs.Math.Nat.{add-mul}
+-- The scan whose rows go into groups, behind the tables of joins, whether its rows are counted or not. Where they are counted and few, they all go into groups;
+-- where they are many, it takes as many instructions as rows are taken, and stops (ISO/IEC 9075:1992, 7.7).
+use Rattle.std.proofs.Common.{◌≡◌, ℕ, ◌+◌, ◌*◌, ◌^◌, ◌&&◌, ◌<◌, ◌≤◌, nat_le, Bool, true, false, if◌then◌else◌, Option, Some, None, List, [], length, slice_get, slice_set, refl, sym, ap, subst, arith}
 use Rattle.qw_types.specs.declared.value.Val.{Val}
-use Rattle.qw_linear.specs.Memory.{page}
-use Rattle.qw_map.specs.Layout.{Layout, descriptor_size, entry_offset}
-use Rattle.qw_module.specs.declared.instruction.ValType.{ValType}
+use Rattle.qw_map.proofs.TurnFacts.{slice_get-set_same}
 use Rattle.qw_module.specs.declared.instruction.ValType.TheVariants.{I32, I64}
-use Rattle.qw_scalar.specs.Typing.{kind_of}
-use Rattle.qw_low.specs.Syntax.{Statement, seq}
-use Rattle.qw_low.specs.State.{Cells, LowState}
-use Rattle.qw_low.specs.Begin.{first_state, cells_of}
+use Rattle.qw_low.specs.Syntax.{Statement}
+use Rattle.qw_low.specs.State.{Number, LowState}
 use Rattle.qw_low.specs.Meaning.{meaning}
 use Rattle.qw_low.specs.Promise.{Ends}
 use Rattle.qw_low.specs.Size.{size}
-use Rattle.qw_low.proofs.Results.{at_least}
-use Rattle.qw_feed.specs.Cells.{kinds_of}
+use Rattle.qw_low.proofs.Promises.{Ends-weaker}
 use Rattle.qw_feed.specs.Feeds.{Tells}
-use Rattle.qw_feed.specs.Room.{space_block}
 use Rattle.qw_feed.proofs.Frames.{Never}
-use Rattle.qw_expr.specs.Computes.{Known, AreDeclared}
-use Rattle.qw_read.specs.Constants.{IsSmall, SetsAll}
-use Rattle.qw_read.specs.Reading.{known_of}
-use Rattle.qw_read.specs.Texts.{LeadsToAll}
-use Rattle.qw_read.specs.declared.constant.Word.{Word}
-use Rattle.qw_table.specs.Joins.{sources_of}
-use Rattle.qw_table.specs.declared.key.Field.{Field}
-use Rattle.qw_physical.specs.Physical.{Pipeline, select}
-use Rattle.qw_physical.specs.declared.pipeline.ReadColumn.{ReadColumn}
+use Rattle.qw_limit.specs.Counting.{EndsOrTakes}
 use Rattle.qw_operator.specs.Carries.{directory}
-use Rattle.qw_operator.proofs.CarriedTyped.{AreLed, IsReaderDeclared}
-use Rattle.qw_operator.proofs.Promised.{AreOwn}
-use Rattle.qw_operator.proofs.Stood.{Stood}
-use Rattle.qw_emit.specs.RunsOf.{first_locals}
-use Rattle.qw_emit.proofs.ModuleCompiled.{AreReady}
-use Rattle.qw_emit.proofs.SeenTexts.{shown}
+use Rattle.qw_operator.proofs.CarriedTyped.{AreLed}
+use Rattle.qw_physical.specs.Physical.{Pipeline}
+use Rattle.qw_table.specs.declared.key.Field.{Field}
 use Rattle.qw_group_sink.specs.Grouping.{CanGroup, Group}
-use Rattle.qw_compile.specs.QueryLocals.{own_start, query_readers}
-use Rattle.qw_compile.specs.Statements.{AreCourses, Course, build_block, builds_block}
-use Rattle.qw_compile.proofs.LocalsPlaced.{literal_count, literals_known, texts_placed, words_placed}
-use Rattle.qw_compile.proofs.PipelineRuns.{AreStood, Grounds, fed_over, readers_of}
-use Rattle.qw_compile.proofs.QueryRuns.{AreLaid, IsBegun, Reach}
+use Rattle.qw_compile.specs.Statements.{build_block}
+use Rattle.qw_compile.proofs.PipelineRuns.{fed_over}
+use Rattle.qw_compile.proofs.QueryRuns.{GroundsAt, Joined, Joins, Setting, base, c, grounds, literals, many, n, own_first, source_of, types}
 use Rattle.qw_compile_whole.specs.GuardedStatements.{IsGatheringBy, gather_block, guard_for}
-use Rattle.qw_compile_whole.proofs.FirstBounded.{first_of}
-use Rattle.qw_compile_whole.proofs.FrontEnds.{front_then}
-use Rattle.qw_compile_whole.proofs.Gathered.{AreGathered}
+use Rattle.qw_compile_whole.proofs.FirstBounded.{FirstReach, first_of}
+use Rattle.qw_compile_whole.proofs.FirstGathered.{AreFirst, between_put, first_counts, first_ends}
+use Rattle.qw_compile_whole.proofs.FrontEnds.{Collects, directory_declared, local_low, number_is, readers_declared, stood_low}
+use Rattle.qw_compile_whole.proofs.Gathered.{AreGathered, gather_ends}
 use Rattle.qw_compile_whole.proofs.GroupBounded.{GatherReach, rows_met}
-use Rattle.qw_compile_whole.proofs.GuardedEnds.{few_then}
+use Rattle.qw_compile_whole.proofs.LongFronts.{Nowhere, counted, counted_few, counted_many}
 
 -- rows are counted in local 4, or not at all
 abbrev pub IsGuard : Option ℕ → Type 0
@@ -60,69 +41,75 @@ guard_is t f = either (nat_le 3 t && nat_le 1 f)
     either true = refl
     either false = tt
 
--- what the scan takes, where it takes no more than so many times its size
-abbrev pub gather_cost : Option ℕ → (scan N : ℕ) → ℕ
-gather_cost None g N = g * N
-gather_cost (Some z) g N = 2 + (g * N + 3)
+module _ (S : Setting) (Told : ℕ → Type 0) (j : Joins S Told) (t : LowState) (h : Joined S Told j t) where
+  open S use {T, columns, tables, table_of, most, N, u}
 
-pub gather_paid : (guard : Option ℕ) (t table : ℕ) (c : Course) (N : ℕ) → 1 ≤ N → gather_cost guard (size (build_block t table c)) N ≤ size (gather_block guard t table c) * N
-gather_paid None t table c N some = omega arith
-gather_paid (Some z) t table c N some = let G : ℕ = size (build_block t table c) in omega (arith, add-mul 7 G N, at_least 7 N some)
+  abbrev budget : ℕ
+  budget = j.budget (length j.building)
 
-module _ (layout : Layout) (tables : List (List (List Val))) (limit others : ℕ) (are_ready : AreReady layout tables limit) (small : descriptor_size layout ≤ page) (T : ℕ) (columns : List ReadColumn) (texts : List (List ℕ)) (words : List Word) (table_of : ℕ → ℕ)
-    (laid : AreLaid table_of layout.columns columns) (texts_are : layout.literals ≡ concat texts) (utf8 : AllByRecursion IsUtf8 texts) (small_words : AllByRecursion IsSmall words) (most fuel N u : ℕ) (types : List ValType) where
-  abbrev n : ℕ
-  n = literal_count texts words
+  abbrev pub GatheredBy : Group → List Field → Pipeline → LowState → Type 0
+  GatheredBy group fields gathering w = AreGathered T (n S) (c S) (base S) u h.s0 group fields (j.budget (length j.building)) (rows_met tables h.stoods gathering) w × ((fed_over tables h.stoods gathering).codes ≡ [])
 
-  abbrev at : ℕ
-  at = entry_offset (length layout.columns)
+  ground : GroundsAt S h.s0
+  ground = grounds S h.s0 h.begun
 
-  abbrev literals : List Known
-  literals = literals_known T at texts words
+  -- ---- counted
+  module _ (top z : ℕ) (is : z ≡ 4) (few_top : top ≤ 10 ^ 18) (counted_top : top < 2 ^ 64) (g : Collects S Told j (IsGatheringBy (Some z))) (can : CanGroup g.group) (r : FirstReach T (n S) columns (literals S) tables u most N table_of g.group h.stoods g.gathering (j.budget (length j.building)))
+      (told : (raised : ℕ) → Tells (fed_over tables h.stoods g.gathering).codes raised → Told raised) where
+    abbrev scan : Statement
+    scan = build_block T g.group.table g.gathers
 
-  abbrev base : ℕ
-  base = descriptor_size layout
+    abbrev put : LowState
+    put = record t { locals = slice_set t.locals z (Number top) }
 
-  abbrev first : LowState
-  first = first_state layout tables limit (first_locals others)
+    place : (3 ≤ z) × (z ≤ 4)
+    place = (omega (arith, is), omega (arith, is))
 
-  abbrev c : Cells
-  c = shown base (cells_of layout tables)
+    low : z < length t.locals
+    low = local_low S Told j (IsGatheringBy (Some z)) g t h z place.1
 
-  abbrev many : ℕ
-  many = suc others
+    number : g.group.table ≡ length h.stoods
+    number = number_is S Told j (IsGatheringBy (Some z)) g t h
 
-  abbrev own_first : ℕ
-  own_first = own_start T n (length columns)
+    stood_T : length h.stoods < T
+    stood_T = stood_low S Told j (IsGatheringBy (Some z)) g t h
 
-  module _ (leads sets : Statement) (leads_all : LeadsToAll (texts_placed T at texts) leads) (sets_all : SetsAll (words_placed T (length texts) words) sets) (some : 1 ≤ N) (turns : N ≤ fuel) (u_low : u ≤ page) (declared : AreDeclared types (literals ++ map known_of (query_readers T n columns)))
-      (building : List Pipeline) (gathering : Pipeline) (group : Group) (can : CanGroup group) (fields : List Field) (field_kinds : kinds_of (sources_of fields) ≡ map kind_of group.values) (is_select : gathering.sink ≡ select group.values) (table_is : group.table ≡ length building) (room_T : length building < T)
-      (builds : List Course) (gathers : Course) (builds_own gathers_own later_own : List ValType) (built : AreCourses literals (query_readers T n columns) own_first building builds builds_own)
-      (own_room : own_first + length builds_own + length gathers_own ≤ many) (own_types : AreOwn types own_first (builds_own ++ (gathers_own ++ later_own))) (Told : ℕ → Type 0)
-      (page_is : slice_get types 0 ≡ Some I32) (free_is : slice_get types 1 ≡ Some I32) (left_is : slice_get types 2 ≡ Some I32) (count_is : slice_get types 4 ≡ Some I64) (directory_is : slice_get types (directory group.table) ≡ Some I32)
-      (readers_declared : AllByRecursion (IsReaderDeclared types) (readers_of T n columns gathering.entry)) (led : AreLed types gathering.operators) (budget : ℕ → ℕ)
-      (reached : (front : List Pipeline) (p : Pipeline) (back : List Pipeline) (stoods : List Stood) → building ≡ front ++ p ∷ back → AreStood tables [] front stoods → Reach T n columns literals tables u most N table_of stoods p (budget (length front)) (budget (suc (length front))))
-      (told : (front : List Pipeline) (p : Pipeline) (back : List Pipeline) (stoods : List Stood) → building ≡ front ++ p ∷ back → AreStood tables [] front stoods → (raised : ℕ) → Tells (fed_over tables stoods p).codes raised → Told raised)
-      (gather : (stoods : List Stood) → AreStood tables [] building stoods → GatherReach T n columns literals tables u most N table_of group stoods gathering (budget (length building)))
-      (told_gather : (stoods : List Stood) → AreStood tables [] building stoods → (raised : ℕ) → Tells (fed_over tables stoods gathering).codes raised → Told raised) (m : ℕ) (P : LowState → Type 0) (rest : Statement)
-      (onward : (s0 : LowState) (begun : IsBegun layout tables limit others are_ready small T columns texts words table_of laid texts_are utf8 small_words most fuel N u types s0) → Grounds T n columns literals c base u fuel N many types s0 → (stoods : List Stood) → AreStood tables [] building stoods →
-      (fed_over tables stoods gathering).codes ≡ [] → (w : LowState) → AreGathered T n c base u s0 group fields (budget (length building)) (rows_met tables stoods gathering) w → Ends m P Never Told (meaning most fuel rest w)) where
-    pub front_by : (guard : Option ℕ) → IsGuard guard → IsGatheringBy guard literals (query_readers T n columns) (own_first + length builds_own) gathering group fields gathers gathers_own →
-        (guard ≡ Some 4 → (stoods : List Stood) → AreStood tables [] building stoods → length (rows_met tables stoods gathering) < 10 ^ 18) →
-        Ends (7 + (size leads + (size sets + (size (builds_block T 0 builds) * N + (gather_cost guard (size (build_block T (length building) gathers)) N + m))))) P Never Told
-        (meaning most fuel (seq (space_block base) (seq leads (seq sets (seq (builds_block T 0 builds) (seq (gather_block guard T (length building) gathers) rest))))) first)
-    front_by None is gathered fewer =
-        front_then layout tables limit others are_ready small T columns texts words table_of laid texts_are utf8 small_words most fuel N u types leads sets leads_all sets_all some turns u_low declared building gathering group can fields field_kinds is_select table_is room_T
-        builds gathers builds_own gathers_own later_own built gathered own_room own_types Told budget reached told gather told_gather m P rest onward
-    front_by (Some z) is gathered fewer =
-        few_then layout tables limit others are_ready small T columns texts words table_of laid texts_are utf8 small_words most fuel N u types leads sets leads_all sets_all some turns u_low declared building gathering group can fields field_kinds is_select table_is room_T
-        builds gathers builds_own gathers_own later_own built (10 ^ 18) z (omega arith) (omega arith) gathered own_room own_types Told (omega (arith, is), omega (arith, is)) page_is free_is left_is (subst (λ (k : ℕ). slice_get types k ≡ Some I64) (sym is) count_is) directory_is readers_declared led
-        (record {
-          some = some;
-          u_low = u_low;
-          budget = budget;
-          reached = reached;
-          told = told;
-          gathered = λ stoods stood. first_of T n columns literals tables u most N table_of group stoods gathering (budget (length building)) (gather stoods stood);
-          told_gathered = told_gather;
-        }) (fewer (ap (λ (k : ℕ). let o : Option ℕ = Some k in o) is)) m P rest onward
+    in_types : slice_get (types S) (directory g.group.table) ≡ Some I32
+    in_types = directory_declared S Told j (IsGatheringBy (Some z)) g
+
+    z_is : slice_get (types S) z ≡ Some I64
+    z_is = subst (λ (k : ℕ). slice_get (types S) k ≡ Some I64) (sym is) refl
+
+    scans : Ends (size scan * N) (λ w. AreFirst T (n S) (c S) (base S) u h.s0 g.group g.fields budget top z (rows_met tables h.stoods g.gathering) w × ((fed_over tables h.stoods g.gathering).codes ≡ [])) Never (Tells (fed_over tables h.stoods g.gathering).codes) (meaning most N scan put)
+    scans =
+        first_ends T (n S) columns (literals S) tables (c S) (base S) u most N N (many S) (types S) h.s0 ground table_of h.stoods g.gathering g.group g.is_select can number stood_T g.fields g.field_kinds g.gathers (own_first S + length j.builds_own) g.own (omega arith) g.room top z counted_top few_top
+        g.is g.types_are (source_of S h.s0 h.begun g.gathering r.table_is r.has_column) budget r place refl refl z_is in_types put
+        (between_put T (n S) columns (literals S) tables (c S) (base S) u most N N (many S) (types S) h.s0 ground z place h.stoods (omega (arith, stood_T)) budget (Number top) t h.between)
+        (slice_get-set_same t.locals z (Number top) low)
+
+    abbrev AreIn : List (List Val) → LowState → Type 0
+    AreIn rows w = AreGathered T (n S) (c S) (base S) u h.s0 g.group g.fields (j.budget (length j.building)) rows w
+
+    pub gathers_few : length (rows_met tables h.stoods g.gathering) < top → Ends (size (counted top z scan) * N) (GatheredBy g.group g.fields g.gathering) Never Told (meaning most N (counted top z scan) t)
+    gathers_few fewer = counted_few most N top z S.some scan t low AreIn (fed_over tables h.stoods g.gathering) Told told scans fewer
+
+    pub gathers_many : AreLed (types S) g.gathering.operators → top ≤ length (rows_met tables h.stoods g.gathering) → (R : ℕ → Type 0) → R 1 → EndsOrTakes top (size (counted top z scan) * N) Nowhere Nowhere Never Told R (meaning most N (counted top z scan) t)
+    gathers_many led more R stops =
+        counted_many most N top z S.some scan t low AreIn (fed_over tables h.stoods g.gathering) Told told scans
+        (first_counts T (n S) columns (literals S) tables (c S) (base S) u most N N (many S) (types S) h.s0 ground table_of h.stoods g.gathering g.group g.is_select can number stood_T g.fields g.field_kinds g.gathers (own_first S + length j.builds_own) g.own (omega arith) g.room top z counted_top few_top
+        g.is g.types_are (source_of S h.s0 h.begun g.gathering r.table_is r.has_column) budget r place refl refl z_is in_types refl
+        (readers_declared S Told j (IsGatheringBy (Some z)) g) led)
+        counted_top more R stops
+
+  -- ---- counted or not
+  pub gathers_end : (guard : Option ℕ) → IsGuard guard → (g : Collects S Told j (IsGatheringBy guard)) → CanGroup g.group → GatherReach T (n S) columns (literals S) tables u most N table_of g.group h.stoods g.gathering (j.budget (length j.building)) →
+      ((raised : ℕ) → Tells (fed_over tables h.stoods g.gathering).codes raised → Told raised) → (guard ≡ Some 4 → length (rows_met tables h.stoods g.gathering) < 10 ^ 18) →
+      Ends (size (gather_block guard T g.group.table g.gathers) * N) (GatheredBy g.group g.fields g.gathering) Never Told (meaning most N (gather_block guard T g.group.table g.gathers) t)
+  gathers_end None is g can r told fewer =
+      Ends-weaker (size (build_block T g.group.table g.gathers) * N) (size (build_block T g.group.table g.gathers) * N) (GatheredBy g.group g.fields g.gathering) (GatheredBy g.group g.fields g.gathering)
+      Never Never (Tells (fed_over tables h.stoods g.gathering).codes) Told (meaning most N (build_block T g.group.table g.gathers) t) (omega arith) (λ w x. x) (λ w x. x) told
+      (gather_ends T (n S) columns (literals S) tables (c S) (base S) u most N N (many S) (types S) h.s0 ground table_of h.stoods g.gathering g.group g.is_select can (number_is S Told j (IsGatheringBy None) g t h) (stood_low S Told j (IsGatheringBy None) g t h) g.fields g.field_kinds g.gathers (own_first S + length j.builds_own) g.own (omega arith) g.room
+      g.is g.types_are (source_of S h.s0 h.begun g.gathering r.table_is r.has_column) budget r t h.between)
+  gathers_end (Some z) is g can r told fewer =
+      gathers_few (10 ^ 18) z is (omega arith) (omega arith) g can (first_of T (n S) columns (literals S) tables u most N table_of g.group h.stoods g.gathering budget r) told
+      (fewer (ap (λ (k : ℕ). let o : Option ℕ = Some k in o) is))

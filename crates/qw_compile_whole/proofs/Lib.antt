@@ -46,7 +46,6 @@ pub mod GroupedReady
 pub mod GroupedStands
 mod GroupedTyped
 pub mod GuardedCompiled
-pub mod GuardedEnds
 pub mod GuardedFronts
 mod HeldGroups
 mod HeldRows
@@ -80,7 +79,7 @@ pub mod Widened
 pub mod FieldCounts
 pub mod FirstTaken
 pub mod FirstTakenBounded
-pub mod SingleLong
+pub mod TakenFronts
 pub mod SingleLongCompiled
 pub mod SinglePlacing
 pub mod SingleStands

@@ -1,14 +1,27 @@
 -- Runs that stop where a local is 0, and by then are long: what may stand before such a stop, and behind it.
-use Rattle.std.proofs.Common.{◌≡◌, ℕ, suc, ◌+◌, inl, inr, ◌==◌, false, Some, slice_get, refl, sym, ap, ◌∙◌, arith}
+use Rattle.std.proofs.Common.{◌≡◌, ℕ, suc, ◌+◌, ◌-◌, ◌*◌, ◌^◌, ◌<◌, ◌≤◌, inl, inr, ◌==◌, false, Some, List, [], length, slice_get, slice_set, take, refl, sym, ap, ◌∙◌, subst, arith}
 use Rattle.std.proofs.lemmas.Bool.{eqb-true, false_from_ne_true}
+use Rattle.std.proofs.lemmas.List.{take_all}
+use Rattle.std.proofs.Math.Nat.{add-mul}
+use Rattle.qw_types.specs.declared.value.Val.{Val}
+use Rattle.qw_meaning.specs.Flow.{Flow}
+use Rattle.qw_map.proofs.TurnFacts.{slice_get-set_same}
+use Rattle.qw_module.specs.declared.instruction.Const.TheVariants as const
 use Rattle.qw_module.specs.declared.instruction.ValType.TheVariants.{I64}
-use Rattle.qw_low.specs.Syntax.{Statement, is_zero, local, raise, seq, skip}
+use Rattle.qw_low.specs.Syntax.{Statement, assign, constant_of, is_zero, local, raise, seq, skip}
 use Rattle.qw_low.specs.State.{Number, LowState}
 use Rattle.qw_low.specs.Meaning.{Outcome, Completed, Exited, Stopped, Wrong, Unfinished, and_then, counting, meaning, value}
 use Rattle.qw_low.specs.Promise.{Ends}
-use Rattle.qw_low.proofs.Promises.{conditional_ends}
+use Rattle.qw_low.specs.Size.{size}
+use Rattle.qw_low.proofs.Promises.{Ends-more, Ends-then, Ends-weaker, assign_ends, conditional_ends}
+use Rattle.qw_low.proofs.Results.{at_least}
+use Rattle.qw_feed.specs.Feeds.{Tells}
+use Rattle.qw_feed.specs.Room.{space_block}
 use Rattle.qw_feed.proofs.Frames.{Never}
-use Rattle.qw_limit.specs.Counting.{EndsOrTakes}
+use Rattle.qw_limit.specs.Counting.{CountsDown, EndsOrTakes}
+use Rattle.qw_limit.proofs.LongRuns.{counted_then, or_takes_more, or_takes_then, set_then}
+use Rattle.qw_compile.specs.Statements.{builds_block}
+use Rattle.qw_compile.proofs.QueryRuns.{Joined, Joins, Setting, around, base, first, joins_then}
 use Rattle.qw_compile_whole.specs.GuardedStatements.{stop_at}
 
 -- ---- of statements one behind another, the first ones and the others
@@ -80,3 +93,62 @@ never_then least most P Q R S Wrong f (inl h) = absurd h
 never_then least most P Q R S Wrong f (inr h) = absurd h.0
 never_then least most P Q R S Unfinished f (inl h) = absurd h
 never_then least most P Q R S Unfinished f (inr h) = absurd h.0
+
+pub takes_then : (most fuel top N : ℕ) (P Q : LowState → Type 0) (R S : ℕ → Type 0) (a b : Statement) (s : LowState) → EndsOrTakes top (size a * N) Nowhere Nowhere Never R S (meaning most fuel a s) → EndsOrTakes top (size (seq a b) * N) P Q Never R S (meaning most fuel (seq a b) s)
+takes_then most fuel top N P Q R S a b s long =
+    or_takes_more P Q Never R S top top (size a * N) (size (seq a b) * N) (meaning most fuel (seq a b) s) (omega arith) (omega (arith, add-mul (size a) (size b) N))
+    (never_then top (size a * N) P Q R S (meaning most fuel a s) (meaning most fuel b) long)
+
+-- behind the tables of joins
+pub joins_or_takes : (S : Setting) (Told : ℕ → Type 0) (j : Joins S Told) (top : ℕ) (P Q : LowState → Type 0) (R : ℕ → Type 0) (rest : Statement) →
+    ((t : LowState) → Joined S Told j t → EndsOrTakes top (size rest * S.N) P Q Never Told R (meaning S.most S.N rest t)) → EndsOrTakes top (size (around S Told j rest) * S.N) P Q Never Told R (meaning S.most S.N (around S Told j rest) (first S))
+joins_or_takes S Told j top P Q R rest onward =
+    let front : Statement = around S Told j skip in
+    let whole : Statement = around S Told j rest in
+    subst (λ (out : Outcome). EndsOrTakes top (size whole * S.N) P Q Never Told R out) (sym (four_apart S.most S.N (space_block (base S)) S.leads S.sets (builds_block S.T 0 j.builds) rest (first S)))
+    (or_takes_more P Q Never Told R top top (size front * S.N + size rest * S.N) (size whole * S.N) (meaning S.most S.N (seq front rest) (first S)) (omega arith) (omega (arith, add-mul (size front) (size rest) S.N))
+    (or_takes_then P Q Never Told R S.most S.N top (size front * S.N) (size rest * S.N) (Joined S Told j) front rest (first S) (joins_then S Told j 0 (Joined S Told j) skip (omega arith) (λ t h. (omega arith, h))) onward))
+
+-- ---- a scan whose rows are counted
+-- the local is set, and the stop is behind the scan
+abbrev pub counted : (top z : ℕ) → Statement → Statement
+counted top z scan = seq (assign z (constant_of (const.I64 top))) (seq scan (stop_at (Some z)))
+
+-- it takes the first rows, as `AreIn` says of them, and the local says how many may still come
+module _ (most N top z : ℕ) (some : 1 ≤ N) (scan : Statement) (t : LowState) (low : z < length t.locals) (AreIn : List (List Val) → LowState → Type 0) (flow : Flow (List Val)) (Told : ℕ → Type 0) (told : (raised : ℕ) → Tells flow.codes raised → Told raised)
+    (scans : Ends (size scan * N) (λ w. (AreIn (take top flow.rows) w × (slice_get w.locals z ≡ Some (Number (top - length flow.rows)))) × (flow.codes ≡ [])) Never (Tells flow.codes) (meaning most N scan (record t { locals = slice_set t.locals z (Number top) }))) where
+  abbrev put : LowState
+  put = record t { locals = slice_set t.locals z (Number top) }
+
+  abbrev Mid : LowState → Type 0
+  Mid w = (AreIn (take top flow.rows) w × (slice_get w.locals z ≡ Some (Number (top - length flow.rows)))) × (flow.codes ≡ [])
+
+  abbrev All : LowState → Type 0
+  All w = AreIn flow.rows w × (flow.codes ≡ [])
+
+  mid_ends : Ends (size scan * N) Mid Never Told (meaning most N scan put)
+  mid_ends = Ends-weaker (size scan * N) (size scan * N) Mid Mid Never Never (Tells flow.codes) Told (meaning most N scan put) (omega arith) (λ v x. x) (λ v x. x) told scans
+
+  -- fewer are all taken
+  pub counted_few : length flow.rows < top → Ends (size (counted top z scan) * N) All Never Told (meaning most N (counted top z scan) t)
+  counted_few fewer =
+      let left : top - length flow.rows ≡ suc (top - length flow.rows - 1) = omega (arith, fewer) in
+      let whole : take top flow.rows ≡ flow.rows = take_all top flow.rows (omega (arith, fewer)) in
+      Ends-more All Never Told (2 + (size scan * N + 3)) (size (counted top z scan) * N) (meaning most N (counted top z scan) t) (omega (arith, add-mul 7 (size scan) N, at_least 7 N some))
+      (Ends-then All Never Told 2 (size scan * N + 3) (λ w. w ≡ put) (meaning most N (assign z (constant_of (const.I64 top))) t) (meaning most N (seq scan (stop_at (Some z))))
+      (assign_ends (λ w. w ≡ put) Never Told most N z (constant_of (const.I64 top)) (Number top) t refl low refl)
+      (λ w is. subst (λ (v : LowState). Ends (size scan * N + 3) All Never Told (meaning most N (seq scan (stop_at (Some z))) v)) (sym is)
+      (Ends-then All Never Told (size scan * N) 3 Mid (meaning most N scan put) (meaning most N (stop_at (Some z))) mid_ends
+      (λ v mid. stop_passes most N z v All Never Told (top - length flow.rows - 1) (mid.0.1 ∙ ap (λ (m : ℕ). Some (Number m)) left)
+      (subst (λ (xs : List (List Val)). AreIn xs v) whole mid.0.0, mid.1)))))
+
+  -- so many are counted, and it is over
+  pub counted_many : CountsDown z scan → top < 2 ^ 64 → top ≤ length flow.rows → (S : ℕ → Type 0) → S 1 → EndsOrTakes top (size (counted top z scan) * N) Nowhere Nowhere Never Told S (meaning most N (counted top z scan) t)
+  counted_many counts few_top more S stops =
+      let none : top - length flow.rows ≡ 0 = omega (arith, more) in
+      or_takes_more Nowhere Nowhere Never Told S top top (2 + (size scan * N + 5)) (size (counted top z scan) * N) (meaning most N (counted top z scan) t) (omega arith) (omega (arith, add-mul 7 (size scan) N, at_least 7 N some))
+      (set_then Nowhere Nowhere Never Told S most N z top top (size scan * N + 5) (seq scan (stop_at (Some z))) t low
+      (counted_then Nowhere Nowhere Never Told S most N z top (size scan * N) 5 Mid scan (stop_at (Some z)) put counts few_top (slice_get-set_same t.locals z (Number top) low) mid_ends
+      (λ v mid.
+      let zeroth : slice_get v.locals z ≡ Some (Number 0) = mid.0.1 ∙ ap (λ (m : ℕ). Some (Number m)) none in
+      inr (zeroth, stop_stops most N z v Nowhere Never S zeroth stops))))
