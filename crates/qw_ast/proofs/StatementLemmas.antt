@@ -1,10 +1,9 @@
 -- The statements of a text: what the loops of src/statement.rt keep.
-use Rattle.std.proofs.Common.{◌≡◌, ℕ, suc, ◌+◌, ◌-◌, ◌<◌, ◌≤◌, Bool, true, false, cond, List, [], ◌∷◌, ◌++◌, length, map, take, drop, drop-cons, get_or, refl, sym, ap, ◌∙◌, arith, inl, inr, append_assoc}
+use Rattle.std.proofs.Common.{◌≡◌, ℕ, suc, ◌+◌, ◌-◌, ◌<◌, ◌≤◌, true, false, List, [], ◌∷◌, ◌++◌, length, map, take, drop, drop-cons, get_or, refl, sym, ap, ◌∙◌, arith, inl, inr, append_assoc}
 use Rattle.std.specs.Prelude.{eqb}
 use Rattle.std.specs.Borrow.{Bor}
 use Rattle.std.proofs.lemmas.Bool.{cases_Bool, eqb-true, false≢true}
 use Rattle.std.proofs.lemmas.List.{append-nil, length-map, take_more}
-use Rattle.std.proofs.lemmas.Slice.{between_to_end}
 use Rattle.qw_token.specs.declared.token.Token.{Token}
 use Rattle.qw_token.specs.Token.{Lexeme, lexeme, lexemes}
 use Rattle.qw_ast.specs.SchemaGrammar.{is_semicolon, statements, before_first}
@@ -21,40 +20,12 @@ is_no_list (x ∷ xs) le = absurd (omega (arith, le))
 
 -- ---- the first statement
 
--- what the loop keeps of the first i tokens
-abbrev pub CutAt : List Token → ℕ → Type 0
-CutAt ts i = cut (lexemes ts) ≡ (lexemes (take i ts) ++ (cut (lexemes (drop i ts))).0, (cut (lexemes (drop i ts))).1)
-
-cut_next : (ts : List Token) (i : ℕ) (d : Token) (b : Bool) → i < length ts → b ≡ is_semicolon (lexeme (get_or ts i d))
-    → cut (lexemes (drop i ts)) ≡ cond b ([], lexemes (drop (i + 1) ts)) (lexeme (get_or ts i d) ∷ (cut (lexemes (drop (i + 1) ts))).0, (cut (lexemes (drop (i + 1) ts))).1)
-cut_next ts i d b lt is =
-    ap (λ (x : List Token). cut (lexemes x)) (drop_next ts i d lt)
-    ∙ ap (λ b. cond b ([], lexemes (drop (i + 1) ts)) (lexeme (get_or ts i d) ∷ (cut (lexemes (drop (i + 1) ts))).0, (cut (lexemes (drop (i + 1) ts))).1)) (sym is)
-
-pub cut_ends : (ts : List Token) (i : ℕ) (d : Token) → i < length ts → true ≡ is_semicolon (lexeme (get_or ts i d)) → CutAt ts i → (lexemes (take i ts), lexemes (take (length ts - (i + 1)) (drop (i + 1) ts))) ≡ cut (lexemes ts)
-cut_ends ts i d lt is before =
-    sym (
-    before
-    ∙ ap (λ (y : List Lexeme × List Lexeme). (lexemes (take i ts) ++ y.0, y.1)) (cut_next ts i d true lt is)
-    ∙ ap (λ x. (x, lexemes (drop (i + 1) ts))) (append-nil (lexemes (take i ts)))
-    ∙ ap (λ (x : List Token). (lexemes (take i ts), lexemes x)) (sym (between_to_end ts (i + 1) (length ts) (omega arith)))
-    )
-
 lexemes_push : (ts : List Token) (t : Token) → lexemes (ts ++ t ∷ []) ≡ lexemes ts ++ lexeme t ∷ []
 lexemes_push [] t = refl
 lexemes_push (u ∷ us) t = ap (λ x. lexeme u ∷ x) (lexemes_push us t)
 
 take_next : {X : Type 0} (xs : List X) (i : ℕ) (d : X) → i < length xs → take (i + 1) xs ≡ take i xs ++ get_or xs i d ∷ []
 take_next xs i d lt = take_more xs i d lt
-
-pub cut_goes_on : (ts : List Token) (i : ℕ) (d : Token) → i < length ts → false ≡ is_semicolon (lexeme (get_or ts i d)) → CutAt ts i → CutAt ts (i + 1)
-cut_goes_on ts i d lt is before =
-    let t = lexeme (get_or ts i d) in
-    let rest = cut (lexemes (drop (i + 1) ts)) in
-    before
-    ∙ ap (λ (y : List Lexeme × List Lexeme). (lexemes (take i ts) ++ y.0, y.1)) (cut_next ts i d false lt is)
-    ∙ ap (λ x. (x, rest.1)) (sym (append_assoc (lexemes (take i ts)) (t ∷ []) rest.0))
-    ∙ ap (λ x. (x ++ rest.0, rest.1)) (sym (ap (λ (x : List Token). lexemes x) (take_next ts i d lt) ∙ lexemes_push (take i ts) (get_or ts i d)))
 
 -- the first statement stands before the others
 pub statements_cut : (t : Lexeme) (ts : List Lexeme) → statements (t ∷ ts) ≡ (cut (t ∷ ts)).0 ∷ statements (cut (t ∷ ts)).1

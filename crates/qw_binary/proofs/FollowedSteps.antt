@@ -98,13 +98,6 @@ module _ (body : Sequences) (ended labels : ℕ) (a : Around) (outer : List Arou
   number : length (take ended body.each) ≡ ended
   number = length-take-le ended body.each (omega (arith, there))
 
-  pub inner_dead : ((type : Option ValType) (n : ℕ) → opener_of a.opener ≡ first type → x ≡ i.If type ended (Some n) → ⊥) → (x ≡ instruction_of (opener_of a.opener) ended → ⊥) → IsDead body (goes_on (here body ended labels (a ∷ outer) ended place))
-  inner_dead no_other no_end = dead body (here body ended labels (a ∷ outer) ended place) (λ r f t.
-      elim (here_inner body ended labels a outer ended place stands past r f x at t) [
-        | inl h ↦ no_end (subst (λ (n : ℕ). x ≡ instruction_of (opener_of a.opener) n) number h.0)
-        | inr h ↦ let (type, n, opened, is, goes) = h in no_other type n opened (subst (λ (m : ℕ). x ≡ i.If type m (Some n)) number is)
-      ])
-
   made_if : (s : Option ValType) (o : Opener) (n m : ℕ) → o ≡ first s → x ≡ instruction_of o n → x ≡ i.If s ended (Some m) → ⊥
   made_if s o n m e h k = let it : x ≡ i.If s n None = h ∙ ap (λ (p : Opener). instruction_of p n) e in cc
 
@@ -201,18 +194,11 @@ module _ (body : Sequences) (a : Around) (w : Writer) (stands : Stands body (a �
   dead_within : IsDead body (goes_on (here body w.ended w.labels (a ∷ reverse w.around.items) w.ended w.place)) → IsDead body (goes_on (within_open body a (progress_of body w)))
   dead_within h = subst (λ (p : Progress). IsDead body (goes_on p)) (is_within body a w) (subst (λ (k : ℕ). IsDead body (goes_on (here body w.ended w.labels (a ∷ reverse w.around.items) k w.place))) (sym present) h)
 
-  pub no_holder : slice_get (sequence_at body a.sequence) a.place ≡ None → IsDead body (goes_on (within_open body a (progress_of body w)))
-  no_holder e = let (holder, at, holds, above) = stands in let no : Some holder ≡ None = sym at ∙ e in absurd cc
-
   module _ (x : Instr) (at : slice_get (sequence_at body a.sequence) a.place ≡ Some x) where
     pub held : x ≡ instruction_of (opener_of a.opener) w.ended → Passes body (goes_on (within_open body a (progress_of body w))) (goes_on (progress_of body (record w { ended = w.ended + 1; sequence = a.sequence; place = a.place + 1 })))
     held is =
         subst (λ (p : Progress). Passes body (goes_on (within_open body a (progress_of body w))) (goes_on p)) (is_here body (record w { ended = w.ended + 1; sequence = a.sequence; place = a.place + 1 }))
         (within_here _ (inner_passes body w.ended w.labels a (reverse w.around.items) w.place stands past there x at is))
-
-    pub not_held : ((type : Option ValType) (then_body n : ℕ) (own : Option ValType) → opener_of a.opener ≡ first type → x ≡ i.If own then_body (Some n) → ⊥) → (x ≡ instruction_of (opener_of a.opener) w.ended → ⊥)
-        → IsDead body (goes_on (within_open body a (progress_of body w)))
-    not_held no_other no_end = dead_within (inner_dead body w.ended w.labels a (reverse w.around.items) w.place stands past there x at (λ type n opened is. no_other type w.ended n type opened is) no_end)
 
     pub not_other : (type : Option ValType) (n : ℕ) → opener_of a.opener ≡ first type → (own : Option ValType) (then_body : ℕ) → x ≡ i.If own then_body (Some n) → (x ≡ i.If type w.ended (Some n) → ⊥) → IsDead body (goes_on (within_open body a (progress_of body w)))
     not_other type n opened own then_body is differs = dead_within (other_dead body w.ended w.labels a (reverse w.around.items) w.place stands past there x at type n opened own then_body is differs)

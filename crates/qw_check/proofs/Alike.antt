@@ -20,7 +20,7 @@ use Rattle.qw_module.specs.declared.module.Module.{Module}
 use Rattle.qw_module.specs.Syntax.{Code, code_of, IsNumbered}
 use Rattle.qw_module.specs.Typing.{Outside, Scope, Signature, Typed}
 use Rattle.qw_module.specs.Places.{tokens_of, IsRefusedAt}
-use Rattle.qw_module.specs.Validity.{signature_of, signature_in, sequences_of, code_of_body, declared_types, function_scope, outside_of, functions_of, imported_functions, memories_of, global_type, IsInitial, IsValidGlobal, IsValidType, IsValidImport, IsExportedOf, IsExport, IsTypedFunction, IsValidFunction, HaveOtherNames, IsValid}
+use Rattle.qw_module.specs.Validity.{signature_of, signature_in, sequences_of, code_of_body, declared_types, function_scope, outside_of, functions_of, imported_functions, memories_of, global_type, IsInitial, IsValidGlobal, IsValidType, IsValidImport, IsExportedOf, IsExport, IsTypedFunction, IsValidFunction, HaveOtherNames}
 use Rattle.qw_binary.specs.Contents.{Contents, ExportContents, FunctionContents, GlobalContents, contents_of, export_contents, function_contents, global_contents}
 use Rattle.qw_valid.specs.declared.valid.Part.{Part}
 use Rattle.qw_valid.specs.declared.valid.Part.TheVariants as part
@@ -200,18 +200,6 @@ module _ (m n : Module) (same : contents_of m ≡ contents_of n) where
   part_alike part.Globals all = All-alike global_contents m.globals.items n.globals.items globals IsValidGlobal IsValidGlobal global_alike all
   part_alike part.Exports (all, names) =
       (All-alike export_contents m.exports.items n.exports.items exports (IsExport m) (IsExport n) export_alike all, AllPairs-alike export_contents m.exports.items n.exports.items exports HaveOtherNames names_alike names)
-
-  pub valid_alike : IsValid m → IsValid n
-  valid_alike valid = record {
-    types = part_alike part.Types valid.types;
-    imports = part_alike part.Imports valid.imports;
-    functions = All-alike function_contents m.functions.items n.functions.items functions (IsValidFunction m) (IsValidFunction n) function_alike valid.functions;
-    memories = (part_alike part.Memory (valid.memories, valid.one_memory)).0;
-    one_memory = (part_alike part.Memory (valid.memories, valid.one_memory)).1;
-    globals = part_alike part.Globals valid.globals;
-    exports = (part_alike part.Exports (valid.exports, valid.names)).0;
-    names = (part_alike part.Exports (valid.exports, valid.names)).1;
-  }
 
 -- ---- faults
 

@@ -22,9 +22,6 @@ use Rattle.qw_columns.proofs.RoomLemmas.{text_octets-more}
 
 -- ---- what stays below an address
 
-pub keeps_same : (m : Octets) (at : ℕ) → KeepsBelow m m at
-keeps_same m at = record { below = λ k lt. refl; octets = λ are. are; len = refl; reserved = refl }
-
 pub keeps_then : (a b c : Octets) (at higher : ℕ) → at ≤ higher → KeepsBelow a b at → KeepsBelow b c higher → KeepsBelow a c at
 keeps_then a b c at higher le first next = record {
   below = λ k lt. next.below k (omega arith) ∙ first.below k lt;
@@ -86,9 +83,6 @@ slice_kept before after from size limit same inside room long = ext_get_or 0 (ta
     ∙ sym (get_or-take size (drop from before) i 0 within ∙ get_or-drop from before i 0))
 
 -- ---- one more value
-
-pub numbers_none : (memory : List ℕ) (at width : ℕ) (values : List Val) → HasNumbers memory at width values 0
-numbers_none memory at width values = record { each = λ row value lt is. absurd (omega arith) }
 
 numbers_more : (memory : List ℕ) (at width : ℕ) (values : List Val) (count : ℕ) (value : Val) → slice_get values count ≡ Some value
     → at + width * count + width ≤ length memory → HasNumbers memory at width values count
@@ -199,9 +193,6 @@ flags-below values row (suc count) =
     let rest = flags-below values (row + 1) count in
     let twice : 2 ^ suc count ≡ 2 ^ count * 2 = pow-suc 2 count in
     omega (arith, bit, rest, twice)
-
-pub nulls_none : (memory : List ℕ) (at : ℕ) (values : List Val) → HasNulls memory at values 0
-nulls_none memory at values = record { each = λ group lt. absurd (omega arith) }
 
 pub nulls_more : (memory : List ℕ) (at : ℕ) (values : List Val) (count : ℕ) → at + count + 1 ≤ length memory → HasNulls memory at values count
     → HasNulls (with_number memory (at + count) 1 (flags_from values (8 * count) 8)) at values (suc count)

@@ -1,14 +1,11 @@
 -- One more column of the grouped table.
 use Rattle.std.proofs.Common.{◌≡◌, ℕ, ◌+◌, ◌<◌, false, List, [], ◌∷◌, ◌++◌, length, map, take, get_or, sym, ap, ap₂, ◌∙◌, arith}
 use Rattle.std.proofs.lemmas.List.{length-map, length-take-le, map_more, take_more}
-use Rattle.qw_scalar.specs.Expression.{Expression}
 use Rattle.qw_scalar.specs.Typing.{kind_of}
-use Rattle.qw_grouped.specs.Grouped.{HasAverage, SetFunction, Takes, type_of_function}
+use Rattle.qw_grouped.specs.Grouped.{SetFunction, type_of_function}
 use Rattle.qw_grouped.specs.Query.{function_of}
 use Rattle.qw_grouped.specs.declared.query.GroupedColumn.{GroupedColumn}
 use Rattle.qw_grouped.specs.declared.set_function.SetFunction as coded
-use Rattle.qw_grouped.specs.declared.set_function.SetFunctionKind.{SetFunctionKind}
-use Rattle.qw_grouped.specs.declared.set_function.SetFunctionKind.TheVariants.{CountRows, Count, Sum, Avg, Min, Max}
 use Rattle.qw_physical.specs.declared.pipeline.ReadColumn.{ReadColumn}
 use Rattle.qw_group_pipeline.specs.declared.columns.ValueColumn.{ValueColumn}
 use Rattle.qw_compile_whole.specs.GroupColumns.{argument_kind, key_from, values_from}
@@ -46,12 +43,3 @@ values_next n fs i f v old new less is before value added =
     ∙ (ap (λ (m : ℕ). values_from n front ++ value_at m (function_of f) ∷ []) (sym place)
     ∙ (ap (λ (d : coded.SetFunction). values_from n front ++ value_at (n + length front) (function_of d) ∷ []) is
     ∙ (sym (values_append n front (function_of (get_or fs i f) ∷ [])) ∙ ap (values_from n) (sym (map_more function_of fs i f less))))))
-
--- the argument of AVG has few digits behind the point
-pub average_scale : (f : SetFunctionKind) (e : Expression) → Takes f e → f ≡ Avg → HasAverage (kind_of e)
-average_scale CountRows e h same = absurd (let clash = same in cc)
-average_scale Count e h same = absurd (let clash = same in cc)
-average_scale Sum e h same = absurd (let clash = same in cc)
-average_scale Avg e h same = h
-average_scale Min e h same = absurd (let clash = same in cc)
-average_scale Max e h same = absurd (let clash = same in cc)

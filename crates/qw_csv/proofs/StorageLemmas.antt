@@ -10,7 +10,7 @@ use Rattle.qw_types.specs.declared.value.Val.{Val}
 use Rattle.qw_types.specs.declared.value.Val.TheVariants as val
 use Rattle.qw_types.specs.DateText.{ShowsDate}
 use Rattle.qw_types.specs.Numeral.{IsNumberOf}
-use Rattle.qw_types.specs.Value.{IsNumeric, IsOfTypeOrNull}
+use Rattle.qw_types.specs.Value.{IsOfTypeOrNull}
 use Rattle.qw_types.specs.declared.schema.Column.{Column}
 use Rattle.qw_csv.specs.Field.{IsFieldOf, IsTypedFieldOf}
 use Rattle.std.proofs.lemmas.List.{length-map, map-append}
@@ -300,15 +300,6 @@ integer_type ty.Integer numbers form = refl
 integer_type (ty.Decimal precision scale) numbers form = absurd form
 integer_type ty.Date numbers form = absurd form
 integer_type (ty.Varchar limit) numbers form = absurd form
-
-pub decimal_numeric : (type : Ty) (before : Cells) (numbers : Vec ℤ Global) → AreCellsOf type before → before ≡ cells.Decimals numbers → IsNumeric type
-decimal_numeric type before numbers form is = of_type type (rw is at form)
-  where
-    of_type : (t : Ty) → AreCellsOf t (cells.Decimals numbers) → IsNumeric t
-    of_type ty.Integer f = absurd f
-    of_type (ty.Decimal precision scale) f = tt
-    of_type ty.Date f = absurd f
-    of_type (ty.Varchar limit) f = absurd f
 
 pub integer_put : (type : Ty) (field : List ℕ) (before : Cells) (numbers after : Vec ℤ Global) (number : ℤ) → AreCellsOf type before → before ≡ cells.Integers numbers
     → IsNumberOf ty.Integer field number → after.items ≡ numbers.items ++ number ∷ [] → Put type field before (cells.Integers after)

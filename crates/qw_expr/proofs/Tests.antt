@@ -37,7 +37,7 @@ use Rattle.qw_expr.specs.Tests.{DecidesTest, EmitsTest, truth_word}
 use Rattle.qw_expr.specs.Inner.Tests.{is_one_relation}
 use Rattle.qw_expr.proofs.Binary.{declares_first, declares_rest}
 use Rattle.qw_expr.proofs.Emitted.{free_after}
-use Rattle.qw_expr.proofs.Nulls.{below_more, known_kept, value_kept}
+use Rattle.qw_expr.proofs.Nulls.{known_kept, value_kept}
 use Rattle.qw_expr.proofs.Related.{Relates, relates}
 use Rattle.qw_expr.proofs.Trees.{scale_low, served_more}
 
@@ -141,11 +141,6 @@ served_after known e old new out ee served =
 
 pub emitted_below : (known : List Known) (e : Expression) (old new : Emitter) (out : Operand) → Emits known e old new out → IsBelow (free_of new) out.cell
 emitted_below known e old new out ee = subst (λ k. IsBelow k out.cell) (sym (free_after known e old new out ee)) ee.computes.below
-
-pub still_below : (known : List Known) (e f : Expression) (old mid new : Emitter) (out other : Operand) → Emits known e old mid out → Emits known f mid new other → IsBelow (free_of new) out.cell
-still_below known e f old mid new out other ee ef =
-    let at = free_after known f mid new other ef in
-    below_more (free_of mid) (free_of new) out.cell (omega (arith, at)) (emitted_below known e old mid out ee)
 
 pub emitted_scale : (known : List Known) (e : Expression) (old new : Emitter) (out : Operand) → IsTyped e → Emits known e old new out → out.scale ≤ 18
 emitted_scale known e old new out typed ee = subst (λ k. k ≤ 18) (sym ee.computes.scale_is) (scale_low e typed)

@@ -6,7 +6,6 @@ use Rattle.qw_map.proofs.TurnFacts.{slice_get-set_same, slice_get-set_other}
 use Rattle.qw_module.specs.declared.instruction.ValType.TheVariants.{I32}
 use Rattle.qw_module.specs.declared.instruction.Const.TheVariants as const
 use Rattle.qw_module.specs.declared.instruction.Binary.TheVariants.{Sub}
-use Rattle.qw_module.specs.declared.instruction.Load.TheVariants as loads
 use Rattle.qw_low.specs.Syntax.{constant_of, local, binop, advance, assign}
 use Rattle.qw_low.specs.State.{Own, Number, Address, Cells, LowState}
 use Rattle.qw_low.specs.Meaning.{value, meaning}
@@ -14,9 +13,9 @@ use Rattle.qw_low.specs.Promise.{Ends}
 use Rattle.qw_low.specs.Raising.{Kept}
 use Rattle.qw_low.proofs.Promises.{assign_ends}
 use Rattle.qw_low.proofs.Results.{Kept-same, Kept-set}
-use Rattle.qw_low.proofs.BlockSteps.{assign_then, load_then}
+use Rattle.qw_low.proofs.BlockSteps.{assign_then}
 use Rattle.qw_feed.specs.Frames.{pos}
-use Rattle.qw_feed.specs.Room.{i32, space_block, HasRoom, Paid}
+use Rattle.qw_feed.specs.Room.{i32, HasRoom, Paid}
 use Rattle.qw_feed.specs.Rows.{begin_block, HasRows}
 use Rattle.qw_feed.proofs.Frames.{Never}
 use Rattle.qw_feed.proofs.RoomRuns.{room-kept}
@@ -64,12 +63,6 @@ module _ (R : ℕ → Type 0) (most fuel : ℕ) (s : LowState) where
         few = first.few;
       },
     )
-
-    -- free space begins behind the descriptor
-    pub space_ends : Ends 7 Post Never R (meaning most fuel (space_block size) s)
-    space_ends = load_then Post Never R most fuel s 4 (assign 2 (binop I32 Sub (i32 page) (i32 size))) 1 (loads.Full I32) 0 (local 0) (Own 0) 0 0 (Address (Own 0) size) (Address (Own 0) size)
-        first.descriptor refl first.free refl (omega (arith, first.many))
-        (assign_ends Post Never R most fuel 2 (binop I32 Sub (i32 page) (i32 size)) (Number (page - size)) s1 left_is (omega (arith, first.many, many1)) begun)
 
   -- wherever it begins then, there are no rows yet
   module _ (Has : Cells → ℕ → ℕ → List Val → Type 0) (size base u before part offset : ℕ) (behind : 24 ≤ base) (low : base ≤ pos part offset) (room : HasRoom part offset s) (many : 5 ≤ length s.locals)

@@ -132,11 +132,6 @@ module _ (sink : Sink) (most fuel : ℕ) where
   pub feeds_less : (N : ℕ) (Old Old' : ℕ → Type 0) (After : LowState → Type 0) (f : Flow (List Val)) (a : Statement) (s : LowState) → ((i : ℕ) → Old' i → Old i) → To N Old After f a s → To N Old' After f a s
   feeds_less N Old Old' After f a s old h = feeds_weaker N N Old Old' After After f a s (omega arith) old (λ t keeps after. after) h
 
-  -- what feeds, where a test holds
-  pub feeds_where : (N : ℕ) (Old : ℕ → Type 0) (After : LowState → Type 0) (f : Flow (List Val)) (e : Expression) (g : Bool) (a : Statement) (s : LowState) → 1 ≤ N → value s e ≡ Some (Number (truth g)) →
-      (g ≡ true → To N Old After f a s) → (g ≡ false → After s) → To N Old After (if g then f else nothing) (conditional e a skip) s
-  feeds_where N Old After f e g a s some is first after = feeds_choose N Old After f nothing e g a skip s some is first (λ isnt. feeds_skip N Old After s (after isnt))
-
   -- a block that leaves a value or raises, and then what feeds by the value
   pub feeds_by : {A : Type 0} (N : ℕ) (Old : ℕ → Type 0) (P : A → LowState → Type 0) (After : LowState → Type 0) (r : Result A Code) (work : A → Flow (List Val)) (a b : Statement) (s : LowState) →
       Ends (size a * N) (Leaves (λ v t. Quiet Old s t × P v t) r) Never (Raises r) (meaning most fuel a s) → ((v : A) (t : LowState) → r ≡ Ok v → Keeps Old sink.Spared s t → P v t → To N Old After (work v) b t) →

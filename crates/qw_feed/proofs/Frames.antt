@@ -4,7 +4,7 @@ use Rattle.std.proofs.lemmas.Bool.{eq-eqb, eqb-true, le-leb, and_parts, or_left,
 use Rattle.qw_map.proofs.TurnFacts.{slice_get-set_other}
 use Rattle.qw_low.specs.State.{Column, Own, Value, Cells, LowState, with_cell}
 use Rattle.qw_low.specs.Raising.{Kept}
-use Rattle.qw_feed.specs.Frames.{pos, Outside, Below, But, Keeps, Stored}
+use Rattle.qw_feed.specs.Frames.{pos, Outside, Below, Keeps, Stored}
 
 -- no state: a block that doesn't end the run
 abbrev pub Never : LowState → Type 0
@@ -138,10 +138,6 @@ below-less n m i le (inr it) = inr (it.0, omega (arith, it.1))
 pub below-under : (n m i : ℕ) → n ≤ m → 1 ≤ m → Below n i → i < m
 below-under n m i le some (inl is) = omega arith
 below-under n m i le some (inr it) = omega (arith, it.1)
-
--- those below a local that is set are all below another but that one
-pub below-but : (n l m i : ℕ) → 5 ≤ n → n ≤ l → l < m → Below n i → But l (Below m) i
-below-but n l m i low high further old = (below-less n m i (omega arith) old, λ e. (let under = below-under n n i (omega arith) (omega arith) old in omega (arith, e, under)))
 
 -- locals from one on alone have changed, so those from a lower one on
 pub Kept-less : (m n : ℕ) (s t : LowState) → m ≤ n → Kept n s t → Kept m s t

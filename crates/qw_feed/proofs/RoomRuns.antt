@@ -43,11 +43,6 @@ room-kept part offset n s t high kept h = record {
   few = omega (arith, h.few, ap (λ (r : LowState). r.limit) kept.others);
 }
 
--- as many pages as are paid for are no more than stated
-pub paid-within : (most u budget offset held : ℕ) → Paid u budget offset held → budget + 2 * u < (most + 1) * u → held ≤ most
-paid-within most u budget offset held (inl one) enough = let bound : 2 < most + 1 = lt_of_mul-lt-mul_right u (omega (arith, enough)) in omega (arith, one)
-paid-within most u budget offset held (inr so) enough = let bound : held < most + 1 = lt_of_mul-lt-mul_right u (omega (arith, so, enough)) in omega arith
-
 -- and two pages more than those octets fill always pay for them
 pub pays : (octets u : ℕ) → 0 < u → octets + 2 * u < (2 + octets / u + 1) * u
 pays octets u some =

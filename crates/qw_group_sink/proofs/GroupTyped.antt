@@ -58,9 +58,3 @@ module _ (types : List ValType) (free_is : slice_get types 1 ≡ Some I32) (left
         IsRowTo End literals readers next operators a own → IsTyped types a
     row_to_typed literals readers next operators a own declared readers_declared own_types led h =
         read_row_typed types free_is left_is End end_typed literals readers next (first_filter operators) (behind_filter operators) a own declared readers_declared own_types (led_behind types free_is left_is operators led) h
-
-  -- ---- a row that goes into groups
-  pub row_grouped_typed : (fields : List Field) (g : Group) → CanGroup g → slice_get types (directory g.table) ≡ Some I32 → (literals : List Known) (readers : List Reader) (next : ℕ) (operators : List Operator) (a : Statement) (own : List ValType) → AreDeclared types (literals ++ map known_of readers) →
-      AllByRecursion (IsReaderDeclared types) readers → AreOwn types next own → AreLed types operators → IsRowTo (λ known after b more. IsGrouped fields known after g b more) literals readers next operators a own → IsTyped types a
-  row_grouped_typed fields g can directory_is literals readers next operators a own declared readers_declared own_types led h =
-      row_to_typed (λ known after b more. IsGrouped fields known after g b more) (λ known after b more known_declared more_types is. grouped_typed fields known after g b more can directory_is known_declared more_types is) literals readers next operators a own declared readers_declared own_types led h

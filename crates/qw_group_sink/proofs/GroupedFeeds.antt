@@ -6,25 +6,20 @@ use Rattle.qw_module.specs.declared.instruction.ValType.{ValType}
 use Rattle.qw_layout.specs.Hash.{slot}
 use Rattle.qw_grouped.specs.Groups.{key_of, keys}
 use Rattle.qw_low.specs.Syntax.{Statement}
-use Rattle.qw_low.specs.State.{Own, Value, Cells, LowState}
+use Rattle.qw_low.specs.State.{Own, Value, Cells}
 use Rattle.qw_expr.specs.Computes.{Known}
-use Rattle.qw_read.specs.declared.reader.Reader.{Reader}
-use Rattle.qw_feed.specs.Feeds.{Any, Sink as FlowSink, FeedsTo}
-use Rattle.qw_feed.specs.Frames.{pos, Below, But}
-use Rattle.qw_feed.specs.Scans.{rows_block}
+use Rattle.qw_feed.specs.Feeds.{Sink as FlowSink}
+use Rattle.qw_feed.specs.Frames.{pos}
 use Rattle.qw_table.specs.Tables.{in_slot}
 use Rattle.qw_table.specs.declared.key.Field.{Field}
 use Rattle.qw_group.specs.Groups.{AreChosenWithin, group_size}
-use Rattle.qw_physical.specs.Courses.{pipeline_fed}
-use Rattle.qw_physical.specs.Physical.{Pipeline, select}
+use Rattle.qw_physical.specs.Physical.{select}
 use Rattle.qw_operator.specs.Carries.{directory}
 use Rattle.qw_operator.proofs.Filters.{Runs}
 use Rattle.qw_operator.proofs.Stood.{Stood, built_of}
-use Rattle.qw_group_sink.specs.Carrying.{pipeline_cost_to}
 use Rattle.qw_group_sink.specs.Grouping.{CanGroup, Group, IsGrouped, aggregates_of, key_fields, turn_of}
 use Rattle.qw_operator.proofs.OperatorsFeed.{FeedsEnd}
 use Rattle.qw_group_sink.proofs.GroupSunk.{group_sunk, grouping_kept, grouping_sink}
-use Rattle.qw_group_sink.proofs.PipelineTo.{ScannedTo, pipeline_to_feeds}
 
 -- The table's directory stands behind what is seen and the other tables. Of the rows that there may be the slot of a row has so many entries, and MIN and
 -- MAX compare so many octets at it; where there are set functions there are at most 10^18 rows.
@@ -56,9 +51,3 @@ module _ (c : Cells) (stoods : List Stood) (base : ℕ) (high : 5 + length stood
   pub row_grouped : FeedsEnd c stoods base grouped most fuel many types End (select g.values) turn
   row_grouped N next known row a own s some fueled low room within declared own_types is at kinds few units here =
       group_sunk c stoods base most fuel many types g can fields k o u before entries chosen May beginnings low_d small few_rows chosen_rows enough met grouped_runs (built_of stoods) N next known row a own s some fueled low room within declared own_types is at kinds units here
-
-  -- a whole pipeline, which would make a result of the same values
-  pub grouped_feeds : (tables : List (List (List Val))) (p : Pipeline) (literals : List Known) (readers : List Reader) (left end low next : ℕ) (row : Statement) (own : List ValType) (s : LowState) → ScannedTo End g.values turn c stoods literals readers base left end low next many fuel types tables p row own s → p.sink ≡ select g.values →
-      FeedsTo grouped most fuel (1 + pipeline_cost_to g.values turn tables (built_of stoods) p) (But left (Below low)) Any (pipeline_fed tables (built_of stoods) p) (rows_block left row) s
-  grouped_feeds tables p literals readers left end low next row own s h is =
-      pipeline_to_feeds c stoods base grouped grouped_runs most fuel many types tables p End g.values turn row_grouped literals readers left end low next row own s h is

@@ -1,22 +1,16 @@
 -- The block of a row that goes into groups as long as a local counts is typed.
-use Rattle.std.proofs.Common.{◌≡◌, ℕ, Option, Some, None, List, ◌++◌, map, slice_get, refl, sym, subst, arith}
-use Rattle.std.specs.List.{AllByRecursion}
+use Rattle.std.proofs.Common.{◌≡◌, ℕ, Option, Some, None, List, slice_get, refl, sym, subst, arith}
 use Rattle.qw_module.specs.declared.instruction.ValType.{ValType}
 use Rattle.qw_module.specs.declared.instruction.ValType.TheVariants.{I32, I64}
 use Rattle.qw_low.specs.Syntax.{Statement}
 use Rattle.qw_low.specs.Typing.{IsTyped}
 use Rattle.qw_expr.specs.Computes.{Known, AreDeclared}
-use Rattle.qw_read.specs.Reading.{known_of}
-use Rattle.qw_read.specs.declared.reader.Reader.{Reader}
 use Rattle.qw_table.specs.declared.key.Field.{Field}
-use Rattle.qw_physical.specs.Physical.{Operator}
 use Rattle.qw_operator.specs.Carries.{directory}
-use Rattle.qw_operator.proofs.CarriedTyped.{AreLed, IsReaderDeclared}
 use Rattle.qw_operator.proofs.Promised.{AreOwn}
-use Rattle.qw_group_sink.specs.Carrying.{IsRowTo}
 use Rattle.qw_group_sink.specs.Grouping.{CanGroup, Group}
 use Rattle.qw_group_sink.specs.Guarded.{IsGroupedWithin, IsOneGroupWithin, guarded_by}
-use Rattle.qw_group_sink.proofs.GroupTyped.{grouped_typed, row_to_typed}
+use Rattle.qw_group_sink.proofs.GroupTyped.{grouped_typed}
 use Rattle.qw_group_sink.proofs.OneTyped.{one_typed}
 
 -- a guard's local is an i64
@@ -41,10 +35,3 @@ module _ (types : List ValType) where
     grouped_within_typed guard fields known next g a own guard_is can directory_is declared own_types h =
         let parts = subst (IsTyped types) h.grouped.is (grouped_typed types free_is left_is fields known next g h.plain own can directory_is declared own_types h.grouped) in
         subst (IsTyped types) (sym h.is) (parts.0, guarded_typed guard h.grouped.enter guard_is parts.1)
-
-    -- a row of the scan
-    pub row_within_typed : (guard : Option ℕ) (fields : List Field) (g : Group) → DeclaresGuard types guard → CanGroup g → slice_get types (directory g.table) ≡ Some I32 → (literals : List Known) (readers : List Reader) (next : ℕ) (operators : List Operator) (a : Statement) (own : List ValType) →
-        AreDeclared types (literals ++ map known_of readers) → AllByRecursion (IsReaderDeclared types) readers → AreOwn types next own → AreLed types operators → IsRowTo (λ known after b more. IsGroupedWithin guard fields known after g b more) literals readers next operators a own → IsTyped types a
-    row_within_typed guard fields g guard_is can directory_is literals readers next operators a own declared readers_declared own_types led h =
-        row_to_typed types free_is left_is (λ known after b more. IsGroupedWithin guard fields known after g b more) (λ known after b more known_declared more_types is. grouped_within_typed guard fields known after g b more guard_is can directory_is known_declared more_types is) literals readers next operators a own declared
-        readers_declared own_types led h

@@ -12,29 +12,25 @@ use Rattle.qw_low.specs.State.{Own, Value, Cells, LowState}
 use Rattle.qw_limit.specs.Counting.{guarded_block}
 use Rattle.qw_limit.proofs.LimitedFeeds.{guarded_feeds, limit_of, limited_kept}
 use Rattle.qw_expr.specs.Computes.{Known}
-use Rattle.qw_read.specs.declared.reader.Reader.{Reader}
 use Rattle.qw_feed.specs.Feeds.{Any, Sink as FlowSink, FeedsTo}
-use Rattle.qw_feed.specs.Frames.{pos, Below, But}
-use Rattle.qw_feed.specs.Scans.{rows_block}
+use Rattle.qw_feed.specs.Frames.{pos, Below}
 use Rattle.qw_feed.specs.Room.{HasRoom}
 use Rattle.qw_table.specs.Tables.{in_slot}
 use Rattle.qw_table.specs.declared.key.Field.{Field}
 use Rattle.qw_group.specs.Groups.{AreChosenWithin, group_size, group_types}
 use Rattle.qw_group.specs.declared.group.Aggregate.{Aggregate}
-use Rattle.qw_physical.specs.Courses.{fed, pipeline_fed, placed}
-use Rattle.qw_physical.specs.Physical.{Pipeline, select}
+use Rattle.qw_physical.specs.Courses.{fed, placed}
+use Rattle.qw_physical.specs.Physical.{select}
 use Rattle.qw_operator.specs.Carries.{directory}
 use Rattle.qw_operator.proofs.CarriedFeeds.{values_feed}
 use Rattle.qw_operator.proofs.Filters.{Runs, base_high}
 use Rattle.qw_operator.proofs.Promised.{AreOwn, first_own_types}
 use Rattle.qw_operator.proofs.Stood.{Stood, built_of}
-use Rattle.qw_group_sink.specs.Carrying.{pipeline_cost_to}
 use Rattle.qw_group_sink.specs.Grouping.{CanGroup, Group, aggregates_of, key_fields, turn_of}
 use Rattle.qw_group_sink.specs.Guarded.{IsGroupedWithin}
 use Rattle.qw_operator.proofs.OperatorsFeed.{FeedsEnd}
 use Rattle.qw_group_sink.proofs.GroupedFeeds.{grouped, grouped_runs}
 use Rattle.qw_group_sink.proofs.GroupSunk.{HasRows, groups_later, row_entered}
-use Rattle.qw_group_sink.proofs.PipelineTo.{ScannedTo, pipeline_to_feeds}
 use Rattle.qw_group_sink.proofs.RowCounted.{enter_spared}
 
 -- room knows nothing of a local behind its own
@@ -122,9 +118,3 @@ module _ (c : Cells) (stoods : List Stood) (base : ℕ) (high : 5 + length stood
       not_old : (i : ℕ) → Below next i → i ≡ z → ⊥
       not_old i (inl first) e = omega (arith, first, e, place.0)
       not_old i (inr later) e = omega (arith, later.0, e, place.1)
-
-  -- a whole pipeline, which would make a result of the same values
-  pub first_grouped_feeds : (tables : List (List (List Val))) (p : Pipeline) (literals : List Known) (readers : List Reader) (left end low next : ℕ) (row : Statement) (own : List ValType) (s : LowState) → ScannedTo GuardedEnd g.values guarded_turn c stoods literals readers base left end low next many fuel types tables p row own s → p.sink ≡ select g.values →
-      FeedsTo first_grouped most fuel (1 + pipeline_cost_to g.values guarded_turn tables (built_of stoods) p) (But left (Below low)) Any (pipeline_fed tables (built_of stoods) p) (rows_block left row) s
-  first_grouped_feeds tables p literals readers left end low next row own s h is =
-      pipeline_to_feeds c stoods base first_grouped first_grouped_runs most fuel many types tables p GuardedEnd g.values guarded_turn row_guarded literals readers left end low next row own s h is

@@ -9,28 +9,24 @@ use Rattle.qw_low.specs.State.{Own, Value, Cells, LowState}
 use Rattle.qw_limit.specs.Counting.{guarded_block}
 use Rattle.qw_limit.proofs.LimitedFeeds.{guarded_feeds, limit_of, limited_kept}
 use Rattle.qw_expr.specs.Computes.{Known}
-use Rattle.qw_read.specs.declared.reader.Reader.{Reader}
 use Rattle.qw_feed.specs.Feeds.{Any, Sink as FlowSink, FeedsTo}
-use Rattle.qw_feed.specs.Frames.{pos, Below, But}
-use Rattle.qw_feed.specs.Scans.{rows_block}
+use Rattle.qw_feed.specs.Frames.{pos, Below}
 use Rattle.qw_table.specs.declared.key.Field.{Field}
 use Rattle.qw_group.specs.Areas.{area_types}
 use Rattle.qw_group.specs.Groups.{AreChosenWithin}
 use Rattle.qw_group.specs.declared.group.Aggregate.{Aggregate}
-use Rattle.qw_physical.specs.Courses.{fed, pipeline_fed, placed}
-use Rattle.qw_physical.specs.Physical.{Pipeline, select}
+use Rattle.qw_physical.specs.Courses.{fed, placed}
+use Rattle.qw_physical.specs.Physical.{select}
 use Rattle.qw_operator.specs.Carries.{directory}
 use Rattle.qw_operator.proofs.CarriedFeeds.{values_feed}
 use Rattle.qw_operator.proofs.Filters.{Runs, base_high}
 use Rattle.qw_operator.proofs.Promised.{AreOwn, first_own_types}
 use Rattle.qw_operator.proofs.Stood.{Stood, built_of}
-use Rattle.qw_group_sink.specs.Carrying.{pipeline_cost_to}
 use Rattle.qw_group_sink.specs.Grouping.{CanGroup, Group, over_fields}
 use Rattle.qw_group_sink.specs.Guarded.{IsOneGroupWithin}
 use Rattle.qw_operator.proofs.OperatorsFeed.{FeedsEnd}
 use Rattle.qw_group_sink.proofs.GuardedFeeds.{room_put}
 use Rattle.qw_group_sink.proofs.OneFeeds.{HasOne, one_entered, one_later, taken, taken_runs}
-use Rattle.qw_group_sink.proofs.PipelineTo.{ScannedTo, pipeline_to_feeds}
 use Rattle.qw_group_sink.proofs.RowCounted.{one_enter_spared}
 
 -- the areas know nothing of a local that is neither free space's nor leads to them
@@ -94,9 +90,3 @@ module _ (c : Cells) (stoods : List Stood) (base : ℕ) (high : 5 + length stood
       not_old : (i : ℕ) → Below next i → i ≡ z → ⊥
       not_old i (inl first) e = omega (arith, first, e, place.0)
       not_old i (inr later) e = omega (arith, later.0, e, place.1)
-
-  -- a whole pipeline, which would make a result of the same values
-  pub first_taken_feeds : (tables : List (List (List Val))) (p : Pipeline) (literals : List Known) (readers : List Reader) (left end low next : ℕ) (row : Statement) (own : List ValType) (s : LowState) → ScannedTo GuardedEnd g.values chosen c stoods literals readers base left end low next many fuel types tables p row own s → p.sink ≡ select g.values →
-      FeedsTo first_taken most fuel (1 + pipeline_cost_to g.values chosen tables (built_of stoods) p) (But left (Below low)) Any (pipeline_fed tables (built_of stoods) p) (rows_block left row) s
-  first_taken_feeds tables p literals readers left end low next row own s h is =
-      pipeline_to_feeds c stoods base first_taken first_taken_runs most fuel many types tables p GuardedEnd g.values chosen row_first_taken literals readers left end low next row own s h is

@@ -14,12 +14,10 @@ use Rattle.qw_low.specs.Raising.{Kept}
 use Rattle.qw_low.proofs.LessKnown.{IsLess}
 use Rattle.qw_low.proofs.Promises.{Ends-weaker}
 use Rattle.qw_expr.specs.Computes.{Known, AreDeclared}
-use Rattle.qw_read.specs.declared.reader.Reader.{Reader}
 use Rattle.qw_feed.specs.Cells.{Source, AllSupply, AllUse, kinds_of}
 use Rattle.qw_feed.specs.Feeds.{Any, Sink as FlowSink, FedTo, FeedsTo, Tells, one_row}
-use Rattle.qw_feed.specs.Frames.{pos, Before, Below, But}
+use Rattle.qw_feed.specs.Frames.{pos, Before, Below}
 use Rattle.qw_feed.specs.Room.{Paid}
-use Rattle.qw_feed.specs.Scans.{rows_block}
 use Rattle.qw_feed.specs.Stages.{Among, outs_of}
 use Rattle.qw_feed.proofs.FeedRules.{feeds_less}
 use Rattle.qw_feed.proofs.Frames.{Never, below-less}
@@ -32,20 +30,18 @@ use Rattle.qw_group.specs.Single.{HasSingle, single_sink}
 use Rattle.qw_group.specs.declared.group.Aggregate.{Aggregate}
 use Rattle.qw_group.proofs.EntryAreas.{areas-map}
 use Rattle.qw_group.proofs.SingleRuns.{single_feeds}
-use Rattle.qw_physical.specs.Courses.{fed, pipeline_fed, placed}
-use Rattle.qw_physical.specs.Physical.{Pipeline, select}
+use Rattle.qw_physical.specs.Courses.{fed, placed}
+use Rattle.qw_physical.specs.Physical.{select}
 use Rattle.qw_operator.specs.Carries.{all_moved, directory}
 use Rattle.qw_operator.proofs.CarriedFeeds.{supply_map, values_feed}
 use Rattle.qw_operator.proofs.Filters.{Runs, Here, base_high}
 use Rattle.qw_operator.proofs.Promised.{AreHigh, AreOwn, first_own_types, items_high, items_kinds, items_use, kinds_moved}
 use Rattle.qw_operator.proofs.Seen.{AreWithin, Longer, StandsIn, less_keeps, less_kept, longer_keeps, longer_kept, stands_later, stands_more}
 use Rattle.qw_operator.proofs.Stood.{Stood, built_of}
-use Rattle.qw_group_sink.specs.Carrying.{pipeline_cost_to}
 use Rattle.qw_group_sink.specs.Grouping.{CanGroup, Group, TakeKinds, over_fields}
 use Rattle.qw_group_sink.specs.OneGroup.{IsOneGroup}
 use Rattle.qw_operator.proofs.OperatorsFeed.{FeedsEnd}
 use Rattle.qw_group_sink.proofs.FieldParts.{arguments_use, chosen_over, given, over_few}
-use Rattle.qw_group_sink.proofs.PipelineTo.{ScannedTo, pipeline_to_feeds}
 
 -- ---- areas as a sink: its texts stand in the state that has them
 abbrev pub HasOne : (c : Cells) → (aggregates : List Aggregate) → (k o e u budget : ℕ) → (rows : List (List Val)) → (told s : LowState) → Type 0
@@ -154,9 +150,3 @@ module _ (c : Cells) (stoods : List Stood) (base : ℕ) (high : 5 + length stood
       subst (λ (b : Statement). FeedsTo taken most fuel N (Below next) Any (fed (built_of stoods) [] (select g.values) row) b s) (sym is.is)
       (values_feed c stoods base taken taken_runs most fuel many types N next known row g.values is.items is.items_own (placed (select g.values)) is.enter s some fueled low (omega (arith, room, own_many)) within declared item_types is.computed at kinds here
       (λ vs t come kept supplied. one_entered N next known row a own s fueled low room within declared own_types is kinds units here vs t come kept supplied))
-
-  -- a whole pipeline, which would make a result of the same values
-  pub taken_feeds : (tables : List (List (List Val))) (p : Pipeline) (literals : List Known) (readers : List Reader) (left end low next : ℕ) (row : Statement) (own : List ValType) (s : LowState) → ScannedTo End g.values chosen c stoods literals readers base left end low next many fuel types tables p row own s → p.sink ≡ select g.values →
-      FeedsTo taken most fuel (1 + pipeline_cost_to g.values chosen tables (built_of stoods) p) (But left (Below low)) Any (pipeline_fed tables (built_of stoods) p) (rows_block left row) s
-  taken_feeds tables p literals readers left end low next row own s h is =
-      pipeline_to_feeds c stoods base taken taken_runs most fuel many types tables p End g.values chosen row_taken literals readers left end low next row own s h is

@@ -4,4 +4,3 @@ pub mod LongRuns
 pub mod TypedTwice
 pub mod LimitedFeeds
 pub mod CountedBlocks
-pub mod LimitedRuns

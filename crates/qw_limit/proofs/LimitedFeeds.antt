@@ -1,6 +1,6 @@
 -- A block that feeds a row to a sink, guarded by a local that counts down, feeds it to the sink that takes no more rows than the local counted at first.
-use Rattle.std.proofs.Common.{◌≡◌, ℕ, zero, suc, ◌+◌, ◌-◌, ◌*◌, ◌%◌, ◌^◌, ◌<◌, ◌≤◌, ◌⊎◌, inl, inr, ◌==◌, false, List, [], ◌∷◌, ◌++◌, length, length-append, Option, Some, slice_get, slice_set, take, refl, sym, ap, ◌∙◌, subst, ⊎_elim, arith}
-use Rattle.std.proofs.lemmas.Bool.{cases_lt, eqb-true, false_from_ne_true, lt-ltb}
+use Rattle.std.proofs.Common.{◌≡◌, ℕ, zero, suc, ◌+◌, ◌-◌, ◌*◌, ◌%◌, ◌^◌, ◌<◌, ◌≤◌, inl, inr, ◌==◌, false, List, [], ◌∷◌, ◌++◌, length, length-append, Option, Some, slice_get, slice_set, take, refl, sym, ap, ◌∙◌, subst, arith}
+use Rattle.std.proofs.lemmas.Bool.{eqb-true, false_from_ne_true, lt-ltb}
 use Rattle.std.proofs.lemmas.List.{take-append-le, take_all}
 use Rattle.std.proofs.lemmas.Option.{slice_get_within}
 use Rattle.std.proofs.Math.Nat.{add-mul}
@@ -36,14 +36,6 @@ first_may most sink rows more may =
 
 abbrev pub limit_of : (most z : ℕ) → Sink → Sink
 limit_of most z sink = limited most z sink (first_may most sink)
-
--- where no more came than may be taken, all were; else the local is 0
-pub all_or_first : (most z : ℕ) (Has : List (List Val) → LowState → Type 0) (rows : List (List Val)) (s : LowState) → HasFirst most z Has rows s →
-    ((length rows ≤ most) × Has rows s) ⊎ ((most < length rows) × ((slice_get s.locals z ≡ Some (Number 0)) × Has (take most rows) s))
-all_or_first most z Has rows s h = ⊎_elim
-    (λ many. inr (many, (h.left ∙ ap (λ (n : ℕ). Some (Number n)) (omega (arith, many)), h.has)))
-    (λ few. inl (few, subst (λ (xs : List (List Val)). Has xs s) (take_all most rows few) h.has))
-    (cases_lt most (length rows))
 
 -- a block that sets locals from one on alone
 pub limited_kept : (most z : ℕ) (sink : Sink) (n : ℕ) (rows : List (List Val)) (s t : LowState) → z < n → Kept n s t → ((xs : List (List Val)) → sink.Has xs s → sink.Has xs t) → (limit_of most z sink).Has rows s → (limit_of most z sink).Has rows t

@@ -97,10 +97,6 @@ AreOctets-with_number octets are at (suc width) number =
 octet_taken : (octets : List ℕ) (at width k : ℕ) → k < width → get_or (take width (drop at octets)) k 0 ≡ get_or octets (at + k) 0
 octet_taken octets at width k h = get_or-take width (drop at octets) k 0 h ∙ get_or-drop at octets k 0
 
-byte_worth-is : (k octet : ℕ) → byte_worth k octet ≡ octet * 256 ^ k
-byte_worth-is zero octet = omega arith
-byte_worth-is (suc k) octet = refl
-
 -- a number is that of all its octets but the last, and what the last one is worth
 number_at-last : (octets : List ℕ) (at k : ℕ) → number_at octets at (suc k) ≡ number_at octets at k + get_or octets (at + k) 0 * 256 ^ k
 unfolding number_at

@@ -271,11 +271,3 @@ fails_where (within n false g) bytes f h =
     ]
 fails_where (items s step) bytes f h =
     chain_fails (λ s b r t. Spells (step s b) r t) (λ s b t f. Stuck (step s b) t f) (λ s b. read (step s b)) (λ s b r text rest e. again (step s b) r text rest e) (λ s b bytes f e. fails_where (step s b) bytes f e) h.0 (goes_on s) bytes f (suc (length bytes)) h.1 (omega arith)
-
--- ---- no octets stand for two values, and no front of octets that stand for a value does
-
-pub one_value : {A : Type 0} (g : Grammar A) (x y : A) (text other more rest : List ℕ) → Spells g x text → Spells g y other → text ++ more ≡ other ++ rest → (x ≡ y) × (more ≡ rest)
-one_value g x y text other more rest p q e =
-    let both = sym (again g x text more p) ∙ ap (read g) e ∙ again g y other rest q in
-    let one = ok_is (x, more) (y, rest) both in
-    (ap (λ z. z.0) one, ap (λ z. z.1) one)

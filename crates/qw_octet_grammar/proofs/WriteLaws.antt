@@ -63,10 +63,6 @@ spelled g x new h = subst (λ w. Spells g x w) (sym h.1) h.2
 
 -- ---- what comes next
 
-pub awaits_begin : {A : Type 0} (g : Grammar A) (old : List ℕ) → Awaits g g old old
-unfolding Puts Awaits
-awaits_begin g old = λ x text s. (text, refl, s)
-
 pub awaits_behind : {A B : Type 0} (g : Grammar B) (k : B → Grammar A) (y : B) (old new : List ℕ) → Puts g y old new → Awaits (after g k) (k y) old new
 unfolding Puts Awaits
 awaits_behind g k y old new p = λ x text s. puts_after g k y x old new (new ++ text) p (text, refl, s)

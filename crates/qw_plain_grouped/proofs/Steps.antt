@@ -8,13 +8,13 @@ use Rattle.qw_types.specs.declared.value.Val.{Val}
 use Rattle.qw_meaning.specs.Flow.{Flow, codes_given, rows_given}
 use Rattle.qw_meaning.specs.Outcome.{Outcome, Raises, Rows, ended}
 use Rattle.qw_grouped.specs.Grouped.{Grouped, kinds_of}
-use Rattle.qw_grouped.specs.Groups.{Group, function_values, group_row, grouped_table, keys, members, once, values_at}
+use Rattle.qw_grouped.specs.Groups.{Group, function_values, group_row, grouped_table, keys, members, values_at}
 use Rattle.qw_grouped.specs.Query.{function_of}
 use Rattle.qw_grouped.specs.SetFunctions.{set_function_value}
 use Rattle.qw_grouped.specs.declared.set_function.SetFunction as coded_function
 use Rattle.qw_grouped.specs.declared.set_function.SetFunctionKind.{SetFunctionKind}
 use Rattle.qw_grouped.proofs.Lists.{flat_map_map}
-use Rattle.qw_plain_grouped.specs.Inner.Outcomes.{once_in, outcome_behind}
+use Rattle.qw_plain_grouped.specs.Inner.Outcomes.{outcome_behind}
 
 pub append_nothing : {A : Type 0} (xs : List A) → xs ++ [] ≡ xs
 append_nothing [] = refl
@@ -67,12 +67,6 @@ value_more functions i place f rows values v lt is found =
     by_rest (Ok vs) = ap Ok (shifted values vs v)
     by_rest (Err code) = refl
 
-pub value_raised : (functions : List coded_function.SetFunction) (i place : ℕ) (f : coded_function.SetFunction) (rows : List (List Val)) (values : List Val) (code : Code) → i < length functions → f ≡ get_or functions i f
-    → ◌≡◌ {A = Result Val Code} (Err code) (set_function_value f.kind (values_at place rows)) → later place (drop i functions) rows values ≡ Err code
-value_raised functions i place f rows values code lt is found =
-    ap (λ fs. later place fs rows values) (left functions i f lt is)
-    ∙ ap (λ r. (r >>= (λ value. function_values (place + 1) (kinds_of (map function_of (drop (i + 1) functions))) rows >>= (λ vs. Ok (value ∷ vs)))) >>= (λ rest. Ok (values ++ rest))) (sym found)
-
 -- ---- outcomes
 
 abbrev rows_in : Outcome → List (List Val)
@@ -92,7 +86,3 @@ rows_before rows found [] h = ap (λ (r : List (List Val)). made r []) (rows_are
     rows_are : Rows rows ≡ Rows found → rows ≡ found
     rows_are e = ap rows_in e
 rows_before rows found (c ∷ before) h = absurd cc
-
-pub once_of_ended : (rows : List (List Val)) (codes : List Code) → once_in (ended rows codes) ≡ ended (once rows) codes
-once_of_ended rows [] = refl
-once_of_ended rows (c ∷ codes) = refl

@@ -41,9 +41,6 @@ checked_small v raw h g = grind (arith, nat_tests)
 pub power_small : (k : ℕ) → k ≤ 18 → (1 ≤ 10 ^ k) × (10 ^ k ≤ 10 ^ 18)
 power_small k h = (one-le-pow k 10 (omega arith), pow-le-pow_right (omega arith) h)
 
-pub product_small : (m p : ℕ) → m ≤ greatest → p ≤ 10 ^ 18 → m * p ≤ greatest * 10 ^ 18
-product_small m p h g = mul-le-mul h g
-
 pub number_within : (v : ℤ) → IsTrue (fits v) → unsigned_abs v ≤ capped (unsigned_abs v)
 number_within v h = grind (arith, nat_tests)
 

@@ -11,13 +11,13 @@ use Rattle.qw_low.specs.Syntax.{local, binop, advance, Statement, seq, assign}
 use Rattle.qw_low.specs.State.{Own, Number, Address, Cells, LowState}
 use Rattle.qw_low.specs.Meaning.{value, meaning}
 use Rattle.qw_low.specs.Promise.{Ends}
-use Rattle.qw_low.proofs.Promises.{Ends-then, assign_ends}
+use Rattle.qw_low.proofs.Promises.{assign_ends}
 use Rattle.qw_low.proofs.BlockSteps.{assign_then}
 use Rattle.qw_feed.specs.Frames.{pos, Keeps, From, Below, Before}
-use Rattle.qw_feed.specs.Room.{i32, room_block, HasRoom, Paid}
+use Rattle.qw_feed.specs.Room.{i32, HasRoom, Paid}
 use Rattle.qw_feed.proofs.Frames.{Never, Keeps-set, Keeps-less}
-use Rattle.qw_feed.proofs.RoomRuns.{IsRefusal, Roomy, room_ends}
-use Rattle.qw_table.specs.Tables.{HasTable, directory_block}
+use Rattle.qw_feed.proofs.RoomRuns.{IsRefusal, Roomy}
+use Rattle.qw_table.specs.Tables.{HasTable}
 
 module _ (Has : Cells → ℕ → ℕ → List Val → Type 0) (slot : List Val → ℕ) (size d u budget most fuel : ℕ) (d_high : 5 ≤ d) (u_low : u ≤ page) (s : LowState) (many : d < length s.locals) (part offset : ℕ)
     (h : HasRoom part offset s) (paid : Paid u budget offset s.held) (enough : budget + u + 4096 + 2 * u < (most + 1) * u) where
@@ -118,9 +118,3 @@ module _ (Has : Cells → ℕ → ℕ → List Val → Type 0) (slot : List Val 
     places = assign_then Placed Never IsRefusal most fuel t 8 (seq (assign 1 (advance (local 1) (i32 4096))) lessening) d (local 1) (Address (Own k) o) r.room.free (omega (arith, many, r.keeps.many))
         (assign_then Placed Never IsRefusal most fuel t1 4 lessening 1 (advance (local 1) (i32 4096)) (Address (Own k) (o + 4096)) further (omega (arith, many, many1, d_high))
         (assign_ends Placed Never IsRefusal most fuel 2 (binop I32 Sub (local 2) (i32 4096)) (Number (page - (o + 4096))) t2 fewer (omega (arith, many, many2, d_high)) placed))
-
-  pub directory_ends : Ends 26 Placed Never IsRefusal (meaning most fuel (directory_block d) s)
-  directory_ends = Ends-then Placed Never IsRefusal 16 10 (Roomy 4096 u (budget + u) front s) (meaning most fuel (room_block 4096) s)
-      (meaning most fuel (seq (assign d (local 1)) (seq (assign 1 (advance (local 1) (i32 4096))) (assign 2 (binop I32 Sub (local 2) (i32 4096))))))
-      (room_ends most fuel 4096 u budget (budget + u) (omega arith) (omega arith) (omega (arith, u_low)) s (omega (arith, many, d_high)) part offset h paid (omega (arith, enough)))
-      places
