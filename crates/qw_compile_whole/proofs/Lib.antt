@@ -43,6 +43,7 @@ mod GroupTotals
 mod GroupTyped
 mod GroupUtf8
 pub mod GroupedFinished
+mod GroupedPasses
 pub mod GroupedPlacing
 pub mod GroupedReady
 pub mod GroupedStands
@@ -69,6 +70,7 @@ mod SingleDistinct
 pub mod SingleEnds
 mod SingleKept
 pub mod SingleTyped
+mod StatementAround
 pub mod Taken
 pub mod Walked
 pub mod WalkedInto
