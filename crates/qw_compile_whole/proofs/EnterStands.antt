@@ -1,5 +1,5 @@
 -- The statement of a grouped query with DISTINCT, of what its parts are: what is done at the distinct rows can be emitted, and a short query has short pipelines.
-use Rattle.std.proofs.Common.{◌≡◌, ◌∙◌, ℕ, ◌+◌, ◌≤◌, Bool, false, true, List, [], ◌++◌, length, sum_by, sym, subst, subst₂, refl, arith}
+use Rattle.std.proofs.Common.{◌≡◌, ◌∙◌, ℕ, ◌+◌, ◌≤◌, List, [], ◌++◌, length, sum_by, sym, subst, subst₂, refl, arith}
 use Rattle.std.specs.List.{AllByRecursion}
 use Rattle.std.proofs.lemmas.List.{length-map}
 use Rattle.qw_scalar.specs.Nodes.{nodes, nodes_of}
@@ -28,7 +28,7 @@ use Rattle.qw_compile.specs.Limits.{AreShort, keys_built, keys_sought, lookups}
 use Rattle.qw_compile_whole.specs.DistinctMade.{IsDistinctMade}
 use Rattle.qw_compile_whole.specs.DistinctOf.{IsAgain}
 use Rattle.qw_compile_whole.specs.GroupColumns.{IsBehind, key_from}
-use Rattle.qw_compile_whole.specs.GroupedDistinctLimits.{IsShortGroupedDistinct, IsShortGroups}
+use Rattle.qw_compile_whole.specs.GroupedDistinctLimits.{IsShortGroupedDistinct}
 use Rattle.qw_compile_whole.specs.GroupedLimits.{AreShortGrouped}
 use Rattle.qw_compile_whole.specs.GroupedPlaced.{Selects}
 use Rattle.qw_compile_whole.specs.WholeDistinct.{distinct_columns, distinct_grouping}
@@ -87,11 +87,6 @@ distinct_as tables many ts texts ps ks key vs values behind found_key key_again 
 -- ---- a short query
 pub short_below : (parts : GroupedParts) → IsShortGroupedDistinct parts → IsShortGrouped parts
 short_below parts short = let few = short.few_nodes in record { few_nodes = omega (arith, few); few_octets = short.few_octets }
-
--- with DISTINCT or without
-pub groups_short : (distinct : Bool) (parts : GroupedParts) → IsShortGroups distinct parts → IsShortGrouped parts
-groups_short false parts short = short
-groups_short true parts short = short_below parts short
 
 pub short_again : (parts : GroupedParts) → IsShortGroupedDistinct parts → (before : QueryParts) → query_size nodes nodes_of before ≡ front_size nodes nodes_of parts + length parts.columns → (ps : List coded.Pipeline) (behind : coded.Pipeline) → AreShort ps →
     sum_by (size nodes nodes_of) ps + sum_by keys_built ps ≤ query_size nodes nodes_of before → size nodes nodes_of behind ≤ sum_by nodes_of parts.having + sum_by nodes parts.items → keys_sought behind + (keys_built behind + lookups behind) ≡ 0 →

@@ -1,5 +1,5 @@
 -- What was made of a query, and the module around it.
-use Rattle.std.proofs.Common.{◌≡◌, ◌≤◌, false, true, Option, Some, None, IfSome, IsSome, Result, Ok, Err, IfOk, length, sym, subst}
+use Rattle.std.proofs.Common.{◌≡◌, false, true, Option, Some, None, IfSome, IsSome, Result, Ok, Err, IfOk, sym, subst}
 use Rattle.qw_map.specs.Layout.{Layout}
 use Rattle.qw_module.specs.declared.module.Module.{Module}
 use Rattle.qw_compile.specs.declared.compile.CompileFault.{CompileFault}
@@ -12,9 +12,3 @@ pub ok_finished : (P : QueryStatement → Type 0) (Q : Layout → Module → Typ
 ok_finished P Q o (Err fault) h g f = g
 ok_finished P Q None (Ok compiled) h g f = absurd (let none : false ≡ true = g.0 in cc)
 ok_finished P Q (Some made) (Ok compiled) h g f = subst (λ (l : Layout). Q l compiled.module) (sym g.1.layout_is) (f made compiled h g.1)
-
--- what is short stays so
-pub both_few : (o : Option QueryStatement) → IfSome o (λ (x : QueryStatement). length x.block.code.items ≤ 2097152) → IfSome o (λ (x : QueryStatement). length x.locals.items ≤ 2097152) →
-    IfSome o (λ (x : QueryStatement). (length x.block.code.items ≤ 2097152) × (length x.locals.items ≤ 2097152))
-both_few None h g = tt
-both_few (Some x) h g = (h, g)
