@@ -1,5 +1,5 @@
 -- The pipelines of what reaches GROUP BY can be emitted, whatever is behind them, and their last one's rows can go into groups.
-use Rattle.std.proofs.Common.{◌≡◌, ◌∙◌, ◌≤◌, ℕ, zero, suc, true, Contains, Option, Some, None, IfSome, List, [], ◌∷◌, ◌++◌, length, map, refl, sym, ap, subst, arith}
+use Rattle.std.proofs.Common.{◌≡◌, ◌∙◌, ◌≤◌, ℕ, zero, suc, true, Contains, Option, Some, None, IfSome, Result, Ok, Err, IfOk, List, [], ◌∷◌, ◌++◌, length, map, refl, sym, ap, subst, arith}
 use Rattle.std.specs.List.{AllByRecursion, flat_map}
 use Rattle.std.proofs.lemmas.List.{length-map}
 use Rattle.std.proofs.lemmas.Grind.{flat_map-append}
@@ -9,12 +9,10 @@ use Rattle.qw_types.specs.declared.value.Val.{Val}
 use Rattle.qw_scalar.specs.Expression.{Expression}
 use Rattle.qw_scalar.specs.Typing.{kind_of}
 use Rattle.qw_meaning.specs.Query.{QueryParts, query_of}
-use Rattle.qw_meaning.specs.Select.{Specification}
 use Rattle.qw_algebra.proofs.Lists.{all_append, all_more}
 use Rattle.qw_leaves.proofs.LeafLists.{all_front, all_of_each, texts_of_both}
 use Rattle.qw_leaves.specs.Leaves.{texts_among}
 use Rattle.qw_leaves.specs.declared.leaf.Leaf.{Leaf}
-use Rattle.qw_grouped.specs.Grouped.{Grouped, IsGrouped, front}
 use Rattle.qw_physical.specs.Coded.{pipeline_of}
 use Rattle.qw_physical.specs.Physical.{Pipeline, select}
 use Rattle.qw_physical.specs.declared.pipeline.Pipeline as coded
@@ -23,7 +21,7 @@ use Rattle.qw_module.specs.declared.instruction.ValType.{ValType}
 use Rattle.qw_map.specs.Layout.{Layout}
 use Rattle.qw_map.specs.declared.layout.Used.{Used}
 use Rattle.qw_low.specs.declared.step.LowStep.{LowStep}
-use Rattle.qw_group_sink.specs.Grouping.{CanGroup, Group}
+use Rattle.qw_group_sink.specs.Grouping.{Group}
 use Rattle.qw_group_pipeline.specs.declared.columns.ValueColumn.{ValueColumn}
 use Rattle.qw_compile.specs.QueryColumns.{AreColumnsOf}
 use Rattle.qw_compile.specs.QueryLiterals.{pipeline_leaves, query_texts}
@@ -32,10 +30,8 @@ use Rattle.qw_compile.specs.QueryPasses.{ArePipelinesOf}
 use Rattle.qw_compile.proofs.Planned.{IsPartedOf, all_ready, few_made, named_within, parted_as}
 use Rattle.qw_compile.proofs.PromiseKept.{SelectsItems, last_selects}
 use Rattle.qw_compile.proofs.QueryCan.{IsLiteralOf, IsReadyPipeline, can_stand, literals_known}
-use Rattle.qw_compile_whole.specs.GroupColumns.{key_columns, value_columns}
 use Rattle.qw_compile_whole.specs.GroupedMade.{IsGroupedMade}
-use Rattle.qw_compile_whole.specs.GroupedPlaced.{LastSelects, Selects, group_over}
-use Rattle.qw_compile_whole.proofs.GroupedReady.{can_group}
+use Rattle.qw_compile_whole.specs.GroupedPlaced.{LastSelects, Selects}
 
 -- ---- texts
 contains_left : (xs ys : List (List ℕ)) (t : List ℕ) → Contains xs t → Contains (xs ++ ys) t
@@ -99,18 +95,15 @@ module _ (parts : QueryParts) (kept columns : List ReadColumn) (ps : List coded.
       each [] l g = tt
       each (q ∷ qs) l g = (can_stand tables ts all kept columns q (named_within parts kept columns are) l.0 g.0.0 g.0.1.0 g.0.1.1.0 g.0.1.1.1, each qs l.1 g.1)
 
-  module _ (same_rows : (row other : List Val) → is_same_row row other ≡ true → row ≡ other) (same_value : (a : Val) → value_order a a ≡ ordering.Equal) (query : Grouped) (grouped : IsGrouped query) (front_is : query_of parts ≡ front query) where
-    -- the rows of the last one can go into groups
-    pub groups_can : LastSelects (λ items. CanGroup (group_over (length ps) (key_columns query) (value_columns query) items)) (map pipeline_of ps)
-    groups_can =
-        let some = (few_made parts kept columns ps are of).0 in
-        let h = halved (map pipeline_of ps) (omega (arith, some, length-map ps pipeline_of)) in
-        let same = parted_as kept of.node (map pipeline_of ps) h.building h.last h.is of.same in
-        let cut : IsPartedOf kept of.node (map pipeline_of ps) = record { building = h.building; last = h.last; whole = h.is; same = same.0; same_last = same.1 } in
-        let chosen : SelectsItems (query_of parts).items h.last.sink = last_selects same_rows same_value parts kept columns ps are of cut in
-        let kinds : map kind_of chosen.made ≡ map kind_of (front query).items = chosen.kinds ∙ ap (λ (s : Specification). map kind_of s.items) front_is in
-        subst (LastSelects (λ items. CanGroup (group_over (length ps) (key_columns query) (value_columns query) items))) (sym h.is)
-        (selects_last (λ items. CanGroup (group_over (length ps) (key_columns query) (value_columns query) items)) h.building h.last chosen.made chosen.is (can_group query grouped (length ps) chosen.made kinds))
+  -- what holds of all items of such kinds holds of the last one's
+  pub last_can : ((row other : List Val) → is_same_row row other ≡ true → row ≡ other) → ((a : Val) → value_order a a ≡ ordering.Equal) → (P : List Expression → Type 0) → ((made : List Expression) → map kind_of made ≡ map kind_of (query_of parts).items → P made) → LastSelects P (map pipeline_of ps)
+  last_can same_rows same_value P can =
+      let some = (few_made parts kept columns ps are of).0 in
+      let h = halved (map pipeline_of ps) (omega (arith, some, length-map ps pipeline_of)) in
+      let same = parted_as kept of.node (map pipeline_of ps) h.building h.last h.is of.same in
+      let cut : IsPartedOf kept of.node (map pipeline_of ps) = record { building = h.building; last = h.last; whole = h.is; same = same.0; same_last = same.1 } in
+      let chosen : SelectsItems (query_of parts).items h.last.sink = last_selects same_rows same_value parts kept columns ps are of cut in
+      subst (LastSelects P) (sym h.is) (selects_last P h.building h.last chosen.made chosen.is (can chosen.made chosen.kinds))
 
 -- ---- the statement, of what these are
 pub statement_as : (tables many : ℕ) (ts texts : List (List ℕ)) (ps : List coded.Pipeline) (g : Group) (ks key : List ReadColumn) (vs values : List ValueColumn) (behind : coded.Pipeline) (cs columns : List ReadColumn) (used : List Used) (layout : Layout) (code : List LowStep) (locals : List ValType) →
@@ -122,6 +115,7 @@ statement_as tables many ts texts ps g ks key vs values behind cs columns used l
     (subst (λ (l : List ValueColumn). IsGroupedMade tables ts ps g ks l behind columns used layout code locals) four
     (subst (λ (l : List ReadColumn). IsGroupedMade tables ts ps g ks vs behind l used layout code locals) five h))))
 
-pub some_as : {X : Type 0} (P Q : X → Type 0) (o : Option X) → ((x : X) → P x → Q x) → IfSome o P → IfSome o Q
-some_as P Q None f h = h
-some_as P Q (Some x) f h = f x h
+pub ok_some_as : {X E : Type 0} (r : Result (Option X) E) (P Q : X → Type 0) → ((x : X) → P x → Q x) → IfOk r (λ (found : Option X). IfSome found P) → IfOk r (λ (found : Option X). IfSome found Q)
+ok_some_as (Ok (Some x)) P Q f h = f x h
+ok_some_as (Ok None) P Q f h = tt
+ok_some_as (Err e) P Q f h = h

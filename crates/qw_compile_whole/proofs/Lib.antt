@@ -41,6 +41,7 @@ mod GroupTotals
 mod GroupTyped
 mod GroupUtf8
 mod GroupedFinished
+mod GroupedPasses
 pub mod GroupedPlacing
 pub mod GroupedReady
 pub mod GroupedStands
@@ -66,6 +67,7 @@ pub mod SingleCompiled
 mod SingleDistinct
 pub mod SingleEnds
 mod SingleKept
+mod StatementAround
 pub mod Taken
 pub mod Walked
 pub mod WalkedInto

@@ -1,6 +1,6 @@
 -- The rows of a query's select list can go into a table of groups over all their columns, and be read out of it again, where its items are typed (ISO/IEC
 -- 9075:1992, 7.9).
-use Rattle.std.proofs.Common.{◌≡◌, ◌∙◌, ℕ, ◌+◌, true, Option, Some, None, IsTrue, List, [], ◌∷◌, ◌++◌, length, map, refl, sym, ap, subst, ap₂, arith}
+use Rattle.std.proofs.Common.{◌≡◌, ◌∙◌, ℕ, ◌+◌, true, Option, Some, None, IsTrue, List, [], ◌∷◌, ◌++◌, length, map, refl, sym, ap, ap₂}
 use Rattle.std.specs.List.{AllByRecursion}
 use Rattle.std.proofs.lemmas.List.{length-map}
 use Rattle.std.specs.declared.cmp.Ordering.TheVariants as ordering
@@ -25,15 +25,13 @@ use Rattle.qw_group_sink.specs.Grouping.{CanGroup, Group}
 use Rattle.qw_group_pipeline.specs.Groups.{all_anywhere}
 use Rattle.qw_compile.specs.QueryColumns.{AreColumnsOf}
 use Rattle.qw_compile.specs.QueryPasses.{ArePipelinesOf}
-use Rattle.qw_compile.proofs.Planned.{IsPartedOf, few_made, parted_as}
-use Rattle.qw_compile.proofs.PromiseKept.{SelectsItems, last_selects}
 use Rattle.qw_compile_whole.specs.GroupColumns.{key_from}
 use Rattle.qw_compile_whole.specs.GroupedPlaced.{LastSelects, group_over}
 use Rattle.qw_compile_whole.specs.WholeDistinct.{distinct_columns, distinct_grouping}
 use Rattle.qw_compile_whole.proofs.DistinctTogether.{distinct_together}
 use Rattle.qw_compile_whole.proofs.GroupBounded.{GoTogether}
 use Rattle.qw_compile_whole.proofs.GroupedReady.{key_long}
-use Rattle.qw_compile_whole.proofs.GroupedStands.{halved, selects_last}
+use Rattle.qw_compile_whole.proofs.GroupedStands.{last_can}
 use Rattle.qw_compile_whole.proofs.WholeBehind.{columns_many}
 
 -- ---- kinds
@@ -83,12 +81,5 @@ module _ (parts : QueryParts) (kept columns : List ReadColumn) (ps : List coded.
     -- the rows of the last pipeline can go into it
     pub distinct_can : LastSelects (λ list. CanGroup (group_over (length ps) (key_from 0 (distinct_columns 0 (query_of parts).items)) [] list)) (map pipeline_of ps)
     distinct_can =
-        let some = (few_made parts kept columns ps are of).0 in
-        let h = halved (map pipeline_of ps) (omega (arith, some, length-map ps pipeline_of)) in
-        let same = parted_as kept of.node (map pipeline_of ps) h.building h.last h.is of.same in
-        let cut : IsPartedOf kept of.node (map pipeline_of ps) = record { building = h.building; last = h.last; whole = h.is; same = same.0; same_last = same.1 } in
-        let chosen : SelectsItems (query_of parts).items h.last.sink = last_selects same_rows same_value parts kept columns ps are of cut in
-        let long : length chosen.made ≡ length items = sym (length-map chosen.made kind_of) ∙ (ap (λ (l : List (Option Kind)). length l) chosen.kinds ∙ length-map items kind_of) in
-        subst (LastSelects (λ list. CanGroup (group_over (length ps) (key_from 0 (distinct_columns 0 items)) [] list))) (sym h.is)
-        (selects_last (λ list. CanGroup (group_over (length ps) (key_from 0 (distinct_columns 0 items)) [] list)) h.building h.last chosen.made chosen.is
-        (together_as (group_over (length ps) (key_from 0 (distinct_columns 0 items)) [] chosen.made) [] refl refl long).can)
+        last_can parts kept columns ps are of same_rows same_value (λ list. CanGroup (group_over (length ps) (key_from 0 (distinct_columns 0 items)) [] list))
+        (λ made kinds. (together_as (group_over (length ps) (key_from 0 (distinct_columns 0 items)) [] made) [] refl refl (sym (length-map made kind_of) ∙ (ap (λ (l : List (Option Kind)). length l) kinds ∙ length-map items kind_of))).can)

@@ -1,6 +1,6 @@
 -- Without GROUP BY DISTINCT changes nothing, and promises no less: the module of the query without it is a compiled form of the query with it (ISO/IEC 9075:1992, 7.8,
 -- 7.9).
-use Rattle.std.proofs.Common.{◌≡◌, ◌≤◌, ℕ, ◌+◌, ◌-◌, ◌*◌, ◌/◌, max, true, false, List, [], ◌∷◌, length, refl, sym, ap, subst, arith}
+use Rattle.std.proofs.Common.{◌≡◌, ◌≤◌, ℕ, ◌+◌, ◌-◌, ◌*◌, ◌/◌, max, Bool, true, false, List, [], ◌∷◌, length, refl, sym, ap, subst, arith}
 use Rattle.std.proofs.Math.Nat.{div-mul-le_self}
 use Rattle.std.proofs.lemmas.Nat.{le-div, mul-le}
 use Rattle.qw_types.specs.declared.code.Code.{Code}
@@ -72,3 +72,8 @@ module _ (query : Grouped) (whole : IsGrouped query) (alone : length query.colum
       (λ tables of. same_ended query (flow (front query) tables) (flow (front query) tables).codes refl alone)
       (λ tables of. omega arith)
       (λ tables of. pages_more tables) h
+
+  -- with DISTINCT or without
+  pub single_asked : (distinct : Bool) (layout : Layout) (m : Module) → IsCompiled (promise_of_whole (record { body = grouped query; distinct = false })) layout m → IsCompiled (promise_of_whole (record { body = grouped query; distinct = distinct })) layout m
+  single_asked false layout m h = h
+  single_asked true layout m h = single_distinct layout m h

@@ -8,11 +8,14 @@ pub mod DistinctStatements
 pub mod GroupColumns
 pub mod GroupedLimits
 pub mod GroupedMade
+pub mod GroupedPasses
 pub mod GroupedPlaced
 pub mod GroupedStatements
 pub mod GuardedStatements
+pub mod LastGroup
 pub mod PlainDistinctOf
 pub mod SingleStatements
+pub mod StatementAround
 pub mod StatementOf
 pub mod WholeDistinct
 pub mod WholeLimits

@@ -24,8 +24,9 @@ use Rattle.qw_compile_whole.specs.GroupColumns.{IsBehind, key_columns, value_col
 use Rattle.qw_compile_whole.specs.GroupedMade.{IsGroupedMade}
 use Rattle.qw_compile_whole.specs.WholeTexts.{front_texts, texts_of_grouped}
 
-pub record IsStatementOf (parts : GroupedParts) (layout : Layout) (code : List LowStep) (locals : List ValType) : Type 0 where
-  -- what reaches GROUP BY
+-- made as is said of the pipelines, of the group that their rows go into, of what is behind it, and of the columns and their places
+pub record IsPlannedOf (parts : GroupedParts) (IsMade : (ps : List Pipeline) → Group → (behind : Pipeline) → (columns : List ReadColumn) → List Used → Type 0) : Type 0 where
+  -- what reaches GROUP BY, or the set functions where there is none
   pub before : QueryParts
   pub before_is : query_of before ≡ front (grouped_of parts)
   pub before_texts : texts_of_query before ≡ front_texts parts
@@ -42,6 +43,11 @@ pub record IsStatementOf (parts : GroupedParts) (layout : Layout) (code : List L
   pub behind_is : IsBehind (grouped_of parts) (pipeline_of behind)
   -- all texts of which are among the query's
   pub among : AllByRecursion (Contains (texts_of_grouped parts)) (query_texts (ps ++ behind ∷ []))
-  -- and their statement, of as many tables as there are such pipelines
+  -- and what is made of them
   pub group : Group
-  pub made : IsGroupedMade (length ps) (texts_of_grouped parts) ps group (key_columns (grouped_of parts)) (value_columns (grouped_of parts)) behind columns used layout code locals
+  pub made : IsMade ps group behind columns used
+
+-- of as many tables as there are such pipelines
+abbrev pub IsStatementOf : GroupedParts → Layout → (code : List LowStep) → (locals : List ValType) → Type 0
+IsStatementOf parts layout code locals =
+    IsPlannedOf parts (λ ps group behind columns used. IsGroupedMade (length ps) (texts_of_grouped parts) ps group (key_columns (grouped_of parts)) (value_columns (grouped_of parts)) behind columns used layout code locals)

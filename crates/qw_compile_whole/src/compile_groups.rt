@@ -15,19 +15,22 @@ ghost use Rattle.qw_whole.specs.WholePromises.{promise_of_whole};
 ghost use Rattle.qw_compile_whole.specs.GroupedDistinctLimits.{IsShortGroups};
 ghost use Rattle.qw_compile_whole.specs.WholeTexts.{texts_of_grouped};
 
-use crate::compile_grouped::compile_grouped;
-use crate::compile_grouped_distinct::compile_grouped_distinct;
-use crate::compile_single::compile_single;
-use crate::compile_single_distinct::compile_single_distinct;
+use crate::finish::finish;
+use crate::statement_of::{statement_of_distinct, statement_of_grouped, statement_of_single};
 use qw_compile::compile::{CompileFault, Compiled};
 use qw_grouped::query::GroupedQuery;
+use qw_types::value_order_laws::order_laws;
 use std::alloc::Global;
 
-/// The module that runs a grouped query, and its layout, whose literals are the query's texts.
+/// The module that runs a grouped query, and its layout: its columns are those that what reaches GROUP BY reads, its literals the query's texts. Set functions count
+/// and sum fewer than 10^18 rows, which is all that two entries of FROM can bring; of more entries no run that ends meets as many. With DISTINCT the rows that HAVING
+/// and the select list make of the groups go into a second hash table, of all their values, and the walk over that one makes the result. Without GROUP BY all rows
+/// are one group, also where there is no row, and DISTINCT changes nothing, since the result has at most one row (ISO/IEC 9075:1992, 7.8, 7.9).
 ///
 /// # Errors
 ///
-/// Those of [`compile_grouped`]; with DISTINCT those of [`compile_grouped_distinct`].
+/// [`CompileFault::TooLong`] where more than 2^21 steps would be compiled, or as many locals, or the literals are too many or too long: never of a short query, with
+/// DISTINCT of one that is short with each item of the select list counted as two nodes more; [`CompileFault::NoMemory`] where memory does not suffice.
 pub(crate) fn compile_groups(
     alloc: Global,
     query: &GroupedQuery,
@@ -40,15 +43,18 @@ pub(crate) fn compile_groups(
     ensures texts { IfOk result (λ compiled. compiled.layout.literals ≡ concat (texts_of_grouped query.now)) }
     ensures short { IsShortGroups distinct query.now → IfErr result (λ fault. fault ≡ faults.NoMemory) }
 {
+    // That rows which aren't distinct are the same row is what the bounds on hash tables rest on.
+    order_laws();
+    // That a grouped query is typed within its limits is known where a part of it is taken.
+    let _sources = query.sources();
     if query.columns().is_empty() {
-        if distinct {
-            compile_single_distinct(alloc, query)
-        } else {
-            compile_single(alloc, query)
-        }
+        let single = statement_of_single(alloc, query)?;
+        finish(alloc, single)
     } else if distinct {
-        compile_grouped_distinct(alloc, query)
+        let entered = statement_of_distinct(alloc, query)?;
+        finish(alloc, entered)
     } else {
-        compile_grouped(alloc, query)
+        let grouped = statement_of_grouped(alloc, query)?;
+        finish(alloc, grouped)
     }
 }

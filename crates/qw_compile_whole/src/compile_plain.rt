@@ -15,16 +15,19 @@ ghost use Rattle.qw_compile.specs.declared.compile.CompileFault.TheVariants as f
 ghost use Rattle.qw_whole.specs.WholePromises.{promise_of_whole};
 ghost use Rattle.qw_compile_whole.specs.DistinctLimits.{IsShortPlain};
 
-use crate::compile_distinct::compile_distinct;
+use crate::finish::finish;
+use crate::plain_distinct::statement_of_plain_distinct;
 use qw_compile::compile::{CompileFault, Compiled, compile};
 use qw_meaning::query::Query;
+use qw_types::value_order_laws::order_laws;
 use std::alloc::Global;
 
-/// The module that runs a query that isn't grouped, and its layout, whose literals are the query's texts.
+/// The module that runs a query that isn't grouped, and its layout: its columns are those that the query reads, its literals the query's texts. With DISTINCT each
+/// row of the select list goes into a hash table of all its values, and the walk over that one makes the result (ISO/IEC 9075:1992, 7.9).
 ///
 /// # Errors
 ///
-/// Those of `compile` of `qw_compile`; with DISTINCT those of `compile_distinct`.
+/// Those of `compile` of `qw_compile`; with DISTINCT an item of the select list counts as three nodes more.
 pub(crate) fn compile_plain(
     alloc: Global,
     query: &Query,
@@ -38,7 +41,10 @@ pub(crate) fn compile_plain(
     ensures short { IsShortPlain distinct query.now → IfErr result (λ fault. fault ≡ faults.NoMemory) }
 {
     if distinct {
-        compile_distinct(alloc, query)
+        // That rows which aren't distinct are the same row is what the bounds on hash tables rest on.
+        order_laws();
+        let made = statement_of_plain_distinct(alloc, query)?;
+        finish(alloc, made)
     } else {
         compile(alloc, query)
     }

@@ -15,8 +15,7 @@ ghost use Rattle.qw_compile_whole.specs.GroupedDistinctLimits.{enter_span};
 ghost use Rattle.qw_compile_whole.specs.GroupedLimits.{gathering_span, walk_span};
 ghost use Rattle.qw_compile_whole.specs.GroupedPlaced.{CanGather, CanWalk, LastSelects, Selects, group_over};
 
-use crate::counted::guard_for;
-use crate::gathering::{Begun, emit_front, emit_walk, functions_of};
+use crate::gathering::{Begun, LastGroup, emit_front, emit_walk, last_group};
 use qw_compile::bindings::bindings_of;
 use qw_compile::courses::{Emitted, Places, behind};
 use qw_compile::query_locals::directory;
@@ -154,7 +153,7 @@ pub fn emit_distinct_parts(
     alloc: Global,
     first: Local,
     places: &Places,
-    mut pipelines: Vec<Pipeline>,
+    pipelines: Vec<Pipeline>,
     columns: &GroupColumns,
     behind: Pipeline,
     again: &Again,
@@ -175,20 +174,6 @@ pub fn emit_distinct_parts(
         + walk_span (length columns.now.key.items) (length columns.now.values.items) behind + 356 * length again.now.columns.key.items + walk_span (length again.now.columns.key.items) (length again.now.columns.values.items) again.now.pipeline + 200) }
 {
     let tables = pipelines.len();
-    let Some(
-        Pipeline {
-            entry,
-            operators,
-            sink,
-            ..
-        },
-    ) = pipelines.pop()
-    else {
-        return Err(NoMemory);
-    };
-    let Sink::Select(values) = sink else {
-        return Err(NoMemory);
-    };
     let Pipeline {
         operators: having,
         sink: shown,
@@ -197,22 +182,21 @@ pub fn emit_distinct_parts(
     let Sink::Select(items) = shown else {
         return Err(NoMemory);
     };
-    let functions = functions_of(alloc, &columns.values)?;
-    let group = Group {
-        table: pipelines.len(),
-        columns: columns.key.len(),
-        functions,
-        values,
-    };
+    let LastGroup {
+        builders,
+        entry,
+        operators,
+        group,
+        guard,
+    } = last_group(alloc, pipelines, columns.key.len(), &columns.values)?;
     let into = Group {
         table: tables,
         columns: items.len(),
         functions: Vec::new(alloc),
         values: items,
     };
-    let guard = guard_for(tables, columns.values.len());
     emit_distinct(
-        alloc, first, places, &pipelines, entry, &operators, &group, guard, columns, &having,
-        &into, again,
+        alloc, first, places, &builders, entry, &operators, &group, guard, columns, &having, &into,
+        again,
     )
 }

@@ -12,7 +12,7 @@ ghost use Rattle.qw_compile_whole.specs.DistinctLimits.{IsShortDistinct};
 ghost use Rattle.qw_compile_whole.specs.PlainDistinctOf.{IsPlainDistinctOf};
 
 use crate::distinct_columns::{behind_distinct, distinct_columns};
-use crate::grouped_statement::grouped_statement_of;
+use crate::statements::grouped_statement_of;
 use qw_compile::compile::columns_of;
 use qw_compile::passes::pipelines_of;
 use qw_compile::query_statement::QueryStatement;

@@ -1,3 +1,2 @@
-pub mod CompiledLemmas
 mod EmptyModules
 mod OwnWeights

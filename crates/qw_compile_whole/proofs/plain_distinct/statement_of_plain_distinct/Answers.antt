@@ -1,6 +1,5 @@
-use Rattle.std.proofs.Common.{◌≡◌, ◌≤◌, ◌+◌, ◌++◌, ◌∷◌, [], ℕ, eqb, Contains, IfSome, Option, List, length, map, sym, ap, ◌∙◌, append-nil, subst, subst₂, arith}
+use Rattle.std.proofs.Common.{◌≡◌, ◌≤◌, ◌+◌, ◌++◌, ◌∷◌, [], ℕ, eqb, Contains, List, length, map, sym, ap, ◌∙◌, append-nil, subst, subst₂, arith}
 use Rattle.std.specs.List.{AllByRecursion, IsDistinct, concat}
-use Rattle.std.proofs.lemmas.List.{length-map}
 use Rattle.qw_types.specs.Value.{IsSized}
 use Rattle.qw_scalar.specs.Tree.{expression_of}
 use Rattle.qw_scalar.specs.Typing.{IsTyped}
@@ -13,7 +12,6 @@ use Rattle.qw_physical.specs.Named.{numbers}
 use Rattle.qw_physical.specs.Physical.{Operator, Sink, select}
 use Rattle.qw_physical.specs.declared.pipeline.Pipeline.{Pipeline}
 use Rattle.qw_physical.specs.declared.pipeline.ReadColumn.{ReadColumn}
-use Rattle.qw_physical.proofs.Reading.{if_ok}
 use Rattle.qw_operator.specs.Takes.{AreSized, CanCarry}
 use Rattle.qw_group_sink.specs.Grouping.{CanGroup, Group}
 use Rattle.qw_group_pipeline.specs.Groups.{all_anywhere}
@@ -35,7 +33,7 @@ use Rattle.qw_compile_whole.specs.PlainDistinctOf.{IsPlainDistinctOf}
 use Rattle.qw_compile_whole.specs.WholeDistinct.{distinct_columns, distinct_grouping}
 use Rattle.qw_compile_whole.proofs.DistinctColumns.{items_coded, shows_key}
 use Rattle.qw_compile_whole.proofs.DistinctTogether.{all_sized}
-use Rattle.qw_compile_whole.proofs.GroupedStands.{front_stands, some_as, statement_as, texts_among_both}
+use Rattle.qw_compile_whole.proofs.GroupedStands.{front_stands, ok_some_as, statement_as, texts_among_both}
 use Rattle.qw_compile_whole.proofs.PlainDistinctReady.{behind_takes, distinct_can, group_over_long, items_typed}
 use Rattle.qw_compile_whole.proofs.ShortDistinct.{distinct_short}
 use Rattle.qw_compile_whole.proofs.plain_distinct.statement_of_plain_distinct.Goals as goal
@@ -136,11 +134,9 @@ returns-clause-made c =
     let key_is = c.in_ok-groups.ensures.key ∙ ap (λ (l : List Expr). key_from 0 (distinct_columns 0 (map expression_of l))) c.items.ensures.items in
     let sink_is : (pipeline_of behind).sink ≡ select (distinct_grouping (query_of q)).items =
     c.in_ok-behind.ensures.sink ∙ (ap (λ (l : List ReadColumn). select (map column_of l)) (c.deref-3.ensures.value ∙ key_is) ∙ ap select (shows_key 0 (query_of q).items)) in
-    if_ok c.grouped_statement_of.result
-    (λ (found : Option QueryStatement). IfSome found (λ (made : QueryStatement). (group : Group) × IsGroupedMade c.len-tables.result ts ps group key values behind cs used made.layout made.block.code.items made.locals.items))
-    (λ (found : Option QueryStatement). IfSome found (λ (made : QueryStatement). IsPlainDistinctOf q made.layout made.block.code.items made.locals.items))
-    (λ found h. some_as (λ (made : QueryStatement). (group : Group) × IsGroupedMade c.len-tables.result ts ps group key values behind cs used made.layout made.block.code.items made.locals.items)
-    (λ (made : QueryStatement). IsPlainDistinctOf q made.layout made.block.code.items made.locals.items) found
+    ok_some_as c.grouped_statement_of.result
+    (λ (made : QueryStatement). (group : Group) × IsGroupedMade c.len-tables.result ts ps group key values behind cs used made.layout made.block.code.items made.locals.items)
+    (λ (made : QueryStatement). IsPlainDistinctOf q made.layout made.block.code.items made.locals.items)
     (λ made g. record {
       kept = kept;
       columns = read;
@@ -157,7 +153,7 @@ returns-clause-made c =
       group = g.0;
       made = statement_as c.len-tables.result (length ps) ts (texts_of_query q) ps g.0 key (key_from 0 (distinct_columns 0 (query_of q).items)) values [] behind cs read used made.layout made.block.code.items made.locals.items tables c.in_ok-texts.ensures.texts key_is
           c.in_ok-groups.ensures.values c.deref-4.ensures.value g.1;
-    }) h)
+    })
     c.grouped_statement_of.ensures.made
 
 pub returns-clause-there : goal.returns-clause-there
@@ -166,11 +162,8 @@ returns-clause-there c = λ fits.
     let ps = c.in_ok-pipelines.pipelines.items in
     let behind = c.in_ok-behind.behind in
     let key_is = c.in_ok-groups.ensures.key ∙ ap (λ (l : List Expr). key_from 0 (distinct_columns 0 (map expression_of l))) c.items.ensures.items in
-    let key = ap (λ (l : List ReadColumn). length l) key_is ∙ (group_over_long 0 (query_of q).items ∙ length-map q.items expression_of) in
-    let values = ap (λ (l : List ValueColumn). length l) c.in_ok-groups.ensures.values in
-    let many : length c.in_ok-groups.groups.key.items + length c.in_ok-groups.groups.values.items ≡ length c.args.query.now.items = omega (arith, key, values) in
     let shown = c.in_ok-behind.ensures.short ∙ ap (λ (l : List ReadColumn). length l) c.deref-3.ensures.value in
-    let shorted = distinct_short q fits ps behind (c.in_ok-pipelines.ensures.short fits.short) c.in_ok-pipelines.ensures.keyed _ many (omega (arith, shown, values)) c.in_ok-behind.ensures.alone in
+    let shorted = distinct_short q fits ps behind (c.in_ok-pipelines.ensures.short fits.short) c.in_ok-pipelines.ensures.keyed _ _ key_is c.in_ok-groups.ensures.values shown c.in_ok-behind.ensures.alone in
     let few = subst (λ (ts : List (List ℕ)). (length ts ≤ 4012) × (length (concat ts) ≤ 16384)) (sym c.in_ok-texts.ensures.texts) (few_texts q fits.short) in
     c.grouped_statement_of.ensures.there shorted few.0 few.1
 
@@ -180,11 +173,8 @@ returns-clause-short c = λ fits.
     let ps = c.in_ok-pipelines.pipelines.items in
     let behind = c.in_ok-behind.behind in
     let key_is = c.in_ok-groups.ensures.key ∙ ap (λ (l : List Expr). key_from 0 (distinct_columns 0 (map expression_of l))) c.items.ensures.items in
-    let key = ap (λ (l : List ReadColumn). length l) key_is ∙ (group_over_long 0 (query_of q).items ∙ length-map q.items expression_of) in
-    let values = ap (λ (l : List ValueColumn). length l) c.in_ok-groups.ensures.values in
-    let many : length c.in_ok-groups.groups.key.items + length c.in_ok-groups.groups.values.items ≡ length c.args.query.now.items = omega (arith, key, values) in
     let shown = c.in_ok-behind.ensures.short ∙ ap (λ (l : List ReadColumn). length l) c.deref-3.ensures.value in
-    let shorted = distinct_short q fits ps behind (c.in_ok-pipelines.ensures.short fits.short) c.in_ok-pipelines.ensures.keyed _ many (omega (arith, shown, values)) c.in_ok-behind.ensures.alone in
+    let shorted = distinct_short q fits ps behind (c.in_ok-pipelines.ensures.short fits.short) c.in_ok-pipelines.ensures.keyed _ _ key_is c.in_ok-groups.ensures.values shown c.in_ok-behind.ensures.alone in
     let few = subst (λ (ts : List (List ℕ)). (length ts ≤ 4012) × (length (concat ts) ≤ 16384)) (sym c.in_ok-texts.ensures.texts) (few_texts q fits.short) in
     let once = subst (λ (l : List ReadColumn). IsDistinct eqb (numbers l)) (sym c.deref-4.ensures.value) c.in_ok-columns.ensures.once in
     c.grouped_statement_of.ensures.short shorted few.0 once
@@ -195,11 +185,8 @@ returns-clause-few_locals c = λ fits.
     let ps = c.in_ok-pipelines.pipelines.items in
     let behind = c.in_ok-behind.behind in
     let key_is = c.in_ok-groups.ensures.key ∙ ap (λ (l : List Expr). key_from 0 (distinct_columns 0 (map expression_of l))) c.items.ensures.items in
-    let key = ap (λ (l : List ReadColumn). length l) key_is ∙ (group_over_long 0 (query_of q).items ∙ length-map q.items expression_of) in
-    let values = ap (λ (l : List ValueColumn). length l) c.in_ok-groups.ensures.values in
-    let many : length c.in_ok-groups.groups.key.items + length c.in_ok-groups.groups.values.items ≡ length c.args.query.now.items = omega (arith, key, values) in
     let shown = c.in_ok-behind.ensures.short ∙ ap (λ (l : List ReadColumn). length l) c.deref-3.ensures.value in
-    let shorted = distinct_short q fits ps behind (c.in_ok-pipelines.ensures.short fits.short) c.in_ok-pipelines.ensures.keyed _ many (omega (arith, shown, values)) c.in_ok-behind.ensures.alone in
+    let shorted = distinct_short q fits ps behind (c.in_ok-pipelines.ensures.short fits.short) c.in_ok-pipelines.ensures.keyed _ _ key_is c.in_ok-groups.ensures.values shown c.in_ok-behind.ensures.alone in
     let few = subst (λ (ts : List (List ℕ)). (length ts ≤ 4012) × (length (concat ts) ≤ 16384)) (sym c.in_ok-texts.ensures.texts) (few_texts q fits.short) in
     let once = subst (λ (l : List ReadColumn). IsDistinct eqb (numbers l)) (sym c.deref-4.ensures.value) c.in_ok-columns.ensures.once in
     c.grouped_statement_of.ensures.few_locals shorted few.0 once
