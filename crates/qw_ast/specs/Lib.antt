@@ -8,3 +8,4 @@ pub mod SchemaGrammar
 pub mod ScriptGrammar
 pub mod Syntax
 pub mod SyntaxTree
+pub mod Walk

@@ -5,90 +5,57 @@ use Rattle.qw_token.specs.Token.{Lexeme}
 use Rattle.qw_ast.specs.Quoted.{string_value}
 use Rattle.qw_ast.specs.SchemaGrammar.{IsTooDeep}
 use Rattle.qw_ast.specs.ScriptGrammar.{IsSelectOf}
-use Rattle.qw_ast.specs.Syntax.{Expression, null, number, text, date, column, signed, arithmetic, extract, searched_case, simple_case, call, count_rows, set_function, Condition, comparison, between, among, predicate, both, either, negation_of, is, bracketed, Clause, condition, expression, Expressions, last, further, Branching, otherwise, when, SelectItem, Selected, all_columns, items, Entry, Joined, Source, Select}
+use Rattle.qw_ast.specs.Syntax.{Expression, null, text, Condition, Clause, Expressions, Branching, SelectItem, Selected, all_columns, items, Entry, Joined, Source, Select}
+use Rattle.qw_ast.specs.Walk.{Walk, walked, condition_walked, clause_walked, all_walked, branches_walked}
 
 -- ---- how large a query is
 
 -- Nodes: each literal, column reference, operator, predicate, function, set function and CASE. A date with its intervals is one literal;
 -- the word NULL as a result is none, and brackets are none. The keys of ORDER BY are no nodes, and are counted by themselves.
-abbrev mutual
-  pub nodes : Expression → ℕ
-  nodes null = 0
-  nodes (number digits) = 1
-  nodes (text octets) = 1
-  nodes (date octets intervals) = 1
-  nodes (column qualifier name) = 1
-  nodes (signed sign a) = 1 + nodes a
-  nodes (arithmetic operator a b) = 1 + (nodes a + nodes b)
-  nodes (extract field a) = 1 + nodes a
-  nodes (searched_case branches) = 1 + nodes_branches branches
-  nodes (simple_case x branches) = 1 + (nodes x + nodes_branches branches)
-  nodes (call function es) = 1 + nodes_all es
-  nodes (count_rows place) = 1
-  nodes (set_function place f a) = 1 + nodes a
+abbrev pub leaf_nodes : Expression → ℕ
+leaf_nodes null = 0
+leaf_nodes leaf = 1
 
-  pub nodes_condition : Condition → ℕ
-  nodes_condition (comparison op a b) = 1 + (nodes a + nodes b)
-  nodes_condition (between negated x a b) = 1 + (nodes x + (nodes a + nodes b))
-  nodes_condition (among negated x es) = 1 + (nodes x + nodes_all es)
-  nodes_condition (predicate p negated a) = 1 + nodes a
-  nodes_condition (both c d) = 1 + (nodes_condition c + nodes_condition d)
-  nodes_condition (either c d) = 1 + (nodes_condition c + nodes_condition d)
-  nodes_condition (negation_of c) = 1 + nodes_condition c
-  nodes_condition (is negated c truth) = 1 + nodes_condition c
-  nodes_condition (bracketed c) = nodes_condition c
+abbrev pub counting_nodes : Walk ℕ
+counting_nodes = record { leaf = leaf_nodes; join = λ m n. m + n; made = λ n. 1 + n; function = λ place f a n. 1 + n }
 
-  pub nodes_clause : Clause → ℕ
-  nodes_clause (condition c) = nodes_condition c
-  nodes_clause (expression e) = nodes e
+abbrev pub nodes : Expression → ℕ
+nodes e = walked counting_nodes e
 
-  pub nodes_all : Expressions → ℕ
-  nodes_all (last e) = nodes e
-  nodes_all (further e es) = nodes e + nodes_all es
+abbrev pub nodes_condition : Condition → ℕ
+nodes_condition c = condition_walked counting_nodes c
 
-  pub nodes_branches : Branching → ℕ
-  nodes_branches (otherwise e) = nodes e
-  nodes_branches (when c e rest) = nodes_clause c + (nodes e + nodes_branches rest)
+abbrev pub nodes_clause : Clause → ℕ
+nodes_clause c = clause_walked counting_nodes c
+
+abbrev pub nodes_all : Expressions → ℕ
+nodes_all es = all_walked counting_nodes es
+
+abbrev pub nodes_branches : Branching → ℕ
+nodes_branches branches = branches_walked counting_nodes branches
 
 -- the octets of the values of all character strings that are in no date
-abbrev mutual
-  pub octets : Expression → ℕ
-  octets null = 0
-  octets (number digits) = 0
-  octets (text string) = length (string_value string)
-  octets (date string intervals) = 0
-  octets (column qualifier name) = 0
-  octets (signed sign a) = octets a
-  octets (arithmetic operator a b) = octets a + octets b
-  octets (extract field a) = octets a
-  octets (searched_case branches) = octets_branches branches
-  octets (simple_case x branches) = octets x + octets_branches branches
-  octets (call function es) = octets_all es
-  octets (count_rows place) = 0
-  octets (set_function place f a) = octets a
+abbrev pub leaf_octets : Expression → ℕ
+leaf_octets (text string) = length (string_value string)
+leaf_octets leaf = 0
 
-  pub octets_condition : Condition → ℕ
-  octets_condition (comparison op a b) = octets a + octets b
-  octets_condition (between negated x a b) = octets x + (octets a + octets b)
-  octets_condition (among negated x es) = octets x + octets_all es
-  octets_condition (predicate p negated a) = octets a
-  octets_condition (both c d) = octets_condition c + octets_condition d
-  octets_condition (either c d) = octets_condition c + octets_condition d
-  octets_condition (negation_of c) = octets_condition c
-  octets_condition (is negated c truth) = octets_condition c
-  octets_condition (bracketed c) = octets_condition c
+abbrev pub counting_octets : Walk ℕ
+counting_octets = record { leaf = leaf_octets; join = λ m n. m + n; made = λ n. n; function = λ place f a n. n }
 
-  pub octets_clause : Clause → ℕ
-  octets_clause (condition c) = octets_condition c
-  octets_clause (expression e) = octets e
+abbrev pub octets : Expression → ℕ
+octets e = walked counting_octets e
 
-  pub octets_all : Expressions → ℕ
-  octets_all (last e) = octets e
-  octets_all (further e es) = octets e + octets_all es
+abbrev pub octets_condition : Condition → ℕ
+octets_condition c = condition_walked counting_octets c
 
-  pub octets_branches : Branching → ℕ
-  octets_branches (otherwise e) = octets e
-  octets_branches (when c e rest) = octets_clause c + (octets e + octets_branches rest)
+abbrev pub octets_clause : Clause → ℕ
+octets_clause c = clause_walked counting_octets c
+
+abbrev pub octets_all : Expressions → ℕ
+octets_all es = all_walked counting_octets es
+
+abbrev pub octets_branches : Branching → ℕ
+octets_branches branches = branches_walked counting_octets branches
 
 -- the items of a select list; `*` is none
 abbrev pub items_of : Selected → List SelectItem

@@ -15,6 +15,7 @@ use Rattle.qw_ast.specs.declared.script.SetFunction.{SetFunction}
 use Rattle.qw_ast.specs.declared.script.SetFunction.TheVariants.{Count, Sum, Avg, Min, Max}
 use Rattle.qw_ast.specs.Grammar.{name_of}
 use Rattle.qw_ast.specs.Syntax.{Expression, null, number, text, date, column, signed, arithmetic, extract, searched_case, simple_case, call, count_rows, set_function, Condition, comparison, between, among, predicate, both, either, negation_of, is, bracketed, condition, expression, Expressions, last, further, Branching, otherwise, when}
+use Rattle.qw_ast.specs.Walk.{Walk, walked, condition_walked, all_walked, branches_walked}
 use Rattle.qw_typer.specs.declared.fault.FaultKind.{FaultKind}
 use Rattle.qw_typer.specs.declared.fault.FaultKind.TheVariants.{Ambiguous, UnknownTable, UnknownColumn, Clash, ScaleTooLarge, LiteralTooLong, BadDate, NotGrouped, NestedAggregate}
 use Rattle.qw_typer.specs.Literal.{date_of, number_of}
@@ -45,41 +46,28 @@ function_word Max = codes "MAX"
 
 -- the first literal of an expression, or the name of its first column or the word of its first set function where that comes before; NULL
 -- alone has none
-abbrev mutual
-  pub first_token : Expression → List ℕ
-  first_token null = []
-  first_token (number octets) = octets
-  first_token (text octets) = octets
-  first_token (date string intervals) = string
-  first_token (column qualifier name) = name_of name
-  first_token (signed sign a) = first_token a
-  first_token (arithmetic operator a b) = first_token a
-  first_token (extract field a) = first_token a
-  first_token (searched_case branches) = first_of_branches branches
-  first_token (simple_case x branches) = first_token x
-  first_token (call function es) = first_of_all es
-  first_token (count_rows place) = codes "COUNT"
-  first_token (set_function place f a) = function_word f
+abbrev pub leaf_token : Expression → List ℕ
+leaf_token (number octets) = octets
+leaf_token (text octets) = octets
+leaf_token (date string intervals) = string
+leaf_token (column qualifier name) = name_of name
+leaf_token (count_rows place) = codes "COUNT"
+leaf_token e = []
 
-  pub first_of_condition : Condition → List ℕ
-  first_of_condition (comparison op a b) = first_token a
-  first_of_condition (between negated x a b) = first_token x
-  first_of_condition (among negated x es) = first_token x
-  first_of_condition (predicate p negated a) = first_token a
-  first_of_condition (both c d) = first_of_condition c
-  first_of_condition (either c d) = first_of_condition c
-  first_of_condition (negation_of c) = first_of_condition c
-  first_of_condition (is negated c t) = first_of_condition c
-  first_of_condition (bracketed c) = first_of_condition c
+abbrev pub finding_token : Walk (List ℕ)
+finding_token = record { leaf = leaf_token; join = λ t others. t; made = λ t. t; function = λ place f a t. function_word f }
 
-  pub first_of_all : Expressions → List ℕ
-  first_of_all (last e) = first_token e
-  first_of_all (further e es) = first_token e
+abbrev pub first_token : Expression → List ℕ
+first_token e = walked finding_token e
 
-  pub first_of_branches : Branching → List ℕ
-  first_of_branches (otherwise e) = first_token e
-  first_of_branches (when (condition c) e rest) = first_of_condition c
-  first_of_branches (when (expression v) e rest) = first_token v
+abbrev pub first_of_condition : Condition → List ℕ
+first_of_condition c = condition_walked finding_token c
+
+abbrev pub first_of_all : Expressions → List ℕ
+first_of_all es = all_walked finding_token es
+
+abbrev pub first_of_branches : Branching → List ℕ
+first_of_branches branches = branches_walked finding_token branches
 
 -- ---- the faults of one construct, its operands having none
 
