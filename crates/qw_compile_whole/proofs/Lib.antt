@@ -24,7 +24,6 @@ pub mod Gathered
 pub mod GatheringLengths
 pub mod GatheringPlaced
 pub mod GroupBounded
-pub mod GroupCompiled
 mod GroupCore
 mod GroupCosts
 pub mod GroupEnds
@@ -82,7 +81,6 @@ pub mod FieldCounts
 pub mod FirstTaken
 pub mod FirstTakenBounded
 pub mod TakenFronts
-pub mod SingleLongCompiled
 pub mod SinglePlacing
 pub mod SingleStands
 mod SingleWhole

@@ -37,7 +37,7 @@ use Rattle.qw_compile_whole.specs.PlainDistinctOf.{IsPlainDistinctOf}
 use Rattle.qw_compile_whole.specs.WholeDistinct.{distinct_columns, distinct_grouping}
 use Rattle.qw_compile_whole.proofs.FrontLed.{FrontOf, built_low, columns_many, end_leads, front_kinds, front_leads, laid_columns, literals_over, result_leads, small_words, used_columns}
 use Rattle.qw_compile_whole.proofs.GroupBounded.{GoTogether}
-use Rattle.qw_compile_whole.proofs.GroupCompiled.{grouped_compiled}
+use Rattle.qw_compile_whole.proofs.GuardedCompiled.{grouped_compiled}
 use Rattle.qw_compile_whole.proofs.GroupTexts.{list_texts}
 use Rattle.qw_compile_whole.proofs.GroupedFinished.{MakesModule, built_at, few_by, gathered_at, leads_at, made_by, walked_at}
 use Rattle.qw_compile_whole.proofs.HeldRows.{rows_held}

@@ -53,9 +53,8 @@ use Rattle.qw_compile_whole.proofs.StatementParts.{PartsOf, parts_by, all_small,
 use Rattle.qw_compile_whole.proofs.GroupedReady.{key_long}
 use Rattle.qw_compile_whole.proofs.GroupedTyped.{single_typed}
 use Rattle.qw_compile_whole.proofs.SingleBounded.{GoAlone}
-use Rattle.qw_compile_whole.proofs.SingleCompiled.{single_compiled}
+use Rattle.qw_compile_whole.proofs.SingleCompiled.{single_compiled, single_long_compiled}
 use Rattle.qw_compile_whole.proofs.SingleKept.{long_kept, single_kept}
-use Rattle.qw_compile_whole.proofs.SingleLongCompiled.{single_long_compiled}
 use Rattle.qw_compile_whole.proofs.WhichCounted.{counted_there}
 
 module _ (row_is : (row other : List Val) → is_same_row row other ≡ true → row ≡ other) (value_is : (a : Val) → value_order a a ≡ ordering.Equal)

@@ -38,10 +38,9 @@ use Rattle.qw_compile_whole.proofs.ColumnTypes.{values_of_kinds}
 use Rattle.qw_compile_whole.proofs.FoldedBehind.{kinds_folded}
 use Rattle.qw_compile_whole.proofs.FrontLed.{built_low, columns_many, end_leads, front_at, front_leads, front_words, laid_columns, literals_over}
 use Rattle.qw_compile_whole.proofs.GroupBounded.{GoTogether}
-use Rattle.qw_compile_whole.proofs.GroupCompiled.{grouped_compiled}
+use Rattle.qw_compile_whole.proofs.GuardedCompiled.{AreFew, AreMany, grouped_compiled, guarded_compiled}
 use Rattle.qw_compile_whole.proofs.GroupKept.{first_kept, given_up, group_kept, rows_many, walked_rows}
 use Rattle.qw_compile_whole.proofs.GroupedFinished.{MakesModule, built_at, few_by, gathered_at, leads_at, made_by, walked_at}
-use Rattle.qw_compile_whole.proofs.GuardedCompiled.{AreFew, AreMany, guarded_compiled}
 use Rattle.qw_compile_whole.proofs.StatementParts.{PartsOf, parts_by, all_small, behind_leads, fewer, folded_kinds, folded_query, goes_with, groups_can, together}
 use Rattle.qw_compile_whole.proofs.WhichCounted.{counted_there}
 

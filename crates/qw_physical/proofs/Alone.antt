@@ -5,7 +5,7 @@ use Rattle.std.proofs.lemmas.List.Folds.{list_any-append}
 use Rattle.qw_types.specs.Arithmetic.{◌>>=◌}
 use Rattle.qw_types.specs.declared.code.Code.{Code}
 use Rattle.qw_types.specs.declared.value.Val.{Val}
-use Rattle.qw_meaning.specs.Flow.{Flow, codes_given, rows_given}
+use Rattle.qw_meaning.specs.Flow.{codes_given, rows_given}
 use Rattle.qw_meaning.specs.From.{completed}
 use Rattle.qw_table.specs.Joins.{have_values}
 use Rattle.qw_physical.specs.Courses.{is_alone, isnt_failed, meets}

@@ -11,7 +11,7 @@ use Rattle.qw_scalar.specs.Typing.{kind_of}
 use Rattle.qw_leaves.specs.Compared.{Compared, OfCompared, compared_in}
 use Rattle.qw_algebra.specs.Columns.{is_of, names_only}
 use Rattle.qw_pipe.specs.Pipes as pipes
-use Rattle.qw_pipe.specs.Pipes.{Lookup, LooksUp, make, test, to_table}
+use Rattle.qw_pipe.specs.Pipes.{LooksUp, make, test}
 use Rattle.qw_pipe.specs.Units.{equalities, operand_among, operand_of}
 use Rattle.qw_rewrite.specs.Probe.{are_alike, are_eligible, face, is_eligible, is_equality}
 use Rattle.qw_physical.specs.Physical.{Build, Operator, Pipeline, Probe, Sink, build, filter, probe, select}
