@@ -16,7 +16,7 @@ use Rattle.qw_algebra.proofs.Lists.{all_more}
 use Rattle.qw_grouped.specs.Grouped.{expression_of_column, widest}
 use Rattle.qw_expr.specs.Computes.{Known}
 use Rattle.qw_physical.specs.Coded.{pipeline_of}
-use Rattle.qw_physical.specs.Physical.{Pipeline, filter, select}
+use Rattle.qw_physical.specs.Physical.{filter, select}
 use Rattle.qw_physical.specs.Typed.{IsValued}
 use Rattle.qw_physical.specs.declared.pipeline.Pipeline as coded
 use Rattle.qw_physical.specs.declared.pipeline.ReadColumn.{ReadColumn}
