@@ -1,4 +1,4 @@
-use Rattle.std.proofs.Common.{◌≡◌, ◌≤◌, ◌+◌, ◌++◌, ◌∷◌, [], ℕ, eqb, Contains, List, length, map, sym, ap, ◌∙◌, append-nil, subst, subst₂, arith}
+use Rattle.std.proofs.Common.{◌≡◌, ◌≤◌, ◌++◌, ◌∷◌, [], ℕ, eqb, Contains, List, length, map, sym, ap, ◌∙◌, append-nil, subst, subst₂, arith}
 use Rattle.std.specs.List.{AllByRecursion, IsDistinct, concat}
 use Rattle.qw_types.specs.Value.{IsSized}
 use Rattle.qw_scalar.specs.Tree.{expression_of}
