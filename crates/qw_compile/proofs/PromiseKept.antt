@@ -34,6 +34,7 @@ use Rattle.qw_physical.specs.declared.pipeline.ReadColumn.{ReadColumn}
 use Rattle.qw_physical.proofs.Alikeness.{pipeline_fed_same}
 use Rattle.qw_physical.proofs.Begun.{costs_bounded, sink_last}
 use Rattle.qw_physical.proofs.Holding.{all_count, all_sizes, held_within}
+use Rattle.qw_algebra.proofs.Lists.{all_more}
 use Rattle.qw_leaves.proofs.LeafLists.{all_back, all_front}
 use Rattle.qw_physical.proofs.QueryScans.{ScansOne}
 use Rattle.qw_physical.proofs.Typing.{zip_all}
@@ -128,16 +129,20 @@ module _ (row_is : (row other : List Val) → is_same_row row other ≡ true →
 
   -- ---- sizes
 
-  all_fit : AllByRecursion IsWithin (cut.building ++ cut.last ∷ [])
-  all_fit =
+  -- an entry is no greater than a result row would be, or the greatest of the plan's tables
+  pub sizes_whole : AllByRecursion (λ (p : Pipeline). sink_size p.sink ≤ greatest (query_of parts)) (cut.building ++ cut.last ∷ [])
+  sizes_whole =
       let most : ℕ = max (8 + 16 * length query.items) (greatest_entry (kept_of kept) (placed query)) in
       let few : most ≤ greatest query = greatest_few parts kept are.kept_once are.named in
-      let small : greatest query ≤ 24216 = greatest_small query are.specification in
-      zip_all IsSamePipeline (λ p. sink_size p.sink ≤ most) IsWithin
-      (λ p q z h.
-      fits_page (sink_size q.sink) (greatest query) (same_less (sink_size p.sink) (sink_size q.sink) most (greatest query) (size_same p.sink q.sink z.sink) h few) small)
+      zip_all IsSamePipeline (λ p. sink_size p.sink ≤ most) (λ p. sink_size p.sink ≤ greatest query)
+      (λ p q z h. same_less (sink_size p.sink) (sink_size q.sink) most (greatest query) (size_same p.sink q.sink z.sink) h few)
       (all_spelled kept 0 (pipelines (placed query))) (cut.building ++ cut.last ∷ []) same_whole
       (all_sizes row_is value_is kept [] below query.items)
+
+  all_fit : AllByRecursion IsWithin (cut.building ++ cut.last ∷ [])
+  all_fit =
+      let small : greatest query ≤ 24216 = greatest_small query are.specification in
+      all_more (λ (p : Pipeline). sink_size p.sink ≤ greatest query) IsWithin (cut.building ++ cut.last ∷ []) (λ p h. fits_page (sink_size p.sink) (greatest query) h small) sizes_whole
 
   -- a table for each join
   pub built_many : length cut.building ≡ table_count (placed (query_of parts))

@@ -1,6 +1,6 @@
 -- The pipelines of what reaches a query's groups: the last one feeds the rows of its plan, whatever is raised, and those that build tables hold no more than the
 -- plan's tables.
-use Rattle.std.proofs.Common.{◌≡◌, ◌∙◌, ◌≤◌, ℕ, ◌+◌, ◌*◌, max, true, List, [], ◌∷◌, ◌++◌, length, sym, ap, subst, arith}
+use Rattle.std.proofs.Common.{◌≡◌, ◌∙◌, ◌≤◌, ℕ, ◌+◌, ◌*◌, true, List, [], ◌∷◌, ◌++◌, length, sym, ap, subst, arith}
 use Rattle.std.specs.List.{AllByRecursion, AllZip}
 use Rattle.std.specs.List.Sorted.{IsPermutation}
 use Rattle.std.specs.declared.cmp.Ordering.TheVariants as ordering
@@ -10,12 +10,9 @@ use Rattle.qw_meaning.specs.Flow.{Flow}
 use Rattle.qw_meaning.specs.Outcome.{flow}
 use Rattle.qw_meaning.specs.Query.{query_of}
 use Rattle.qw_meaning.specs.Select.{AreOfEntries, Specification, entries_of}
-use Rattle.qw_algebra.specs.Node.{Node, filter, node_flow}
-use Rattle.qw_algebra.specs.Written.{from_written}
-use Rattle.qw_rewrite.specs.Probe.{keyed}
-use Rattle.qw_rewrite.specs.Sift.{sifted}
+use Rattle.qw_algebra.specs.Node.{Node, node_flow}
 use Rattle.qw_rewrite.proofs.Grounds.{flow_of_query}
-use Rattle.qw_pipe.specs.Octets.{greatest_entry, table_count, table_octets}
+use Rattle.qw_pipe.specs.Octets.{table_count, table_octets}
 use Rattle.qw_pipe.specs.Pipes.{pipelines, split}
 use Rattle.qw_map.specs.Layout.{Layout, row_size}
 use Rattle.qw_physical.specs.Courses.{AreBuilt, costs}
@@ -25,19 +22,18 @@ use Rattle.qw_physical.specs.Sides.{IsPlanned, builds_of, last_of}
 use Rattle.qw_physical.specs.Spelled.{IsSamePipeline, all_spelled}
 use Rattle.qw_physical.specs.Typed.{IsTypedPhysical}
 use Rattle.qw_physical.proofs.Alikeness.{pipeline_fed_same}
-use Rattle.qw_physical.proofs.Holding.{all_sizes, builds_held}
+use Rattle.qw_physical.proofs.Holding.{builds_held}
 use Rattle.qw_physical.proofs.Orders.{Alike}
 use Rattle.qw_physical.proofs.QueryScans.{ScansOne}
 use Rattle.qw_physical.proofs.Results.{last_alike}
-use Rattle.qw_physical.proofs.Typing.{zip_all}
 use Rattle.qw_leaves.proofs.LeafLists.{all_back, all_front}
 use Rattle.qw_operator.proofs.Stood.{Stood, built_of}
 use Rattle.qw_compile.specs.PlannedQueries.{greatest, kept_by, placed, units}
-use Rattle.qw_compile.proofs.KeptBounds.{greatest_few, stored_few}
+use Rattle.qw_compile.proofs.KeptBounds.{stored_few}
 use Rattle.qw_compile.proofs.PipelineRuns.{AreStood, fed_over}
 use Rattle.qw_compile.proofs.PromiseKept as promised
 use Rattle.qw_compile.proofs.PromiseKept.{halves}
-use Rattle.qw_compile.proofs.QueryBounded.{held_same, size_same}
+use Rattle.qw_compile.proofs.QueryBounded.{held_same}
 use Rattle.qw_compile.proofs.QueryTold.{spelled_built}
 use Rattle.qw_compile.proofs.StoodBuilt.{built_alike}
 use Rattle.qw_whole.specs.WholePromises.{planned_rows}
@@ -47,10 +43,6 @@ module _ (row_is : (row other : List Val) → is_same_row row other ≡ true →
     {texts : List (List ℕ)} {layout : Layout} (source : FrontOf texts layout) where
   abbrev query : Specification
   query = query_of source.parts
-
-  -- the well placed plan, but for its select list
-  abbrev below : Node
-  below = keyed true (sifted true [] (filter query.conjuncts (from_written query.sources)))
 
   -- a table for each join
   pub built_many : length source.building ≡ table_count (placed (query_of source.parts))
@@ -68,15 +60,7 @@ module _ (row_is : (row other : List Val) → is_same_row row other ≡ true →
   -- an entry is no greater than a result row would be, or the greatest of the plan's tables
   pub builds_size : AllByRecursion (λ (p : Pipeline). sink_size p.sink ≤ greatest (query_of source.parts)) source.building
   builds_size =
-      let few = greatest_few source.parts source.kept source.are.kept_once source.are.named in
-      all_front (λ (p : Pipeline). sink_size p.sink ≤ greatest (query_of source.parts)) source.building (source.last ∷ [])
-      (zip_all IsSamePipeline (λ p. sink_size p.sink ≤ greatest (query_of source.parts)) (λ p. sink_size p.sink ≤ greatest (query_of source.parts))
-      (λ p q z h. let same = size_same p.sink q.sink z.sink in omega (arith, h, same)) (all_spelled source.kept 0 (pipelines (placed query))) (source.building ++ source.last ∷ []) (promised.same_whole row_is value_is source.parts source.kept source.columns source.ps source.are source.of (cut source))
-      (more (max (row_size (length query.items)) (greatest_entry (kept_of source.kept) (placed query))) (greatest query) (all_spelled source.kept 0 (pipelines (placed query))) few (all_sizes row_is value_is source.kept [] below query.items)))
-    where
-      more : (most other : ℕ) (ps : List Pipeline) → most ≤ other → AllByRecursion (λ (p : Pipeline). sink_size p.sink ≤ most) ps → AllByRecursion (λ (p : Pipeline). sink_size p.sink ≤ other) ps
-      more most other [] less h = tt
-      more most other (p ∷ ps) less h = (omega (arith, less, h.0), more most other ps less h.1)
+      all_front (λ (p : Pipeline). sink_size p.sink ≤ greatest (query_of source.parts)) source.building (source.last ∷ []) (promised.sizes_whole row_is value_is source.parts source.kept source.columns source.ps source.are source.of (cut source))
 
   -- ---- over tables
   module _ (tables : List (List (List Val))) (loaded : AreOfEntries (entries_of (query_of source.parts).sources) tables) where

@@ -14,7 +14,7 @@
 //! - [`worked_laws`]: worked cases of the definitions, with numbers.
 //!
 //! What the blocks come to can't be said in clauses, which don't range over properties: it stands in lemmas, which the crates above cite
-//! (`proofs/FeedRules`, `LoopFeeds`, `ScanFeeds`, `InnerFeeds`, `FlagFeeds`, `PushFeeds`). A row that is added takes 33 instructions beside those of
+//! (`proofs/FeedRules`, `LoopFeeds`, `ScanFeeds`, `InnerFeeds`, `PushFeeds`). A row that is added takes 33 instructions beside those of
 //! its cells where a page is asked for, and 21 where not.
 #![tactic(auto)]
 
