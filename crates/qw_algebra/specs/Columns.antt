@@ -1,7 +1,7 @@
 -- The entries of FROM whose columns expressions name. Column c of entry e is number 64 * e + c.
 use Rattle.std.specs.Prelude.{ℕ, ◌/◌, Bool, true, not, ◌&&◌, nat_eq, List, [], ◌∷◌, ◌++◌}
 use Rattle.std.specs.List.{list_any}
-use Rattle.qw_scalar.specs.Expression.{Expression, Condition, null, number, date, text, column, arithmetic, negative, extract, brought, choice, comparison, predicate, both, either, negation_of, is}
+use Rattle.qw_scalar.specs.Expression.{Expression, Condition, null, number, date, text, column, arithmetic, negative, extract, brought, choice, given, cell, comparison, predicate, both, either, negation_of, is, found, Operands, nil, operand}
 use Rattle.qw_algebra.specs.Node.{Node, scan, filter, join, project}
 
 -- the entry that a column is of
@@ -36,6 +36,8 @@ abbrev mutual
   names_only test (extract field a) = names_only test a
   names_only test (brought a s) = names_only test a
   names_only test (choice c a b) = condition_names_only test c && (names_only test a && names_only test b)
+  names_only test (given w k most v) = true
+  names_only test (cell i ty most) = test i
 
   pub condition_names_only : (ℕ → Bool) → Condition → Bool
   condition_names_only test (comparison op a b) = names_only test a && names_only test b
@@ -44,6 +46,11 @@ abbrev mutual
   condition_names_only test (either c d) = condition_names_only test c && condition_names_only test d
   condition_names_only test (negation_of c) = condition_names_only test c
   condition_names_only test (is c t) = condition_names_only test c
+  condition_names_only test (found n asked keys kinds rows) = operands_name_only test asked && operands_name_only test keys
+
+  pub operands_name_only : (ℕ → Bool) → Operands → Bool
+  operands_name_only test nil = true
+  operands_name_only test (operand e es) = names_only test e && operands_name_only test es
 
 -- they name a column at all
 abbrev pub names_column : Expression → Bool

@@ -2,9 +2,9 @@
 use Rattle.std.proofs.Common.{◌≡◌, ℕ, zero, suc, ◌++◌, List, [], ◌∷◌, ap, inl, inr, refl, subst, arith}
 use Rattle.std.proofs.lemmas.List.Elements.{Contains-append_cases, Contains-append_left, Contains-append_right}
 use Rattle.qw_types.specs.declared.value.Ty.{Ty}
-use Rattle.qw_scalar.proofs.ColumnLemmas.{columns_more, conditions_more}
-use Rattle.qw_scalar.specs.Columns.{HasColumns, HaveColumns}
-use Rattle.qw_scalar.specs.Expression.{Condition, Expression, null, number, date, text, column, arithmetic, negative, extract, brought, choice, comparison, predicate, both, either, negation_of, is}
+use Rattle.qw_scalar.proofs.ColumnLemmas.{columns_more, conditions_more, operands_more}
+use Rattle.qw_scalar.specs.Columns.{HasColumns, HaveColumns, OperandsHave}
+use Rattle.qw_scalar.specs.Expression.{Condition, Expression, null, number, date, text, column, arithmetic, negative, extract, brought, choice, given, cell, comparison, predicate, both, either, negation_of, is, found, Operands, nil, operand}
 use Rattle.qw_fold.specs.Inner.Made.{Follows, FollowsTruth, IsAmong}
 
 -- the columns that it names, listed
@@ -17,6 +17,11 @@ record ListedTruth (Holds : ℕ → Ty → Type 0) (c : Condition) : Type 0 wher
   pub columns : List (ℕ × Ty)
   pub hold : (i : ℕ) (ty : Ty) → IsAmong columns i ty → Holds i ty
   pub named : HaveColumns (IsAmong columns) c
+
+record ListedOperands (Holds : ℕ → Ty → Type 0) (es : Operands) : Type 0 where
+  pub columns : List (ℕ × Ty)
+  pub hold : (i : ℕ) (ty : Ty) → IsAmong columns i ty → Holds i ty
+  pub named : OperandsHave (IsAmong columns) es
 
 none_hold : (Holds : ℕ → Ty → Type 0) (i : ℕ) (ty : Ty) → IsAmong [] i ty → Holds i ty
 none_hold Holds i ty (k, lt, e) = absurd (omega arith)
@@ -39,6 +44,12 @@ left_truth one other c h = conditions_more (IsAmong one) (IsAmong (one ++ other)
 
 right_truth : (one other : List (ℕ × Ty)) (c : Condition) → HaveColumns (IsAmong other) c → HaveColumns (IsAmong (one ++ other)) c
 right_truth one other c h = conditions_more (IsAmong other) (IsAmong (one ++ other)) (λ i ty k. Contains-append_right one other (i, ty) k) c h
+
+left_operands : (one other : List (ℕ × Ty)) (es : Operands) → OperandsHave (IsAmong one) es → OperandsHave (IsAmong (one ++ other)) es
+left_operands one other es h = operands_more (IsAmong one) (IsAmong (one ++ other)) (λ i ty k. Contains-append_left one other (i, ty) k) es h
+
+right_operands : (one other : List (ℕ × Ty)) (es : Operands) → OperandsHave (IsAmong other) es → OperandsHave (IsAmong (one ++ other)) es
+right_operands one other es h = operands_more (IsAmong other) (IsAmong (one ++ other)) (λ i ty k. Contains-append_right one other (i, ty) k) es h
 
 one_column : (i j : ℕ) (ty t : Ty) → IsAmong ((i, ty) ∷ []) j t → (i ≡ j) × (ty ≡ t)
 one_column i j ty t (zero, lt, e) = (ap (λ (p : ℕ × Ty). p.0) e, ap (λ (p : ℕ × Ty). p.1) e)
@@ -81,6 +92,8 @@ mutual
         hold = two_hold Holds x.columns two.0 x.hold two.1.0;
         named = (left_truth x.columns two.0 c x.named, (right x.columns two.0 a two.1.1.0, right x.columns two.0 b two.1.1.1));
       }
+  listed Holds (given w k most v) h = record { columns = []; hold = none_hold Holds; named = tt }
+  listed Holds (cell i ty most) h = record { columns = (i, ty) ∷ []; hold = column_holds Holds i ty h; named = (0, omega arith, refl) }
 
   listed_truth : (Holds : ℕ → Ty → Type 0) (c : Condition) → HaveColumns Holds c → ListedTruth Holds c
   listed_truth Holds (comparison op a b) h =
@@ -95,6 +108,25 @@ mutual
       record { columns = two.0; hold = two.1.0; named = two.1.1 }
   listed_truth Holds (negation_of c) h = let x = listed_truth Holds c h in record { columns = x.columns; hold = x.hold; named = x.named }
   listed_truth Holds (is c t) h = let x = listed_truth Holds c h in record { columns = x.columns; hold = x.hold; named = x.named }
+  listed_truth Holds (found n asked keys kinds rows) h =
+      let x = listed_operands Holds asked h.0 in
+      let y = listed_operands Holds keys h.1 in
+      record {
+        columns = x.columns ++ y.columns;
+        hold = two_hold Holds x.columns y.columns x.hold y.hold;
+        named = (left_operands x.columns y.columns asked x.named, right_operands x.columns y.columns keys y.named);
+      }
+
+  listed_operands : (Holds : ℕ → Ty → Type 0) (es : Operands) → OperandsHave Holds es → ListedOperands Holds es
+  listed_operands Holds nil h = record { columns = []; hold = none_hold Holds; named = tt }
+  listed_operands Holds (operand e es) h =
+      let x = listed Holds e h.0 in
+      let y = listed_operands Holds es h.1 in
+      record {
+        columns = x.columns ++ y.columns;
+        hold = two_hold Holds x.columns y.columns x.hold y.hold;
+        named = (left x.columns y.columns e x.named, right_operands x.columns y.columns es y.named);
+      }
 
 pub follows_columns : (Holds : ℕ → Ty → Type 0) (e f : Expression) → Follows e f → HasColumns Holds e → HasColumns Holds f
 follows_columns Holds e f p h =

@@ -4,7 +4,7 @@ use Rattle.qw_scalar.specs.declared.comparison.Comparison.{Comparison}
 use Rattle.qw_scalar.specs.declared.expression.Cond.{Cond}
 use Rattle.qw_scalar.specs.declared.expression.Cond.TheVariants.{Compare', Between', In', Predicate', And', Or', Not', Is'}
 use Rattle.qw_scalar.specs.declared.expression.Exprs.TheVariants as Exprs
-use Rattle.qw_scalar.specs.Expression.{Expression, Condition, comparison, predicate, both, either, negation_of, is}
+use Rattle.qw_scalar.specs.Expression.{Expression, Condition, comparison, predicate, both, either, negation_of, is, found}
 use Rattle.qw_scalar.specs.Tree.{condition_of}
 use Rattle.qw_scalar.specs.Typing.{AreTyped, IsTyped}
 use Rattle.qw_leaves.specs.Compared.{Compared, OfCompared, compared_by, compared_in, trees_compared}
@@ -17,6 +17,7 @@ module _ (P : Condition → Option Compared → Type 0) (one : (op : Comparison)
   by_compared (either c d) = none (either c d)
   by_compared (negation_of c) = none (negation_of c)
   by_compared (is c t) = none (is c t)
+  by_compared (found n asked keys kinds rows) = none (found n asked keys kinds rows)
 
 -- operands of typed conditions are typed
 pub operands_typed : (c : Condition) → AreTyped c → OfCompared (λ op a b. IsTyped a × IsTyped b) (compared_in c)

@@ -2,12 +2,12 @@
 use Rattle.std.proofs.Common.{ℕ, ◌++◌}
 use Rattle.std.specs.List.{AllByRecursion}
 use Rattle.qw_types.specs.declared.value.Ty.{Ty}
-use Rattle.qw_scalar.specs.Columns.{HasColumns, HaveColumns}
-use Rattle.qw_scalar.specs.Expression.{Expression, Condition, null, number, date, text, column, arithmetic, negative, extract, brought, choice, comparison, predicate, both, either, negation_of, is}
-use Rattle.qw_scalar.specs.Typing.{AreTyped, IsTyped}
+use Rattle.qw_scalar.specs.Columns.{HasColumns, HaveColumns, OperandsHave}
+use Rattle.qw_scalar.specs.Expression.{Expression, Condition, null, number, date, text, column, arithmetic, negative, extract, brought, choice, given, cell, comparison, predicate, both, either, negation_of, is, found, Operands, nil, operand}
+use Rattle.qw_scalar.specs.Typing.{AreTyped, IsTyped, OperandsAreTyped}
 use Rattle.qw_leaves.specs.declared.leaf.Leaf.{Leaf}
 use Rattle.qw_leaves.specs.declared.leaf.Leaf.TheVariants as leaf
-use Rattle.qw_leaves.specs.Leaves.{HasLeaves, HaveLeaves, OfColumn, condition_leaves, leaves, stands_for}
+use Rattle.qw_leaves.specs.Leaves.{HasLeaves, HaveLeaves, OfColumn, OperandsHaveLeaves, condition_leaves, leaves, operands_leaves, stands_for}
 use Rattle.qw_leaves.proofs.LeafLists.{all_back, all_front, all_joined, all_pairs, all_weaker}
 
 -- ---- of the list
@@ -24,6 +24,8 @@ module _ (P : Leaf → Type 0) where
     listed (extract field a) h = listed a h
     listed (brought a s) h = listed a h
     listed (choice c a b) h = all_joined P (condition_leaves c) (leaves a ++ leaves b) (condition_listed c h.0) (all_joined P (leaves a) (leaves b) (listed a h.1.0) (listed b h.1.1))
+    listed (given w k most v) h = tt
+    listed (cell i ty most) h = (h, tt)
 
     pub condition_listed : (c : Condition) → HaveLeaves P c → AllByRecursion P (condition_leaves c)
     condition_listed (comparison op a b) h = all_joined P (leaves a) (leaves b) (listed a h.0) (listed b h.1)
@@ -32,6 +34,11 @@ module _ (P : Leaf → Type 0) where
     condition_listed (either c d) h = all_joined P (condition_leaves c) (condition_leaves d) (condition_listed c h.0) (condition_listed d h.1)
     condition_listed (negation_of c) h = condition_listed c h
     condition_listed (is c t) h = condition_listed c h
+    condition_listed (found n asked keys kinds rows) h = all_joined P (operands_leaves asked) (operands_leaves keys) (operands_listed asked h.0) (operands_listed keys h.1)
+
+    pub operands_listed : (es : Operands) → OperandsHaveLeaves P es → AllByRecursion P (operands_leaves es)
+    operands_listed nil h = tt
+    operands_listed (operand e es) h = all_joined P (leaves e) (operands_leaves es) (listed e h.0) (operands_listed es h.1)
 
   mutual
     pub unlisted : (e : Expression) → AllByRecursion P (leaves e) → HasLeaves P e
@@ -49,6 +56,8 @@ module _ (P : Leaf → Type 0) where
           condition_unlisted c (all_front P (condition_leaves c) (leaves a ++ leaves b) h),
           (unlisted a (all_front P (leaves a) (leaves b) rest), unlisted b (all_back P (leaves a) (leaves b) rest)),
         )
+    unlisted (given w k most v) h = tt
+    unlisted (cell i ty most) h = h.0
 
     pub condition_unlisted : (c : Condition) → AllByRecursion P (condition_leaves c) → HaveLeaves P c
     condition_unlisted (comparison op a b) h = (unlisted a (all_front P (leaves a) (leaves b) h), unlisted b (all_back P (leaves a) (leaves b) h))
@@ -59,6 +68,12 @@ module _ (P : Leaf → Type 0) where
         (condition_unlisted c (all_front P (condition_leaves c) (condition_leaves d) h), condition_unlisted d (all_back P (condition_leaves c) (condition_leaves d) h))
     condition_unlisted (negation_of c) h = condition_unlisted c h
     condition_unlisted (is c t) h = condition_unlisted c h
+    condition_unlisted (found n asked keys kinds rows) h =
+        (operands_unlisted asked (all_front P (operands_leaves asked) (operands_leaves keys) h), operands_unlisted keys (all_back P (operands_leaves asked) (operands_leaves keys) h))
+
+    pub operands_unlisted : (es : Operands) → AllByRecursion P (operands_leaves es) → OperandsHaveLeaves P es
+    operands_unlisted nil h = tt
+    operands_unlisted (operand e es) h = (unlisted e (all_front P (leaves e) (operands_leaves es) h), operands_unlisted es (all_back P (leaves e) (operands_leaves es) h))
 
 -- ---- what follows of each
 module _ (P Q : Leaf → Type 0) (more : (l : Leaf) → P l → Q l) where
@@ -91,6 +106,8 @@ module _ (P : ℕ → Ty → Type 0) where
     has_columns (extract field a) h = has_columns a h
     has_columns (brought a s) h = has_columns a h
     has_columns (choice c a b) h = (have_columns c h.0, (has_columns a h.1.0, has_columns b h.1.1))
+    has_columns (given w k most v) h = tt
+    has_columns (cell i t most) h = h
 
     pub have_columns : (c : Condition) → HaveLeaves (OfColumn P) c → HaveColumns P c
     have_columns (comparison op a b) h = (has_columns a h.0, has_columns b h.1)
@@ -99,6 +116,11 @@ module _ (P : ℕ → Ty → Type 0) where
     have_columns (either c d) h = (have_columns c h.0, have_columns d h.1)
     have_columns (negation_of c) h = have_columns c h
     have_columns (is c t) h = have_columns c h
+    have_columns (found n asked keys kinds rows) h = (operands_columns asked h.0, operands_columns keys h.1)
+
+    pub operands_columns : (es : Operands) → OperandsHaveLeaves (OfColumn P) es → OperandsHave P es
+    operands_columns nil h = tt
+    operands_columns (operand e es) h = (has_columns e h.0, operands_columns es h.1)
 
   mutual
     pub column_leaves : (e : Expression) → HasColumns P e → HasLeaves (OfColumn P) e
@@ -112,6 +134,8 @@ module _ (P : ℕ → Ty → Type 0) where
     column_leaves (extract field a) h = column_leaves a h
     column_leaves (brought a s) h = column_leaves a h
     column_leaves (choice c a b) h = (condition_column_leaves c h.0, (column_leaves a h.1.0, column_leaves b h.1.1))
+    column_leaves (given w k most v) h = tt
+    column_leaves (cell i t most) h = h
 
     pub condition_column_leaves : (c : Condition) → HaveColumns P c → HaveLeaves (OfColumn P) c
     condition_column_leaves (comparison op a b) h = (column_leaves a h.0, column_leaves b h.1)
@@ -120,6 +144,11 @@ module _ (P : ℕ → Ty → Type 0) where
     condition_column_leaves (either c d) h = (condition_column_leaves c h.0, condition_column_leaves d h.1)
     condition_column_leaves (negation_of c) h = condition_column_leaves c h
     condition_column_leaves (is c t) h = condition_column_leaves c h
+    condition_column_leaves (found n asked keys kinds rows) h = (operands_column_leaves asked h.0, operands_column_leaves keys h.1)
+
+    pub operands_column_leaves : (es : Operands) → OperandsHave P es → OperandsHaveLeaves (OfColumn P) es
+    operands_column_leaves nil h = tt
+    operands_column_leaves (operand e es) h = (column_leaves e h.0, operands_column_leaves es h.1)
 
 -- of a leaf where it is a column
 pub column_from : (P : Leaf → Type 0) (Q : ℕ → Ty → Type 0) → ((i : ℕ) (ty : Ty) → P (leaf.Column i ty) → Q i ty) → (l : Leaf) → P l → OfColumn Q l
@@ -167,6 +196,8 @@ mutual
   typed_leaves (extract field a) h = typed_leaves a h.0
   typed_leaves (brought a s) h = typed_leaves a h.0
   typed_leaves (choice c a b) h = (typed_conditions c h.0, (typed_leaves a h.1.0.0, typed_leaves b h.1.0.1))
+  typed_leaves (given w k most v) h = tt
+  typed_leaves (cell i t most) h = h.0
 
   pub typed_conditions : (c : Condition) → AreTyped c → HaveLeaves IsTypedLeaf c
   typed_conditions (comparison op a b) h = (typed_leaves a h.0.0, typed_leaves b h.0.1)
@@ -175,3 +206,8 @@ mutual
   typed_conditions (either c d) h = (typed_conditions c h.0, typed_conditions d h.1)
   typed_conditions (negation_of c) h = typed_conditions c h
   typed_conditions (is c t) h = typed_conditions c h
+  typed_conditions (found n asked keys kinds rows) h = (typed_operands asked h.0.0, typed_operands keys h.0.1)
+
+  pub typed_operands : (es : Operands) → OperandsAreTyped es → OperandsHaveLeaves IsTypedLeaf es
+  typed_operands nil h = tt
+  typed_operands (operand e es) h = (typed_leaves e h.0, typed_operands es h.1)

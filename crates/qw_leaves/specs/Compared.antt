@@ -8,7 +8,7 @@ use Rattle.qw_scalar.specs.declared.expression.Cond.{Cond}
 use Rattle.qw_scalar.specs.declared.expression.Exprs.{Exprs}
 use Rattle.qw_scalar.specs.declared.expression.Cond.TheVariants.{Compare', Between', In', Predicate', And', Or', Not', Is'}
 use Rattle.qw_scalar.specs.declared.expression.Exprs.TheVariants as Exprs
-use Rattle.qw_scalar.specs.Expression.{Expression, Condition, comparison, predicate, both, either, negation_of, is}
+use Rattle.qw_scalar.specs.Expression.{Expression, Condition, comparison, predicate, both, either, negation_of, is, found}
 use Rattle.qw_scalar.specs.Tree.{expression_of}
 
 -- a comparison of two expressions
@@ -25,6 +25,7 @@ compared_in (both c d) = None
 compared_in (either c d) = None
 compared_in (negation_of c) = None
 compared_in (is c t) = None
+compared_in (found n asked keys kinds rows) = None
 
 -- something holds of what is compared
 abbrev pub OfCompared : (Comparison → Expression → Expression → Type 0) → Option Compared → Type 0

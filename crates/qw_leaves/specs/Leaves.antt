@@ -13,7 +13,7 @@ use Rattle.qw_scalar.specs.declared.expression.Cond.TheVariants.{Compare', Betwe
 use Rattle.qw_scalar.specs.declared.expression.Exprs.TheVariants as Exprs
 use Rattle.qw_scalar.specs.declared.expression.Branches.TheVariants as Branches
 use Rattle.qw_scalar.specs.declared.expression.Matches.TheVariants as Matches
-use Rattle.qw_scalar.specs.Expression.{Expression, Condition, null, number, date, text, column, arithmetic, negative, extract, brought, choice, comparison, predicate, both, either, negation_of, is}
+use Rattle.qw_scalar.specs.Expression.{Expression, Condition, null, number, date, text, column, arithmetic, negative, extract, brought, choice, given, cell, comparison, predicate, both, either, negation_of, is, found, Operands, nil, operand}
 use Rattle.qw_leaves.specs.declared.leaf.Leaf.{Leaf}
 use Rattle.qw_leaves.specs.declared.leaf.Leaf.TheVariants as leaf
 
@@ -67,6 +67,8 @@ abbrev mutual
   leaves (extract field a) = leaves a
   leaves (brought a s) = leaves a
   leaves (choice c a b) = condition_leaves c ++ (leaves a ++ leaves b)
+  leaves (given w k most v) = []
+  leaves (cell i ty most) = leaf.Column i ty ∷ []
 
   pub condition_leaves : Condition → List Leaf
   condition_leaves (comparison op a b) = leaves a ++ leaves b
@@ -75,6 +77,11 @@ abbrev mutual
   condition_leaves (either c d) = condition_leaves c ++ condition_leaves d
   condition_leaves (negation_of c) = condition_leaves c
   condition_leaves (is c t) = condition_leaves c
+  condition_leaves (found n asked keys kinds rows) = operands_leaves asked ++ operands_leaves keys
+
+  pub operands_leaves : Operands → List Leaf
+  operands_leaves nil = []
+  operands_leaves (operand e es) = leaves e ++ operands_leaves es
 
 -- the leaf as an expression
 abbrev pub stands_for : Leaf → Expression
@@ -96,6 +103,8 @@ abbrev mutual
   HasLeaves Holds (extract field a) = HasLeaves Holds a
   HasLeaves Holds (brought a s) = HasLeaves Holds a
   HasLeaves Holds (choice c a b) = HaveLeaves Holds c × (HasLeaves Holds a × HasLeaves Holds b)
+  HasLeaves Holds (given w k most v) = Unit {0}
+  HasLeaves Holds (cell i ty most) = Holds (leaf.Column i ty)
 
   pub HaveLeaves : (Leaf → Type 0) → Condition → Type 0
   HaveLeaves Holds (comparison op a b) = HasLeaves Holds a × HasLeaves Holds b
@@ -104,6 +113,11 @@ abbrev mutual
   HaveLeaves Holds (either c d) = HaveLeaves Holds c × HaveLeaves Holds d
   HaveLeaves Holds (negation_of c) = HaveLeaves Holds c
   HaveLeaves Holds (is c t) = HaveLeaves Holds c
+  HaveLeaves Holds (found n asked keys kinds rows) = OperandsHaveLeaves Holds asked × OperandsHaveLeaves Holds keys
+
+  pub OperandsHaveLeaves : (Leaf → Type 0) → Operands → Type 0
+  OperandsHaveLeaves Holds nil = Unit {0}
+  OperandsHaveLeaves Holds (operand e es) = HasLeaves Holds e × OperandsHaveLeaves Holds es
 
 -- of each that is a text, and of each that is a column
 abbrev pub OfText : (List ℕ → Type 0) → Leaf → Type 0

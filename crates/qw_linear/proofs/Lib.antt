@@ -1,4 +1,5 @@
 pub mod AccessFacts
+pub mod ClearedFacts
 pub mod GrowthFacts
 pub mod MemoryFacts
 mod StoreFacts

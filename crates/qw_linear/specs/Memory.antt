@@ -1,6 +1,6 @@
 -- A memory is its octets; numbers in it are little endian (WebAssembly Core Specification 1.0, 4.2.8 and
 -- 4.3.1, "Storage").
-use Rattle.std.specs.Prelude.{◌≡◌, ℕ, Bool, zero, suc, ◌+◌, ◌*◌, ◌/◌, ◌%◌, ◌<◌, nat_le, if◌then◌else◌, List, ◌++◌, length, replicate, All, Option, Some, None, slice_index, slice_set}
+use Rattle.std.specs.Prelude.{◌≡◌, ℕ, Bool, zero, suc, ◌+◌, ◌*◌, ◌/◌, ◌%◌, ◌<◌, nat_le, if◌then◌else◌, List, ◌++◌, length, take, drop, replicate, All, Option, Some, None, slice_index, slice_set}
 
 -- how many octets a page has, and how many pages a memory has at most (4.2.8 and 3.2.4; one page fewer than there, so that
 -- a memory's size in octets is a number of 32 bits)
@@ -35,6 +35,10 @@ stored octets at width number = if has_place octets at width then with_number oc
 -- the memory with so many pages more, whose octets are 0 (4.4.4, memory.grow)
 unfoldable pub grown_by : ℕ → List ℕ → List ℕ
 grown_by pages octets = octets ++ replicate (pages * page) 0
+
+-- the memory with the octets of so many pages from this one on 0
+unfoldable pub cleared : (first pages : ℕ) → List ℕ → List ℕ
+cleared first pages octets = take (first * page) octets ++ (replicate (pages * page) 0 ++ drop ((first + pages) * page) octets)
 
 -- how many whole pages there are
 abbrev pub pages_of : List ℕ → ℕ

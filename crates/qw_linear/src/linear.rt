@@ -1,6 +1,6 @@
-ghost use Rattle.std.specs.Prelude.{◌≡◌, ◌+◌, ◌*◌, ◌^◌, ◌<◌, ◌≤◌, [], length, IfOk, IfSome, IsSome, OnSome, IfNone, ◌↔◌, take, drop, ◌++◌};
+ghost use Rattle.std.specs.Prelude.{◌≡◌, ◌+◌, ◌*◌, ◌^◌, ◌<◌, ◌≤◌, [], length, IfOk, IfSome, IsSome, OnSome, IfNone, ◌↔◌, take, drop, replicate, ◌++◌};
 ghost use Rattle.qw_linear.specs.Linear.{IsLinear};
-ghost use Rattle.qw_linear.specs.Memory.{page, loaded, stored, grown_by, pages_of, AreOctets};
+ghost use Rattle.qw_linear.specs.Memory.{page, loaded, stored, grown_by, cleared, pages_of, AreOctets};
 
 use qw_base::NoMemory;
 use std::alloc::Global;
@@ -78,6 +78,14 @@ impl Linear {
         let len = PAGE * (before + pages) as usize;
         self.octets.resize(len, 0).ok()?;
         Some(before)
+    }
+
+    /// Makes the octets of so many pages from this one on 0.
+    pub fn clear(&mut self, first: u32, pages: u32)
+        requires { (first + pages) * page ≤ length self.old.octets }
+        ensures { self.new ≡ record { octets = cleared first pages self.old.octets; reserved = self.old.reserved } }
+    {
+        put_zeros(self.octets.as_mut_slice(), PAGE * first as usize, PAGE * pages as usize);
     }
 
     /// The number of one octet, or `None` exactly where it doesn't lie in the memory.
@@ -231,4 +239,12 @@ fn put_bytes(octets: &mut [u8], at: usize, bytes: &[u8])
     ensures { octets.new ≡ take at octets.old ++ bytes.now ++ drop (at + length bytes.now) octets.old }
 {
     octets[at..at + bytes.len()].copy_from_slice(bytes);
+}
+
+/// Makes so many octets from a place on 0.
+fn put_zeros(octets: &mut [u8], at: usize, count: usize)
+    requires { at + count ≤ length octets.old }
+    ensures { octets.new ≡ take at octets.old ++ (replicate count 0 ++ drop (at + count) octets.old) }
+{
+    octets[at..at + count].fill(0);
 }

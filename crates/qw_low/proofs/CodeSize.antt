@@ -1,18 +1,18 @@
 -- The code of a statement has as many instructions as its size says, a `local.tee` counted as two, with those of the functions that it
--- calls, if `raise` has none.
+-- calls, if `raise` and `pages` have none.
 use Rattle.std.proofs.Common.{◌≡◌, ℕ, ◌+◌, ◌*◌, ◌==◌, if◌then◌else◌, Bool, true, false, None, refl, ap, ◌∙◌, arith}
 use Rattle.qw_module.specs.declared.instruction.ValType.TheVariants.{I32}
 use Rattle.qw_module.specs.declared.instruction.Binary.TheVariants.{Add, Sub}
 use Rattle.qw_module.specs.declared.instruction.Op.{Op}
 use Rattle.qw_module.specs.declared.instruction.Op.TheVariants as o
-use Rattle.qw_module.specs.Syntax.{Code, done, op, loop, if_then, if_else, br_if}
+use Rattle.qw_module.specs.Syntax.{Code, done, op, loop, if_then, if_else, br_if, call}
 use Rattle.qw_module.specs.Start.{besides_one, weight_with}
 use Rattle.qw_low.specs.Syntax.{Expression, constant_of, local, unop, binop, divop, is_zero, relop, cvtop, advance, retreat, Statement, skip, seq, assign, load, store, conditional, while, request, raise, exit}
 use Rattle.qw_low.specs.Meaning.{cost}
 use Rattle.qw_low.specs.Translation.{expression_code, statement_code, setting, unaligned, on_answer}
 use Rattle.qw_low.specs.Size.{size}
 
-module _ (called : ℕ → ℕ) (none : called 0 ≡ 0) where
+module _ (called : ℕ → ℕ) (none : called 0 ≡ 0) (none_asked : called 1 ≡ 0) where
   abbrev Counts : Expression → Type 0
   Counts e = (k : Code) → weight_with called (expression_code e k) ≡ cost e + weight_with called k
 
@@ -74,7 +74,8 @@ module _ (called : ℕ → ℕ) (none : called 0 ≡ 0) where
   statement_size (request e x) k =
       let sum : cost e + 1 + (11 + weight_with called k) ≡ cost e + 12 + weight_with called k = omega arith in
       let answer : weight_with called (on_answer x k) ≡ 11 + weight_with called k = omega (arith, none, setting_size x k) in
-      of_one e o.MemoryGrow refl (expression_size e) (on_answer x k) ∙ ap (λ (n : ℕ). cost e + 1 + n) answer ∙ sum
+      let asked : cost e + (1 + called 1 + weight_with called (on_answer x k)) ≡ cost e + 1 + weight_with called (on_answer x k) = omega (arith, none_asked) in
+      expression_size e (call 1 (on_answer x k)) ∙ asked ∙ ap (λ (n : ℕ). cost e + 1 + n) answer ∙ sum
   statement_size (raise code) k =
       let two : 1 + (1 + called 0 + weight_with called k) ≡ 2 + weight_with called k = omega (arith, none) in
       two

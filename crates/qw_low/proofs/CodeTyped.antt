@@ -11,8 +11,8 @@ use Rattle.qw_module.specs.declared.instruction.Store.TheVariants as stores
 use Rattle.qw_module.specs.declared.instruction.Op.TheVariants as o
 use Rattle.qw_module.specs.Numbers.{load_width, store_width}
 use Rattle.qw_module.specs.Syntax.{Code, done, op, br_if, return}
-use Rattle.qw_module.specs.Typing.{Scope, within, OpTyped, typed-local_get, typed-local_set, typed-local_tee, typed-const, typed-unary, typed-binary, typed-division, typed-eqz, typed-relation, typed-convert, typed-load, typed-store, typed-grow, Typed, typed-done, typed-op, typed-loop, typed-if_then, typed-if_else, typed-br_if, typed-return, typed-call}
-use Rattle.qw_module.specs.Soundness.{raise_signature}
+use Rattle.qw_module.specs.Typing.{Scope, within, OpTyped, typed-local_get, typed-local_set, typed-local_tee, typed-const, typed-unary, typed-binary, typed-division, typed-eqz, typed-relation, typed-convert, typed-load, typed-store, Typed, typed-done, typed-op, typed-loop, typed-if_then, typed-if_else, typed-br_if, typed-return, typed-call}
+use Rattle.qw_module.specs.Soundness.{raise_signature, pages_signature}
 use Rattle.qw_module.proofs.TypedParts.{op_parts, parts}
 use Rattle.qw_low.specs.Syntax.{Expression, constant_of, local, unop, binop, divop, is_zero, relop, cvtop, advance, retreat, Statement, skip, seq, assign, load, store, conditional, while, request, raise, exit}
 use Rattle.qw_low.specs.Translation.{expression_code, statement_code, raising, setting}
@@ -57,7 +57,7 @@ expression_typed scope (retreat a n) type k types after has rest =
     expression_typed scope a _ _ types after has.0 (expression_typed scope n _ _ _ after has.1 (next (typed-binary _ types _ _) (over scope k _ _ types after has.2 rest)))
 
 hosts-within : (scope : Scope) (types : List ValType) → HostsLow scope → HostsLow (within scope types)
-hosts-within scope types hosts = record { raise_is = hosts.raise_is; memory = hosts.memory; results = hosts.results }
+hosts-within scope types hosts = record { raise_is = hosts.raise_is; pages_is = hosts.pages_is; memory = hosts.memory; results = hosts.results }
 
 raising_typed : (scope : Scope) (code : ℕ) (k : Code) → HostsLow scope → code < 2 ^ 32 → Typed scope k [] [] → Typed scope (raising code k) [] []
 raising_typed scope code k hosts small rest = next (typed-const _ _ _ small) (typed-call _ 0 raise_signature _ [] _ hosts.raise_is rest)
@@ -99,7 +99,7 @@ statement_typed scope (while e a) k hosts is rest =
     rest)
 statement_typed scope (raise code) k hosts is rest = raising_typed scope code k hosts is rest
 statement_typed scope (request e x) k hosts is rest =
-    expression_typed scope e I32 _ [] [] is.0 (next (typed-grow _ _ hosts.memory) (next (typed-local_tee _ _ x I32 is.1) (next (typed-const _ _ _ (omega arith)) (next (typed-relation _ _ _ _)
+    expression_typed scope e I32 _ [] [] is.0 (typed-call _ 1 pages_signature _ [] _ hosts.pages_is (next (typed-local_tee _ _ x I32 is.1) (next (typed-const _ _ _ (omega arith)) (next (typed-relation _ _ _ _)
     (typed-if_then _ _ _ [] _ (raising_typed (within scope []) 3 done (hosts-within scope [] hosts) (omega arith) (typed-done _ _))
     (next (typed-local_get _ _ x I32 is.1) (next (typed-const _ _ _ (omega arith)) (next (typed-binary _ _ _ _) (setting_typed scope x I32 k is.1 rest)))))))))
 statement_typed scope exit k hosts is rest = subst (λ (results : List ValType). Typed scope (return k) (results ++ []) []) hosts.results (typed-return scope k [] [] [] rest)

@@ -10,7 +10,7 @@ use Rattle.qw_low.specs.Syntax.{Statement}
 use Rattle.qw_low.specs.State.{LowState}
 use Rattle.qw_low.specs.Meaning.{Outcome, Completed, Exited, Stopped, Wrong, Unfinished, meaning}
 use Rattle.qw_low.specs.Inner.Exact.{Rest, end_of_run, asks, Path, Takes}
-use Rattle.qw_low.specs.Places.{AreMeant, StandsFor, IsOutcome, HasRaise, IsDone, beginning}
+use Rattle.qw_low.specs.Places.{AreMeant, StandsFor, IsOutcome, HasHosts, IsDone, beginning}
 use Rattle.qw_low.proofs.OpenOutcomes.{along, held_after, outcome-over, path, path_after, refused_after, takes_path}
 
 -- what of a world tells how a run ended
@@ -59,7 +59,7 @@ end-on pages out zero end_of_run b h = end-is out b h
 end-on pages out zero (asks asked granted n r) b h = none-yet b.state _ b.world h
 end-on pages out (suc n) r b h = none-yet b.state _ b.world h
 
-module _ (pages fuel : ℕ) (a : Statement) (s : LowState) (store : Store) (imported : HasRaise store) where
+module _ (pages fuel : ℕ) (a : Statement) (s : LowState) (store : Store) (imported : HasHosts store) where
   -- the course of the state's run
   unfoldable pub course : ℕ → Seen
   course k =

@@ -1,18 +1,18 @@
 -- Every open run of a statement's code is the statement's run, and what others do changes nothing of its counts and requests.
-use Rattle.std.proofs.Common.{◌≡◌, ℕ, zero, suc, ◌+◌, Bool, true, false, List, [], ◌∷◌, Option, Some, None, refl, sym, ap, ◌∙◌, subst, inr, arith}
+use Rattle.std.proofs.Common.{◌≡◌, ℕ, zero, suc, ◌+◌, Bool, true, false, List, [], ◌∷◌, Option, Some, None, is_some, refl, sym, ap, ◌∙◌, subst, inr, arith}
 use Rattle.qw_module.specs.Syntax.{done}
-use Rattle.qw_module.specs.Execution.{Store, Context, label, Config, State, Running, Returned, Raised, Trapped, IsOver, Event, Silent, Loads, Stores, Grows, Raises, Traps}
+use Rattle.qw_module.specs.Execution.{Store, Context, label, Config, State, Running, Returned, Raised, Trapped, IsOver, Event, Silent, Loads, Stores, Grows, AsksHost, Raises, Traps}
 use Rattle.qw_module.specs.Step.{Next, next}
 use Rattle.qw_map.specs.Areas.{World, grants, world_after}
 use Rattle.qw_map.specs.Runs.{Moment, moment_after, OpenStep, OpenRun, begins, goes_on}
 use Rattle.qw_map.specs.Inner.Steps.{IsAllowed, OnStep, OnRunning, Within}
-use Rattle.qw_map.proofs.OpenRuns.{open-next, behaves_within}
+use Rattle.qw_map.proofs.OpenRuns.{place_at, place-at, open-next, behaves_within}
 use Rattle.qw_low.specs.Syntax.{Statement}
 use Rattle.qw_low.specs.State.{LowState}
 use Rattle.qw_low.specs.Meaning.{Outcome, Completed, Exited, Stopped, Wrong, Unfinished, meaning}
 use Rattle.qw_low.specs.Translation.{statement_code}
 use Rattle.qw_low.specs.Inner.Exact.{IsQuiet, OnQuiet, OnAsked, Exactly, Rest, end_of_run, asks, Path, Then, Takes}
-use Rattle.qw_low.specs.Places.{AreMeant, StandsFor, IsOutcome, EndsAfter, EndsCounted, RunsAs, HasRaise, IsDone, beginning}
+use Rattle.qw_low.specs.Places.{AreMeant, StandsFor, IsOutcome, EndsAfter, EndsCounted, RunsAs, HasHosts, IsDone, beginning}
 use Rattle.qw_low.proofs.ExactSteps.{there}
 use Rattle.qw_low.proofs.ExpressionRuns.{standing}
 use Rattle.qw_low.proofs.Paths.{steps, length_of, total, AreCounted, Counts, counts}
@@ -54,8 +54,8 @@ quiet-made Q w before made event state after e h = rw e at h
 
 asked-made : (pages asked : ℕ) (granted : Bool) (Q : Moment → Type 0) (w : World) (before : List ℕ) (made : Option Next) (event : Event) (state : State) (after : List ℕ) →
     made ≡ Some (record { event = event; state = state; memory = after }) → OnAsked pages asked granted w before Q made →
-    (event ≡ Grows asked granted) × Q (moment_after w before event state after)
-asked-made pages asked granted Q w before made event state after e h = let both = rw e at h in (both.0, both.2)
+    (first : Option ℕ) × (event ≡ AsksHost asked first) × (is_some first ≡ granted) × Q (moment_after w before event state after)
+asked-made pages asked granted Q w before made event state after e h = let all = rw e at h in (all.0, all.1, all.2, all.4)
 
 -- a step that asks for no pages leaves the world as it is
 quiet-world : (w : World) (before : List ℕ) (event : Event) → IsQuiet w event → world_after w before event ≡ w
@@ -63,6 +63,7 @@ quiet-world w before Silent quiet = refl
 quiet-world w before (Loads address width) quiet = refl
 quiet-world w before (Stores address width) quiet = refl
 quiet-world w before (Grows pages granted) quiet = absurd quiet
+quiet-world w before (AsksHost pages first) quiet = absurd quiet
 quiet-world w before (Raises code) quiet = refl
 quiet-world w before (Traps why) quiet = refl
 
@@ -82,25 +83,29 @@ module _ (pages : ℕ) (Q : Moment → Type 0) (ended : (b : Moment) → Q b →
       × (quiet + length_of r ≡ suc (total (left quiet r)))
   one_more zero end_of_run held refused b c before event state after step h = absurd (running-over b.state c step.running (ended b h.takes))
   one_more (suc n) r held refused b c before event state after step h =
-      let made = quiet-made (Exactly (Then pages Q r) n) b.world before (next (grants b.world) c before) event state after (open-next b c before event state after step)
-      ((rw (step.running) at h.takes) before step.others) in
+      let made = quiet-made (Exactly (Then pages Q r) n) b.world before (next (grants b.world) (place_at before event) c before) event state after (open-next b c before event state after step)
+      ((rw (step.running) at h.takes) before step.others (place_at before event) (place-at b.world before event step.placed)) in
       let same = quiet-world b.world before event made.0 in (
         record { takes = made.1; held_is = ap (λ (w : World). w.held) same ∙ h.held_is; refused_is = ap (λ (w : World). w.refused) same ∙ h.refused_is },
         omega arith,
       )
   one_more zero (asks asked granted n r) held refused b c before event state after step h =
-      let made = asked-made pages asked granted (Exactly (Then pages Q r) n) b.world before (next (grants b.world) c before) event state after
-      (open-next b c before event state after step) ((rw (step.running) at h.takes) before step.others) in
-      (by_answer granted made.0 made.1, omega arith)
+      let made = asked-made pages asked granted (Exactly (Then pages Q r) n) b.world before (next (grants b.world) (place_at before event) c before) event state after
+      (open-next b c before event state after step) ((rw (step.running) at h.takes) before step.others (place_at before event) (place-at b.world before event step.placed)) in
+      (
+        subst (λ (g : Bool). IsOn pages Q (record { quiet = n; rest = r }) (held_then zero (asks asked g n r) held) (refused_then zero (asks asked g n r) refused) (moment_after b.world before event state after))
+            made.2 (by_answer made.0 made.1 made.3),
+        omega arith,
+      )
     where
-      by_answer : (granted : Bool) → event ≡ Grows asked granted → Exactly (Then pages Q r) n (moment_after b.world before event state after) →
-          IsOn pages Q (record { quiet = n; rest = r }) (held_then zero (asks asked granted n r) held) (refused_then zero (asks asked granted n r) refused) (moment_after b.world before event state after)
-      by_answer true is takes = record {
+      by_answer : (first : Option ℕ) → event ≡ AsksHost asked first → Exactly (Then pages Q r) n (moment_after b.world before event state after) →
+          IsOn pages Q (record { quiet = n; rest = r }) (held_then zero (asks asked (is_some first) n r) held) (refused_then zero (asks asked (is_some first) n r) refused) (moment_after b.world before event state after)
+      by_answer (Some first) is takes = record {
         takes = takes;
         held_is = ap (λ (e : Event). (world_after b.world before e).held) is ∙ ap (λ (n : ℕ). n + asked) h.held_is;
         refused_is = ap (λ (e : Event). (world_after b.world before e).refused) is ∙ h.refused_is;
       }
-      by_answer false is takes = record {
+      by_answer None is takes = record {
         takes = takes;
         held_is = ap (λ (e : Event). (world_after b.world before e).held) is ∙ h.held_is;
         refused_is = ap (λ (e : Event). (world_after b.world before e).refused) is;
@@ -143,13 +148,14 @@ module _ (pages : ℕ) (Q : Moment → Type 0) (ended : (b : Moment) → Q b →
       allowed (Loads address width) quiet = quiet
       allowed (Stores address width) quiet = quiet
       allowed (Grows asked granted) quiet = absurd quiet
+      allowed (AsksHost asked first) quiet = absurd quiet
       allowed (Raises code) quiet = quiet
       allowed (Traps why) quiet = quiet
 
   asked-allowed : (w : World) (before : List ℕ) (asked : ℕ) (granted : Bool) (P P' : Moment → Type 0) (made : Option Next) → ((b : Moment) → P b → P' b) →
       OnAsked pages asked granted w before P made → OnStep pages w before P' made
   asked-allowed w before asked granted P P' None more h = h
-  asked-allowed w before asked granted P P' (Some t) more h = (subst (λ (e : Event). IsAllowed pages w e t.state) (sym h.0) h.1, more _ h.2)
+  asked-allowed w before asked granted P P' (Some t) more h = (subst (λ (e : Event). IsAllowed pages w e t.state) (sym h.1) h.3, more _ h.4)
 
   OnRunning-more : (P P' : Config → Type 0) (s : State) → ((c : Config) → P c → P' c) → OnRunning s P → OnRunning s P'
   OnRunning-more P P' (Running c) weaker h = weaker c h
@@ -161,14 +167,14 @@ module _ (pages : ℕ) (Q : Moment → Type 0) (ended : (b : Moment) → Q b →
   exactly-within P m last zero k is b h = subst (λ (i : ℕ). Within pages Q i b) (let same : m ≡ k = omega (arith, is) in same) (last b h)
   exactly-within P m last (suc n) zero is b h = absurd (omega (arith, is))
   exactly-within P m last (suc n) (suc k) is b h = inr (OnRunning-more _ _ b.state
-      (λ c steps before others. quiet-allowed b.world before (Exactly P n) (Within pages Q k) (next (grants b.world) c before)
-      (exactly-within P m last n k (omega (arith, is))) (steps before others)) h)
+      (λ c steps before others place placed. quiet-allowed b.world before (Exactly P n) (Within pages Q k) (next (grants b.world) place c before)
+      (exactly-within P m last n k (omega (arith, is))) (steps before others place placed)) h)
 
   then-within : (r : Rest) (b : Moment) → Then pages Q r b → Within pages Q (length_of r) b
   then-within end_of_run b h = h
   then-within (asks asked granted n r) b h = inr (OnRunning-more _ _ b.state
-      (λ c steps before others. asked-allowed b.world before asked granted (Exactly (Then pages Q r) n) (Within pages Q (n + length_of r)) (next (grants b.world) c before)
-      (exactly-within (Then pages Q r) (length_of r) (then-within r) n (n + length_of r) refl) (steps before others)) h)
+      (λ c steps before others place placed. asked-allowed b.world before asked granted (Exactly (Then pages Q r) n) (Within pages Q (n + length_of r)) (next (grants b.world) place c before)
+      (exactly-within (Then pages Q r) (length_of r) (then-within r) n (n + length_of r) refl) (steps before others place placed)) h)
 
   pub ends_after : (p : Path) (n : ℕ) → total p ≡ n → (a : Moment) → Takes pages Q p a → EndsAfter n pages Q a
   ends_after p n is a h = record {
@@ -190,7 +196,7 @@ outcome-over (Stopped code n s) b h = subst IsOver (sym h.0) tt
 outcome-over Wrong b h = absurd h
 outcome-over Unfinished b h = absurd h
 
-module _ (pages fuel : ℕ) (a : Statement) (s : LowState) (store : Store) (imported : HasRaise store) where
+module _ (pages fuel : ℕ) (a : Statement) (s : LowState) (store : Store) (imported : HasHosts store) where
   -- the path of the state's run
   abbrev pub path : Path
   path = steps pages fuel a done s 0 end_of_run
@@ -231,7 +237,7 @@ module _ (pages fuel : ℕ) (a : Statement) (s : LowState) (store : Store) (impo
     runs_as Wrong counted ends = tt
     runs_as Unfinished counted ends = tt
 
-pub low_runs : (pages fuel : ℕ) (a : Statement) (s : LowState) (store : Store) (w : World) (memory xs : List ℕ) → HasRaise store → StandsFor w s memory → AreMeant w s.locals xs →
+pub low_runs : (pages fuel : ℕ) (a : Statement) (s : LowState) (store : Store) (w : World) (memory xs : List ℕ) → HasHosts store → StandsFor w s memory → AreMeant w s.locals xs →
     RunsAs (meaning pages fuel a s) pages (beginning store w a xs memory)
 low_runs pages fuel a s store w memory xs imported stands are =
     runs_as pages fuel a s store imported w memory xs stands are (meaning pages fuel a s) (counts pages fuel a done s) (ends_on_path pages fuel a s store imported w memory xs stands are)

@@ -7,7 +7,7 @@ use Rattle.qw_map.proofs.BehavingLemmas.{within-weaker}
 use Rattle.qw_low.specs.Syntax.{Statement}
 use Rattle.qw_low.specs.State.{LowState}
 use Rattle.qw_low.specs.Meaning.{Outcome, Completed, Exited, Stopped, Wrong, Unfinished, meaning}
-use Rattle.qw_low.specs.Places.{AreMeant, StandsFor, IsOutcome, EndsCounted, RunsAs, HasRaise, beginning}
+use Rattle.qw_low.specs.Places.{AreMeant, StandsFor, IsOutcome, EndsCounted, RunsAs, HasHosts, beginning}
 use Rattle.qw_low.specs.Promise.{Ends}
 use Rattle.qw_low.proofs.OpenOutcomes.{low_runs}
 
@@ -30,5 +30,5 @@ module _ (pages fuel most left : ℕ) (P X : LowState → Type 0) (R : ℕ → T
   by_outcome Wrong runs h = absurd h
   by_outcome Unfinished runs h = absurd h
 
-  pub promised_runs : HasRaise store → StandsFor w s memory → AreMeant w s.locals xs → Ends most P X R (meaning pages fuel a s) → BehavesWithin most pages left (Keeps P X R) start
+  pub promised_runs : HasHosts store → StandsFor w s memory → AreMeant w s.locals xs → Ends most P X R (meaning pages fuel a s) → BehavesWithin most pages left (Keeps P X R) start
   promised_runs imported stands are ends = by_outcome (meaning pages fuel a s) (low_runs pages fuel a s store w memory xs imported stands are) ends

@@ -22,7 +22,7 @@ use Rattle.qw_low.specs.Syntax.{Expression, Statement}
 use Rattle.qw_low.specs.State.{Part, Column, Own, Value, Number, Address, LowState, is_within, stored_as, with_cell}
 use Rattle.qw_low.specs.Meaning.{value, cost, Outcome, Completed, Exited, Stopped, Wrong, Unfinished, with_local, found_at, put_at, raised}
 use Rattle.qw_low.specs.Translation.{expression_code, statement_code, unaligned, raising, setting, to_octets, on_answer}
-use Rattle.qw_low.specs.Places.{Means, AreMeant, StandsFor, HasRaise}
+use Rattle.qw_low.specs.Places.{Means, AreMeant, StandsFor, HasHosts}
 use Rattle.qw_low.proofs.ExactSteps.{Comes, LooksAhead, counted, instead, goes, loads, stores, raises, weaker, knowing}
 use Rattle.qw_low.proofs.Paths.{set_steps}
 use Rattle.qw_low.proofs.Standing.{stable, lies, lies-at, area_of-sized, length-meant, set-meant}
@@ -246,10 +246,10 @@ module _ (Q : Moment → Type 0) (module_store : Store) where
 
     -- the number of pages stands on the operands
     pub asks_for : (e : Expression) (count x : ℕ) (k : Code) → value s e ≡ Some (Number count) → (memory : List ℕ) → StandsFor w s memory → (n : ℕ) →
-        Comes Q w (StandsFor w s) n (standing module_store (op o.MemoryGrow (on_answer x k)) (count ∷ []) xs contexts) →
-        Comes Q w (StandsFor w s) (cost e + n) (standing module_store (expression_code e (op o.MemoryGrow (on_answer x k))) [] xs contexts)
-    asks_for e count x k is memory h n comes = expression_runs Q module_store contexts w s xs memory h are e (Number count) is (op o.MemoryGrow (on_answer x k)) [] n
-        (λ word means. subst (λ (m : ℕ). Comes Q w (StandsFor w s) n (standing module_store (op o.MemoryGrow (on_answer x k)) (m ∷ []) xs contexts)) (sym means) comes)
+        Comes Q w (StandsFor w s) n (standing module_store (call 1 (on_answer x k)) (count ∷ []) xs contexts) →
+        Comes Q w (StandsFor w s) (cost e + n) (standing module_store (expression_code e (call 1 (on_answer x k))) [] xs contexts)
+    asks_for e count x k is memory h n comes = expression_runs Q module_store contexts w s xs memory h are e (Number count) is (call 1 (on_answer x k)) [] n
+        (λ word means. subst (λ (m : ℕ). Comes Q w (StandsFor w s) n (standing module_store (call 1 (on_answer x k)) (m ∷ []) xs contexts)) (sym means) comes)
 
     -- the word of a number or an address leads one way or the other
     pub tests : (e : Expression) (choice : Code) (n : ℕ) → Tells (value s e) n → (m : ℕ) →
@@ -260,14 +260,14 @@ module _ (Q : Moment → Type 0) (module_store : Store) where
         (expression_runs Q module_store contexts w s xs memory h are e (told_value (value s e) n tells) (told-is (value s e) n tells) choice [] (suc m)
         (λ word means. onward word (alike w s memory h (value s e) n tells word means))))
 
-    raises_to : HasRaise module_store → (code : ℕ) (k : Code) → IsFine w (Raises code) → (j : ℕ) → Comes Q w (StandsFor w s) j (Raised code) →
+    raises_to : HasHosts module_store → (code : ℕ) (k : Code) → IsFine w (Raises code) → (j : ℕ) → Comes Q w (StandsFor w s) j (Raised code) →
         Comes Q w (StandsFor w s) (2 + j) (standing module_store (raising code k) [] xs contexts)
     raises_to imported code k fine j comes = counted Q w (StandsFor w s) (suc (suc j)) (2 + j) _ (omega arith)
         (op_goes Q module_store contexts w s xs (o.Const (const.I32 code)) (call 0 k) [] (code ∷ []) xs (suc j) refl
         (subst (λ (state : State). Comes Q w (StandsFor w s) (suc j) state) (sym (settled-unfinished module_store contexts (call 0 k) (code ∷ []) xs (λ e. cc)))
-        (raises Q w (StandsFor w s) (stable w s) j (config module_store (call 0 k) (code ∷ []) xs contexts) code (rw imported refl) fine comes)))
+        (raises Q w (StandsFor w s) (stable w s) j (config module_store (call 0 k) (code ∷ []) xs contexts) code (rw (imported.0) refl) fine comes)))
 
-    pub raise_runs : HasRaise module_store → (code : ℕ) (k : Code) → QuietTo 2 (raised code s) w (StandsFor w s) (standing module_store (raising code k) [] xs contexts) (λ ys. standing module_store k [] ys contexts)
+    pub raise_runs : HasHosts module_store → (code : ℕ) (k : Code) → QuietTo 2 (raised code s) w (StandsFor w s) (standing module_store (raising code k) [] xs contexts) (λ ys. standing module_store k [] ys contexts)
     raise_runs imported zero k = tt
     raise_runs imported (suc zero) k = λ j onward. raises_to imported 1 k (inl refl) j (onward w)
     raise_runs imported (suc (suc zero)) k = λ j onward. raises_to imported 2 k (inr (inl refl)) j (onward w)

@@ -21,9 +21,9 @@ use Rattle.qw_low.specs.Syntax.{Expression, Statement, skip, seq, assign, load, 
 use Rattle.qw_low.specs.State.{Own, Value, Number, Address, LowState, stored_as, with_pages}
 use Rattle.qw_low.specs.Meaning.{value, cost, Outcome, Completed, Exited, Stopped, Wrong, Unfinished, counting, and_then, with_local, found_at, put_at, by_value, unless_zero, turns, raised, requested, meaning}
 use Rattle.qw_low.specs.Translation.{expression_code, statement_code, raising, setting, to_octets, on_answer}
-use Rattle.qw_low.specs.Places.{AreMeant, StandsFor, HasRaise}
+use Rattle.qw_low.specs.Places.{AreMeant, StandsFor, HasHosts}
 use Rattle.qw_low.specs.Inner.Exact.{Rest, asks, Then}
-use Rattle.qw_low.proofs.ExactSteps.{Comes, LooksAhead, looks_ahead, counted, raises, grow_granted, grow_refused, weaker, knowing}
+use Rattle.qw_low.proofs.ExactSteps.{Comes, LooksAhead, looks_ahead, counted, raises, ask_granted, ask_refused, weaker, knowing}
 use Rattle.qw_low.proofs.Paths.{set_steps, Steps, quietly, delayed, asking, steps_then, steps_by, steps_unless, steps_turns, steps_asked, steps}
 use Rattle.qw_low.proofs.QuietRuns.{relocated, inside, again, the_loop, in_loop, Tells, QuietTo, steps_from, steps_to, setting_runs, assign_runs, load_runs, store_runs, runs_on, answered_by, asks_for, tests, raise_runs, exit_runs}
 use Rattle.qw_low.proofs.Standing.{stable, length-meant, set-meant}
@@ -87,11 +87,11 @@ module _ (pages : ℕ) (Q : Moment → Type 0) (module_store : Store) where
   and_then_runs Unfinished f σ τ w M state middle following first second = tt
 
   module _ (s : LowState) (w : World) (xs : List ℕ) (are : AreMeant w s.locals xs) (contexts : List Context) where
-    granted_runs : ((r : Rest) → LooksAhead (A r)) → (e : Expression) (count x : ℕ) (k : Code) → value s e ≡ Some (Number count) → nat_lt x (length s.locals) ≡ true → 1 ≤ count → w.held + count ≤ pages → w.held + count ≤ w.limit →
+    granted_runs : ((r : Rest) → LooksAhead (A r)) → HasHosts module_store → (e : Expression) (count x : ℕ) (k : Code) → value s e ≡ Some (Number count) → nat_lt x (length s.locals) ≡ true → 1 ≤ count → w.held + count ≤ pages → w.held + count ≤ w.limit →
         RunsTo (Completed (cost e + 9) (record (with_pages s count) { locals = slice_set s.locals x (Address (Own (length s.own)) 0) })) (asking (cost e) count true (7 + set_steps x k)) w (StandsFor w s)
         (standing module_store (statement_code (request e x) k) [] xs contexts) (λ ys. standing module_store k [] ys contexts)
-    granted_runs ahead e zero x k is room some within fits = absurd (omega arith)
-    granted_runs ahead e (suc less) x k is room some within fits = λ j r onward.
+    granted_runs ahead imported e zero x k is room some within fits = absurd (omega arith)
+    granted_runs ahead imported e (suc less) x k is room some within fits = λ j r onward.
         let room_here : nat_lt x (length xs) ≡ true = rw (length-meant w s.locals xs are) room in
         let below : x < length xs = ltb-true x (length xs) room_here in
         let after_grow : Code = on_answer x k in
@@ -100,19 +100,19 @@ module _ (pages : ℕ) (Q : Moment → Type 0) (module_store : Store) where
         knowing (A first) w (StandsFor w s) (cost e) _ (λ memory0 h0.
         counted (A first) w (StandsFor w s) (cost e + 0) (cost e) _ (omega arith)
         (asks_for (A first) module_store s w xs are contexts e (suc less) x k is memory0 h0 0
-        (subst (λ (state : State). Comes (A first) w (StandsFor w s) 0 state) (sym (settled-unfinished module_store contexts (op o.MemoryGrow after_grow) ((suc less) ∷ []) xs (λ e. cc)))
-        (grow_granted pages Q r w (StandsFor w s) (stable w s) (λ start. (start ≡ start / page * page) × (start + (suc less) * page ≤ most_pages * page)) (λ start. StandsFor (with_granted w start (suc less)) (with_pages s (suc less))) (7 + set_steps x k + j)
-        (config module_store (op o.MemoryGrow after_grow) ((suc less) ∷ []) xs contexts) (suc less) (λ n. standing module_store after_grow (n ∷ []) xs contexts) refl within
+        (subst (λ (state : State). Comes (A first) w (StandsFor w s) 0 state) (sym (settled-unfinished module_store contexts (call 1 after_grow) ((suc less) ∷ []) xs (λ e. cc)))
+        (ask_granted pages Q r w (StandsFor w s) (stable w s) (λ first. first + suc less ≤ most_pages) (λ first. StandsFor (with_granted w (first * page) (suc less)) (with_pages s (suc less))) (7 + set_steps x k + j)
+        (config module_store (call 1 after_grow) ((suc less) ∷ []) xs contexts) (suc less) (λ n. standing module_store after_grow (n ∷ []) xs contexts) (rw (imported.1) refl) within
         (λ found. runs_on (A r) module_store s w xs are contexts after_grow (found ∷ []) xs (λ e. cc)) fits
-        (λ m h space. ((h.whole, space), stands-more w s less (length m) m h refl space))
-        (λ start is.
+        (λ m first h there placed. (there.0, stands-more w s less first m h placed (let most = there.0 in omega (arith, most))))
+        (λ n is.
+        let start : ℕ = n * page in
         let w' : World = with_granted w start (suc less) in
         let t : LowState = with_pages s (suc less) in
-        let n : ℕ = start / page in
         let ys : List ℕ = slice_set xs x n in
         let there : slice_get ys x ≡ Some n = slice_get-set_same xs x n below in
-        let not_refused : (n == refusal) ≡ false = ne_eqb n refusal (λ e. omega (arith, is.0, is.1)) in
-        let same : n * page % 2 ^ 32 ≡ start = omega (arith, is.0, is.1) in
+        let not_refused : (n == refusal) ≡ false = ne_eqb n refusal (λ e. omega (arith, is, e)) in
+        let same : n * page % 2 ^ 32 ≡ start = omega (arith, is) in
         let again : slice_set ys x start ≡ slice_set xs x start = set-set xs x n start in
         let v : Value = Address (Own (length s.own)) 0 in
         counted (A r) w' (StandsFor w' t) (suc (suc (suc (suc (suc (suc (suc last))))))) (7 + set_steps x k + j) _ (omega arith)
@@ -125,10 +125,10 @@ module _ (pages : ℕ) (Q : Moment → Type 0) (module_store : Store) where
         (subst (λ (zs : List ℕ). Comes (A r) w' (StandsFor w' t) j (standing module_store k [] zs contexts)) (sym again)
         (weaker (A r) w' (StandsFor w' t) (StandsFor w' (record t { locals = slice_set s.locals x v })) j (standing module_store k [] (slice_set xs x start) contexts)
         (λ memory h. relocated w' t (slice_set s.locals x v) memory h)
-        (onward w' (slice_set xs x start) (set-meant w' s.locals xs (AreMeant-more w s less start s.locals xs are) x v start
-        (new w s less start, new-there w s less start h0.fits, omega arith, omega arith))))))))))))))))
+        (onward w' (slice_set xs x start) (set-meant w' s.locals xs (AreMeant-more w s less n s.locals xs are) x v start
+        (new w s less n, new-there w s less n h0.fits, omega arith, omega arith))))))))))))))))
 
-    refused_runs : HasRaise module_store → (e : Expression) (count x : ℕ) (k : Code) → value s e ≡ Some (Number count) → nat_lt x (length s.locals) ≡ true → w.held + count ≤ pages → nat_le (w.held + count) w.limit ≡ false →
+    refused_runs : HasHosts module_store → (e : Expression) (count x : ℕ) (k : Code) → value s e ≡ Some (Number count) → nat_lt x (length s.locals) ≡ true → w.held + count ≤ pages → nat_le (w.held + count) w.limit ≡ false →
         RunsTo (Stopped 3 (cost e + 7) (record s { refused = Some count })) (asking (cost e) count false 6) w (StandsFor w s) (standing module_store (statement_code (request e x) k) [] xs contexts) (λ ys. standing module_store k [] ys contexts)
     refused_runs imported e count x k is room within past = λ j r onward.
         let room_here : nat_lt x (length xs) ≡ true = rw (length-meant w s.locals xs are) room in
@@ -141,8 +141,8 @@ module _ (pages : ℕ) (Q : Moment → Type 0) (module_store : Store) where
         knowing (A first) w (StandsFor w s) (cost e) _ (λ memory0 h0.
         counted (A first) w (StandsFor w s) (cost e + 0) (cost e) _ (omega arith)
         (asks_for (A first) module_store s w xs are contexts e count x k is memory0 h0 0
-        (subst (λ (state : State). Comes (A first) w (StandsFor w s) 0 state) (sym (settled-unfinished module_store contexts (op o.MemoryGrow after_grow) (count ∷ []) xs (λ e. cc)))
-        (grow_refused pages Q r w (StandsFor w s) (stable w s) (6 + j) (config module_store (op o.MemoryGrow after_grow) (count ∷ []) xs contexts) count (λ n. standing module_store after_grow (n ∷ []) xs contexts) refl within
+        (subst (λ (state : State). Comes (A first) w (StandsFor w s) 0 state) (sym (settled-unfinished module_store contexts (call 1 after_grow) (count ∷ []) xs (λ e. cc)))
+        (ask_refused pages Q r w (StandsFor w s) (stable w s) (6 + j) (config module_store (call 1 after_grow) (count ∷ []) xs contexts) count (λ n. standing module_store after_grow (n ∷ []) xs contexts) (rw (imported.1) refl) within
         (λ found. runs_on (A r) module_store s w xs are contexts after_grow (found ∷ []) xs (λ e. cc)) past
         (weaker (A r) w' (StandsFor w s) (StandsFor w' t) (6 + j) (standing module_store after_grow (refusal ∷ []) xs contexts) (λ m h. stands-refused w s count m h)
         (counted (A r) w' (StandsFor w' t) (suc (suc (suc (suc (suc (suc j)))))) (6 + j) _ (omega arith)
@@ -150,9 +150,9 @@ module _ (pages : ℕ) (Q : Moment → Type 0) (module_store : Store) where
         (steps_from (A r) module_store s w xs are contexts w' t ys (if_then None (raising 3 done) (to_octets x k)) (1 ∷ []) (suc (suc j)) (standing module_store (raising 3 done) [] ys around) (λ e. cc) refl
         (op_goes (A r) module_store around w' t ys (o.Const (const.I32 3)) (call 0 done) [] (3 ∷ []) ys (suc j) refl
         (subst (λ (state : State). Comes (A r) w' (StandsFor w' t) (suc j) state) (sym (settled-unfinished module_store around (call 0 done) (3 ∷ []) ys (λ e. cc)))
-        (raises (A r) w' (StandsFor w' t) (stable w' t) j (config module_store (call 0 done) (3 ∷ []) ys around) 3 (rw imported refl) (inr (inr (refl, refl))) (onward w'))))))))))))
+        (raises (A r) w' (StandsFor w' t) (stable w' t) j (config module_store (call 0 done) (3 ∷ []) ys around) 3 (rw (imported.0) refl) (inr (inr (refl, refl))) (onward w'))))))))))))
 
-    request_runs : ((r : Rest) → LooksAhead (A r)) → HasRaise module_store → (e : Expression) (x : ℕ) (k : Code) (found : Option Value) → value s e ≡ found →
+    request_runs : ((r : Rest) → LooksAhead (A r)) → HasHosts module_store → (e : Expression) (x : ℕ) (k : Code) (found : Option Value) → value s e ≡ found →
         RunsTo (requested pages (cost e) s x found) (steps_asked (cost e) (7 + set_steps x k) s found) w (StandsFor w s) (standing module_store (statement_code (request e x) k) [] xs contexts) (λ ys. standing module_store k [] ys contexts)
     request_runs ahead imported e x k None is = tt
     request_runs ahead imported e x k (Some (Address p off)) is = tt
@@ -166,7 +166,7 @@ module _ (pages : ℕ) (Q : Moment → Type 0) (module_store : Store) where
         (λ fits. rw fits (λ j r onward. knowing (A (asks count true (7 + set_steps x k + j) r)) w (StandsFor w s) (cost e) _ (λ m h.
         let limit_is : w.limit ≡ s.limit = h.fits.limit in
         let held_is : w.held ≡ s.held = h.fits.held in
-        granted_runs ahead e count x k is parts.0 some (omega arith) (let le = leb-true (s.held + count) s.limit fits in omega arith) j r onward)))
+        granted_runs ahead imported e count x k is parts.0 some (omega arith) (let le = leb-true (s.held + count) s.limit fits in omega arith) j r onward)))
         (λ past. rw past (λ j r onward. knowing (A (asks count false (6 + j) r)) w (StandsFor w s) (cost e) _ (λ m h.
         refused_runs imported e count x k is parts.0 (omega (arith, h.fits.held)) (rw (h.fits.limit, h.fits.held) past) j r onward)))
         (cases_Bool (nat_le (s.held + count) s.limit))))
@@ -252,7 +252,7 @@ module _ (pages : ℕ) (Q : Moment → Type 0) (module_store : Store) where
         RunsTo (turns e means fuel s) (steps_turns e means (τ (again e)) fuel s) w (StandsFor w s) (standing module_store (statement_code (while e a) k) [] xs contexts) following
     turns_run fuel = loop_runs fuel (if_then None (the_loop e a) k) contexts at_entry
 
-  pub statement_runs : ((b : Moment) → Q b → IsOver b.state) → HasRaise module_store → (fuel : ℕ) (a : Statement) → StatementRuns a (meaning pages fuel a) (steps pages fuel a)
+  pub statement_runs : ((b : Moment) → Q b → IsOver b.state) → HasHosts module_store → (fuel : ℕ) (a : Statement) → StatementRuns a (meaning pages fuel a) (steps pages fuel a)
   statement_runs over imported fuel skip s w xs are contexts ends k = λ j r onward. counted (A r) w (StandsFor w s) j (0 + j) _ (omega arith) (onward w xs are)
   statement_runs over imported fuel (seq a b) s w xs are contexts ends k =
       and_then_runs (meaning pages fuel a s) (meaning pages fuel b) (steps pages fuel a (statement_code b k) s) (steps pages fuel b k) w (StandsFor w s) (standing module_store (statement_code a (statement_code b k)) [] xs contexts)

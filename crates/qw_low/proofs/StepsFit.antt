@@ -52,7 +52,7 @@ statement_fits (conditional e a b) k all h =
 statement_fits (while e a) k all h =
     let turn = (back FitsStep (expression_steps e) (step.If ∷ step.Loop ∷ (steps_of a ++ (expression_steps e ++ step.Again ∷ step.End ∷ step.End ∷ []))) all).1.1 in
     expression_fits e _ ((statement_fits a _ (front FitsStep (steps_of a) (expression_steps e ++ step.Again ∷ step.End ∷ step.End ∷ []) turn) (expression_fits e _ tt), tt), h)
-statement_fits (request e x) k all h = expression_fits e _ (tt, (tt, (tt, (tt, ((tt, tt), (tt, (tt, (tt, setting_fits x k h))))))))
+statement_fits (request e x) k all h = expression_fits e _ (tt, (tt, (tt, ((tt, tt), (tt, (tt, (tt, setting_fits x k h)))))))
 statement_fits (raise code) k all h = (tt, h)
 statement_fits exit k all h = h
 

@@ -11,7 +11,7 @@ use Rattle.qw_module.specs.declared.instruction.Op.{Op}
 use Rattle.qw_module.specs.declared.instruction.Op.TheVariants as o
 use Rattle.qw_module.specs.declared.instruction.Const.TheVariants as const
 use Rattle.qw_module.specs.Execution.{refusal}
-use Rattle.qw_module.specs.Syntax.{Code, Sequences, done, op, loop, if_then, if_else, br_if, return, code_of}
+use Rattle.qw_module.specs.Syntax.{Code, Sequences, done, op, loop, if_then, if_else, br_if, return, call, code_of}
 use Rattle.qw_module.specs.Numbering.{IsInOrder, Numbering, and_then, at_other, at_start, held, inside, numbered, numbering}
 use Rattle.qw_low.specs.declared.step.LowStep.{LowStep}
 use Rattle.qw_low.specs.declared.step.LowStep.TheVariants as step
@@ -121,6 +121,9 @@ again_numbers n = record { next = and_then n (i.BrIf 0); numbers = λ k. refl; w
 exit_numbers : Numbers (step.Exit ∷ []) return
 exit_numbers n = record { next = and_then n i.Return; numbers = λ k. refl; writes = λ rest waiting. refl; labels = refl }
 
+ask_numbers : Numbers (step.Ask ∷ []) (call 1)
+ask_numbers n = record { next = and_then n (i.Call 1); numbers = λ k. refl; writes = λ rest waiting. refl; labels = refl }
+
 raise_numbers : (code : ℕ) → Numbers (step.Raise code ∷ []) (raising code)
 raise_numbers code n = record {
   next = and_then (and_then n (i.Op (o.Const (const.I32 code)))) (i.Call 0);
@@ -129,7 +132,7 @@ raise_numbers code n = record {
   labels = refl;
 }
 
-request_numbers : (x : ℕ) → Numbers (request_steps x) (λ k. op o.MemoryGrow (plain_answer x k))
+request_numbers : (x : ℕ) → Numbers (request_steps x) (λ k. call 1 (plain_answer x k))
 request_numbers x =
     let set : List LowStep = step.Op (o.LocalSet x) ∷ [] in
     let multiplied : List LowStep = step.Op (o.Binary I32 Mul) ∷ set in
@@ -138,7 +141,7 @@ request_numbers x =
     let chosen : List LowStep = step.If ∷ step.Raise 3 ∷ step.End ∷ octets in
     let compared : List LowStep = step.Op (o.Relation I32 Eq) ∷ chosen in
     let with_refusal : List LowStep = step.Op (o.Const (const.I32 refusal)) ∷ compared in
-    numbers_first o.MemoryGrow (step.Op (o.LocalTee x) ∷ with_refusal) (plain_answer x)
+    numbers_then (step.Ask ∷ []) (step.Op (o.LocalTee x) ∷ with_refusal) (call 1) (plain_answer x) ask_numbers
     (numbers_first (o.LocalTee x) with_refusal (λ k. op (o.Const (const.I32 refusal)) (op (o.Relation I32 Eq) (if_then None (raising 3 done) (plain_octets x k))))
     (numbers_first (o.Const (const.I32 refusal)) compared (λ k. op (o.Relation I32 Eq) (if_then None (raising 3 done) (plain_octets x k)))
     (numbers_first (o.Relation I32 Eq) chosen (λ k. if_then None (raising 3 done) (plain_octets x k))
@@ -169,7 +172,7 @@ statement_numbers (store st offset a e) = numbers_binary (expression_steps a) (e
 statement_numbers (conditional e a b) = numbers_then (expression_steps e) (step.If ∷ (steps_of a ++ (step.Else ∷ (steps_of b ++ step.End ∷ [])))) (expression_code e) (if_else None (plain_code a done) (plain_code b done))
     (expression_numbers e) (choice_numbers (steps_of a) (steps_of b) (plain_code a) (plain_code b) (statement_numbers a) (statement_numbers b))
 statement_numbers (while e a) = while_numbers (expression_steps e) (steps_of a) (expression_code e) (plain_code a) (expression_numbers e) (statement_numbers a)
-statement_numbers (request e x) = numbers_then (expression_steps e) (request_steps x) (expression_code e) (λ k. op o.MemoryGrow (plain_answer x k)) (expression_numbers e) (request_numbers x)
+statement_numbers (request e x) = numbers_then (expression_steps e) (request_steps x) (expression_code e) (λ k. call 1 (plain_answer x k)) (expression_numbers e) (request_numbers x)
 statement_numbers (raise code) = raise_numbers code
 statement_numbers exit = exit_numbers
 

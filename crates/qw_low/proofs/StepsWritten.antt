@@ -225,6 +225,9 @@ again_writes rest finished current waiting = (finished, current ++ i.BrIf 0 ∷ 
 exit_writes : Writes (step.Exit ∷ []) return
 exit_writes rest finished current waiting = (finished, current ++ i.Return ∷ [], refl, emits-one finished current i.Return return (λ names more. refl) (λ n. tt))
 
+ask_writes : Writes (step.Ask ∷ []) (call 1)
+ask_writes rest finished current waiting = (finished, current ++ i.Call 1 ∷ [], refl, emits-one finished current (i.Call 1) (call 1) (λ names more. refl) (λ n. tt))
+
 raise_writes : (code : ℕ) → Writes (step.Raise code ∷ []) (raising code)
 raise_writes code rest finished current waiting = (
   finished,
@@ -243,7 +246,7 @@ writes-same xs ys f same one = subst (λ (steps : List LowStep). Writes steps f)
 writes-first : (operator : Op) (ys : List LowStep) (g : Code → Code) → Writes ys g → Writes (step.Op operator ∷ ys) (λ k. op operator (g k))
 writes-first operator ys g two = writes-then (step.Op operator ∷ []) ys (op operator) g (writes-op operator) two
 
-request_writes : (x : ℕ) → Writes (request_steps x) (λ k. op o.MemoryGrow (plain_answer x k))
+request_writes : (x : ℕ) → Writes (request_steps x) (λ k. call 1 (plain_answer x k))
 request_writes x =
     let set : List LowStep = step.Op (o.LocalSet x) ∷ [] in
     let multiplied : List LowStep = step.Op (o.Binary I32 Mul) ∷ set in
@@ -252,7 +255,7 @@ request_writes x =
     let chosen : List LowStep = step.If ∷ step.Raise 3 ∷ step.End ∷ octets in
     let compared : List LowStep = step.Op (o.Relation I32 Eq) ∷ chosen in
     let with_refusal : List LowStep = step.Op (o.Const (const.I32 refusal)) ∷ compared in
-    writes-first o.MemoryGrow (step.Op (o.LocalTee x) ∷ with_refusal) (plain_answer x)
+    writes-then (step.Ask ∷ []) (step.Op (o.LocalTee x) ∷ with_refusal) (call 1) (plain_answer x) ask_writes
     (writes-first (o.LocalTee x) with_refusal (λ k. op (o.Const (const.I32 refusal)) (op (o.Relation I32 Eq) (if_then None (raising 3 done) (plain_octets x k))))
     (writes-first (o.Const (const.I32 refusal)) compared (λ k. op (o.Relation I32 Eq) (if_then None (raising 3 done) (plain_octets x k)))
     (writes-first (o.Relation I32 Eq) chosen (λ k. if_then None (raising 3 done) (plain_octets x k))
@@ -283,7 +286,7 @@ statement_writes (store st offset a e) = writes-binary (expression_steps a) (exp
 statement_writes (conditional e a b) = writes-then (expression_steps e) (step.If ∷ (steps_of a ++ (step.Else ∷ (steps_of b ++ step.End ∷ [])))) (expression_code e) (if_else None (plain_code a done) (plain_code b done))
     (expression_writes e) (choice_writes (steps_of a) (steps_of b) (plain_code a) (plain_code b) (statement_writes a) (statement_writes b))
 statement_writes (while e a) = while_writes (expression_steps e) (steps_of a) (expression_code e) (plain_code a) (expression_writes e) (statement_writes a)
-statement_writes (request e x) = writes-then (expression_steps e) (request_steps x) (expression_code e) (λ k. op o.MemoryGrow (plain_answer x k)) (expression_writes e) (request_writes x)
+statement_writes (request e x) = writes-then (expression_steps e) (request_steps x) (expression_code e) (λ k. call 1 (plain_answer x k)) (expression_writes e) (request_writes x)
 statement_writes (raise code) = raise_writes code
 statement_writes exit = exit_writes
 

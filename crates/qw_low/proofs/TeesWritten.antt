@@ -74,6 +74,7 @@ written-fused step.Else w = turned-fused w.finished w.current w.waiting
 written-fused step.Loop w = refl
 written-fused step.Again w = adds-fused w (i.BrIf 0)
 written-fused step.End w = closed-fused w.finished w.current w.waiting
+written-fused step.Ask w = adds-fused w (i.Call 1)
 written-fused (step.Raise code) w =
     let first : Instr = i.Op (o.Const (const.I32 code)) in
     ap (adds pushed (i.Call 0)) (adds-fused w first) ∙ adds-fused (adds appended first w) (i.Call 0)
@@ -94,8 +95,8 @@ module _ (code : List LowStep) (w : Writing) (w_is : w ≡ all_written pushed co
       let w' : Writing = all_written appended code start in
       bodies_are ∙ ap bodies_in (w_is ∙ all_written-fused code start) ∙ sym (map-append fused w'.finished (w'.current ∷ []))
 
-  pub calls_written : AllByRecursion (AllByRecursion (CallsBelow 1)) bodies
-  calls_written = subst (AllByRecursion (AllByRecursion (CallsBelow 1))) (sym are_fused) (each_fused-all (CallsBelow 1) (λ x. tt) plain (plain_calls code))
+  pub calls_written : AllByRecursion (AllByRecursion (CallsBelow 2)) bodies
+  calls_written = subst (AllByRecursion (AllByRecursion (CallsBelow 2))) (sym are_fused) (each_fused-all (CallsBelow 2) (λ x. tt) plain (plain_calls code))
 
   module _ (s : Statement) (code_is : code ≡ steps_of s) where
     pub written_code : code_of (unlabelled bodies) ≡ statement_code s done

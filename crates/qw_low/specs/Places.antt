@@ -1,7 +1,7 @@
 -- What it is that a memory and a world stand for a state of Low, and that the open runs from a moment on are a Low run.
 use Rattle.std.specs.Prelude.{◌≡◌, ℕ, ◌+◌, ◌*◌, ◌≤◌, ◌⊎◌, List, [], ◌∷◌, length, map, Option, Some, slice_get}
 use Rattle.qw_linear.specs.Memory.{page, most_pages, pages_of, number_at, AreOctets}
-use Rattle.qw_module.specs.Execution.{host_raise, Store, Returned, Raised, IsOver, label, settled}
+use Rattle.qw_module.specs.Execution.{host_raise, host_pages, Store, Returned, Raised, IsOver, label, settled}
 use Rattle.qw_module.specs.Syntax.{done}
 use Rattle.qw_map.specs.Areas.{Area, World}
 use Rattle.qw_map.specs.Runs.{Moment, OpenRun, BehavesWithin}
@@ -84,9 +84,9 @@ RunsAs (Stopped code n s) pages a = EndsCounted n pages (IsOutcome (Stopped code
 RunsAs Wrong pages a = Unit {0}
 RunsAs Unfinished pages a = Unit {0}
 
--- function 0 of a store is `raise`
-abbrev pub HasRaise : Store → Type 0
-HasRaise store = slice_get store.functions 0 ≡ Some host_raise
+-- functions 0 and 1 of a store are `raise` and `pages`
+abbrev pub HasHosts : Store → Type 0
+HasHosts store = (slice_get store.functions 0 ≡ Some host_raise) × (slice_get store.functions 1 ≡ Some host_pages)
 
 -- a function without results begins: its body is the statement's code, over these locals
 abbrev pub beginning : Store → World → Statement → (locals memory : List ℕ) → Moment

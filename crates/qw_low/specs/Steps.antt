@@ -28,7 +28,7 @@ expression_steps (retreat a n) = expression_steps a ++ (expression_steps n ++ st
 -- what follows the number of pages of a request
 abbrev pub request_steps : ℕ → List LowStep
 request_steps x =
-    step.Op o.MemoryGrow ∷ step.Op (o.LocalTee x) ∷ step.Op (o.Const (const.I32 refusal)) ∷ step.Op (o.Relation I32 Eq)
+    step.Ask ∷ step.Op (o.LocalTee x) ∷ step.Op (o.Const (const.I32 refusal)) ∷ step.Op (o.Relation I32 Eq)
     ∷ step.If ∷ step.Raise 3 ∷ step.End
     ∷ step.Op (o.LocalGet x) ∷ step.Op (o.Const (const.I32 page)) ∷ step.Op (o.Binary I32 Mul) ∷ step.Op (o.LocalSet x) ∷ []
 

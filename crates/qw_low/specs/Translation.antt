@@ -27,7 +27,7 @@ expression_code (retreat a n) k = expression_code a (expression_code n (op (o.Bi
 abbrev pub unaligned : ℕ → MemArg
 unaligned offset = record { align = 0; offset = offset }
 
--- the function `raise` is imported, so it is function 0
+-- the functions `raise` and `pages` are imported, so they are functions 0 and 1
 abbrev pub raising : ℕ → Code → Code
 raising code k = op (o.Const (const.I32 code)) (call 0 k)
 
@@ -53,6 +53,6 @@ statement_code (load x l offset a) k = expression_code a (op (o.Load l (unaligne
 statement_code (store st offset a e) k = expression_code a (expression_code e (op (o.Store st (unaligned offset)) k))
 statement_code (conditional e a b) k = expression_code e (if_else None (statement_code a done) (statement_code b done) k)
 statement_code (while e a) k = expression_code e (if_then None (loop None (statement_code a (expression_code e (br_if 0 done))) done) k)
-statement_code (request e x) k = expression_code e (op o.MemoryGrow (on_answer x k))
+statement_code (request e x) k = expression_code e (call 1 (on_answer x k))
 statement_code (raise code) k = raising code k
 statement_code exit k = return k

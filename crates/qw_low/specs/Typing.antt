@@ -5,7 +5,7 @@ use Rattle.qw_module.specs.declared.instruction.ValType.{ValType}
 use Rattle.qw_module.specs.declared.instruction.ValType.TheVariants.{I32}
 use Rattle.qw_module.specs.Numbers.{values_of, constant, type_of_constant, converts_from, converts_to, type_of_load, type_of_store}
 use Rattle.qw_module.specs.Typing.{Scope}
-use Rattle.qw_module.specs.Soundness.{raise_signature}
+use Rattle.qw_module.specs.Soundness.{raise_signature, pages_signature}
 use Rattle.qw_low.specs.Syntax.{Expression, constant_of, local, unop, binop, divop, is_zero, relop, cvtop, advance, retreat, Statement, skip, seq, assign, load, store, conditional, while, request, raise, exit}
 
 -- over locals of these types an expression has this type
@@ -33,8 +33,9 @@ IsTyped locals (request e x) = HasType locals e I32 × (slice_get locals x ≡ S
 IsTyped locals (raise code) = code < 2 ^ 32
 IsTyped locals exit = Unit {0}
 
--- Where Low's code may stand: function 0 is `raise`, there is a memory, and the function has no result.
+-- Where Low's code may stand: functions 0 and 1 are `raise` and `pages`, there is a memory, and the function has no result.
 pub record HostsLow (scope : Scope) : Type 0 where
   pub raise_is : slice_get scope.outside.functions 0 ≡ Some raise_signature
+  pub pages_is : slice_get scope.outside.functions 1 ≡ Some pages_signature
   pub memory : 1 ≤ scope.outside.memories
   pub results : scope.results ≡ []

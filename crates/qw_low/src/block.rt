@@ -131,7 +131,7 @@ impl Block {
     {
         self.append(pages)?;
         self.code.extend_from_slice(&[
-            LowStep::Op(Op::MemoryGrow),
+            LowStep::Ask,
             LowStep::Op(Op::LocalTee(to)),
             LowStep::Op(Op::Const(Const::I32(REFUSAL))),
             LowStep::Op(Op::Relation(ValType::I32, Relation::Eq)),

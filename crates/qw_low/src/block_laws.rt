@@ -8,7 +8,7 @@ ghost use Rattle.qw_module.specs.declared.instruction.Store.TheVariants as store
 ghost use Rattle.qw_module.specs.Execution.{Store, Returned, Raised};
 ghost use Rattle.qw_map.specs.Areas.{World};
 ghost use Rattle.qw_map.specs.Runs.{BehavesWithin};
-ghost use Rattle.qw_low.specs.Places.{AreMeant, StandsFor, HasRaise, beginning};
+ghost use Rattle.qw_low.specs.Places.{AreMeant, StandsFor, HasHosts, beginning};
 ghost use Rattle.qw_low.specs.Syntax.{local, binop, skip, seq, assign, load, store, conditional, while, request, raise};
 ghost use Rattle.qw_low.specs.State.{Number, LowState};
 ghost use Rattle.qw_low.specs.Meaning.{meaning};
@@ -32,7 +32,7 @@ pub fn a_page_is_used()
 
 /// So in every open run of its code, over any memory that stands for a state: after at most 16 instructions it has returned, or raised 3.
 pub fn open_runs_use_a_page()
-    ensures { (most left x y n : ℕ) (s : LowState) (module_store : Store) (w : World) (memory locals : List ℕ) → HasRaise module_store → StandsFor w s memory → AreMeant w s.locals locals →
+    ensures { (most left x y n : ℕ) (s : LowState) (module_store : Store) (w : World) (memory locals : List ℕ) → HasHosts module_store → StandsFor w s memory → AreMeant w s.locals locals →
         x < length s.locals → y < length s.locals → s.held + 1 ≤ most →
         BehavesWithin 16 most left (λ b. (b.state ≡ Returned) ⊎ (b.state ≡ Raised 3))
         (beginning module_store w (seq (request (i32 1) x) (seq (store (stores.Full I32) 8 (local x) (i32 n)) (load y (loads.Full I32) 8 (local x)))) locals memory) }

@@ -119,6 +119,7 @@ impl Writer {
             LowStep::Loop => self.open(alloc, Opened::Loop)?,
             LowStep::Again => self.add(Instr::BrIf(0))?,
             LowStep::End => self.end(alloc)?,
+            LowStep::Ask => self.add(Instr::Call(1))?,
             LowStep::Raise(code) => {
                 self.add(Instr::Op(Op::Const(Const::I32(code))))?;
                 self.add(Instr::Call(0))?;
@@ -142,11 +143,11 @@ fn read_offset(step: LowStep)
 }
 
 /// The body of these steps. Where they are those of a statement, it is the statement's code, its sequences stand in the order in which
-/// they are read, and the offsets of its accesses have 32 bits. It calls no function but the first.
+/// they are read, and the offsets of its accesses have 32 bits. It calls no function but the first two.
 pub fn body_of(alloc: Global, code: &[LowStep]) -> Result<Body, NoMemory>
     ensures code { IfOk result (λ b. (s : Statement) → code.now ≡ steps_of s → code_of_body b ≡ statement_code s done) }
     ensures numbered { IfOk result (λ b. (s : Statement) → code.now ≡ steps_of s → IsNumbered (sequences_of b)) }
-    ensures calls { IfOk result (λ b. AllByRecursion (AllByRecursion (CallsBelow 1)) (items_of b.sequences.items)) }
+    ensures calls { IfOk result (λ b. AllByRecursion (AllByRecursion (CallsBelow 2)) (items_of b.sequences.items)) }
     ensures order { IfOk result (λ b. (s : Statement) → code.now ≡ steps_of s → IsInOrder (sequences_of b)) }
     ensures labels { IfOk result (λ b. b.labels.items ≡ []) }
     ensures offsets { IfOk result (λ b. (s : Statement) → code.now ≡ steps_of s → FitOffsets (code_of_body b)) }

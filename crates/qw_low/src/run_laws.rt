@@ -8,20 +8,20 @@ ghost use Rattle.qw_map.specs.Seen.{Seen, seen};
 ghost use Rattle.qw_low.specs.Syntax.{Statement};
 ghost use Rattle.qw_low.specs.State.{LowState};
 ghost use Rattle.qw_low.specs.Meaning.{Unfinished, meaning};
-ghost use Rattle.qw_low.specs.Places.{AreMeant, StandsFor, RunsAs, HasRaise, IsDone, beginning};
+ghost use Rattle.qw_low.specs.Places.{AreMeant, StandsFor, RunsAs, HasHosts, IsDone, beginning};
 
 /// Every open run of a statement's code, over any memory that stands for a state, is the statement's run of the state. All of them come to its
 /// end after one number of instructions, which is at most the run's count and at least half of it.
 pub fn open_runs_are_low_runs()
     ensures { (most fuel : ℕ) (a : Statement) (s : LowState) (store : Store) (w : World) (memory locals : List ℕ) →
-        HasRaise store → StandsFor w s memory → AreMeant w s.locals locals →
+        HasHosts store → StandsFor w s memory → AreMeant w s.locals locals →
         RunsAs (meaning most fuel a s) most (beginning store w a locals memory) }
 {}
 
 /// All open runs of a statement's code, over memories that stand for one state, keep step: after as many instructions each holds as many
 /// pages, had as many refused last, and ended alike or goes on.
 pub fn open_runs_keep_step()
-    ensures { (most fuel : ℕ) (a : Statement) (s : LowState) (store : Store) → HasRaise store →
+    ensures { (most fuel : ℕ) (a : Statement) (s : LowState) (store : Store) → HasHosts store →
         (course : ℕ → Seen) × (IsDone (meaning most fuel a s) → (w : World) (memory locals : List ℕ) → StandsFor w s memory → AreMeant w s.locals locals → (k : ℕ) (b : Moment) →
         OpenRun k (beginning store w a locals memory) b → seen b ≡ course k) }
 {}

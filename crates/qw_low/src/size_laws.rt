@@ -9,7 +9,7 @@ ghost use Rattle.qw_low.specs.Translation.{statement_code};
 ghost use Rattle.qw_low.specs.Size.{size};
 
 /// The code of a statement has as many instructions as its size says, before those that follow: of its own, and with those of the
-/// functions that it calls too, where function 0 has none.
+/// functions that it calls too, where functions 0 and 1 have none.
 pub fn code_has_its_size()
-    ensures { (called : ℕ → ℕ) → called 0 ≡ 0 → (a : Statement) (k : Code) → weight_with called (statement_code a k) ≡ size a + weight_with called k }
+    ensures { (called : ℕ → ℕ) → called 0 ≡ 0 → called 1 ≡ 0 → (a : Statement) (k : Code) → weight_with called (statement_code a k) ≡ size a + weight_with called k }
 {}

@@ -6,7 +6,7 @@ use qw_module::instruction::Op;
 /// them are Low, `specs/Steps` says: loads and stores are instructions of [`LowStep::Op`] whose address lies in a part.
 #[derive(Clone, Copy, Debug, PartialEq, Eq)]
 pub enum LowStep {
-    /// An instruction of an expression, an assignment, a load or a store, or a request.
+    /// An instruction of an expression, an assignment, a load or a store.
     Op(Op),
     /// Begins what is done unless the operand is 0. It ends at `Else` or `End`.
     If,
@@ -18,6 +18,8 @@ pub enum LowStep {
     Again,
     /// Ends an `If` or a `Loop`.
     End,
+    /// Asks the host for as many pages as the operand says.
+    Ask,
     /// Raises a code.
     Raise(u32),
     /// Ends the run.

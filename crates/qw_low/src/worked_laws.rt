@@ -21,7 +21,7 @@ ghost use Rattle.qw_low.specs.Syntax.{constant_of, local, binop, divop, is_zero,
 ghost use Rattle.qw_low.specs.State.{Column, Own, Value, Number, Address, with_cell, with_pages};
 ghost use Rattle.qw_low.specs.Meaning.{value, Completed, Exited, Stopped, Wrong, Unfinished, meaning};
 ghost use Rattle.qw_low.specs.Translation.{statement_code};
-ghost use Rattle.qw_low.specs.Places.{Means, AreMeant, Holds, Fits, StandsFor, IsOutcome, EndsAfter, HasRaise, beginning};
+ghost use Rattle.qw_low.specs.Places.{Means, AreMeant, Holds, Fits, StandsFor, IsOutcome, EndsAfter, HasHosts, beginning};
 ghost use Rattle.qw_low.specs.Begin.{descriptor_word};
 ghost use Rattle.qw_low.specs.Worked.{i32, state, nearly_full, world, two_columns};
 
@@ -109,7 +109,7 @@ pub fn code_of_tees()
     ensures loaded { statement_code (seq (load 2 (loads.Full I32) 8 (local 0)) (assign 1 (local 2))) done
         ≡ op (o.LocalGet 0) (op (o.Load (loads.Full I32) (record { align = 0; offset = 8 })) (op (o.LocalTee 2) (op (o.LocalSet 1) done))) }
     ensures requested { statement_code (seq (request (i32 1) 2) (assign 1 (local 2))) done
-        ≡ op (o.Const (const.I32 1)) (op o.MemoryGrow (op (o.LocalTee 2) (op (o.Const (const.I32 4294967295)) (op (o.Relation I32 Eq)
+        ≡ op (o.Const (const.I32 1)) (call 1 (op (o.LocalTee 2) (op (o.Const (const.I32 4294967295)) (op (o.Relation I32 Eq)
         (if_then None (op (o.Const (const.I32 3)) (call 0 done))
         (op (o.LocalGet 2) (op (o.Const (const.I32 65536)) (op (o.Binary I32 Mul) (op (o.LocalTee 2) (op (o.LocalSet 1) done)))))))))) }
     ensures in_a_loop { statement_code (while (local 2) (assign 2 (i32 0))) done
@@ -161,7 +161,7 @@ pub fn memories_that_stand()
 
 /// Each open run of a choice by an address, over a memory that stands for the state, raises 1 after 4 instructions.
 pub fn open_runs_of_a_choice()
-    ensures { (store : Store) (memory locals : List ℕ) → HasRaise store → StandsFor world state memory → AreMeant world state.locals locals →
+    ensures { (store : Store) (memory locals : List ℕ) → HasHosts store → StandsFor world state memory → AreMeant world state.locals locals →
         EndsAfter 4 128 (IsOutcome (Stopped 1 4 state)) (beginning store world (conditional (local 0) (raise 1) skip) locals memory) }
 {}
 
@@ -169,18 +169,18 @@ pub fn open_runs_of_a_choice()
 /// instructions where the count is 4, of the countdown from 2 after 14 where it is 16, and of a request that is granted and an assignment after
 /// 11 where it is 12. Where another local is got next it ends after 4.
 pub fn open_runs_of_tees()
-    ensures teed { (store : Store) (memory locals : List ℕ) → HasRaise store → StandsFor world state memory → AreMeant world state.locals locals →
+    ensures teed { (store : Store) (memory locals : List ℕ) → HasHosts store → StandsFor world state memory → AreMeant world state.locals locals →
         EndsAfter 3 128 (IsOutcome (Completed 4 (record state { locals = Address (Own 0) 0 ∷ Number 5 ∷ Number 5 ∷ [] })))
         (beginning store world (seq (assign 2 (i32 5)) (assign 1 (local 2))) locals memory) }
     ensures counted { meaning 128 0 (seq (assign 2 (i32 5)) (assign 1 (local 2))) state
         ≡ Completed 4 (record state { locals = Address (Own 0) 0 ∷ Number 5 ∷ Number 5 ∷ [] }) }
-    ensures countdown { (store : Store) (memory locals : List ℕ) → HasRaise store → StandsFor world state memory → AreMeant world state.locals locals →
+    ensures countdown { (store : Store) (memory locals : List ℕ) → HasHosts store → StandsFor world state memory → AreMeant world state.locals locals →
         EndsAfter 14 128 (IsOutcome (Completed 16 (record state { locals = Address (Own 0) 0 ∷ Address (Column 0) 0 ∷ Number 0 ∷ [] })))
         (beginning store world (while (local 2) (assign 2 (binop I32 Sub (local 2) (i32 1)))) locals memory) }
-    ensures requested { (store : Store) (w : World) (memory locals : List ℕ) → HasRaise store → StandsFor w nearly_full memory → AreMeant w nearly_full.locals locals →
+    ensures requested { (store : Store) (w : World) (memory locals : List ℕ) → HasHosts store → StandsFor w nearly_full memory → AreMeant w nearly_full.locals locals →
         EndsAfter 11 200 (IsOutcome (Completed 12 (record (with_pages nearly_full 1) { locals = Address (Own 0) 0 ∷ Address (Own 1) 0 ∷ Address (Own 1) 0 ∷ [] })))
         (beginning store w (seq (request (i32 1) 2) (assign 1 (local 2))) locals memory) }
-    ensures another { (store : Store) (memory locals : List ℕ) → HasRaise store → StandsFor world state memory → AreMeant world state.locals locals →
+    ensures another { (store : Store) (memory locals : List ℕ) → HasHosts store → StandsFor world state memory → AreMeant world state.locals locals →
         EndsAfter 4 128 (IsOutcome (Completed 4 (record state { locals = Address (Own 0) 0 ∷ Address (Own 0) 0 ∷ Number 5 ∷ [] })))
         (beginning store world (seq (assign 2 (i32 5)) (assign 1 (local 0))) locals memory) }
 {}
@@ -188,15 +188,15 @@ pub fn open_runs_of_tees()
 /// With 127 of 128 pages held, each open run of a request for one page holds 128 after its second instruction, and has ended after 10. One of two
 /// pages has been refused them after its second instruction, and has ended after 8, with these numbers.
 pub fn open_runs_of_requests()
-    ensures before { (store : Store) (w : World) (memory locals : List ℕ) (b : Moment) → HasRaise store → StandsFor w nearly_full memory → AreMeant w nearly_full.locals locals →
+    ensures before { (store : Store) (w : World) (memory locals : List ℕ) (b : Moment) → HasHosts store → StandsFor w nearly_full memory → AreMeant w nearly_full.locals locals →
         OpenRun 1 (beginning store w (request (i32 1) 2) locals memory) b → seen b ≡ record { held = 127; refused = None; end = None } }
-    ensures granted { (store : Store) (w : World) (memory locals : List ℕ) (b : Moment) → HasRaise store → StandsFor w nearly_full memory → AreMeant w nearly_full.locals locals →
+    ensures granted { (store : Store) (w : World) (memory locals : List ℕ) (b : Moment) → HasHosts store → StandsFor w nearly_full memory → AreMeant w nearly_full.locals locals →
         OpenRun 2 (beginning store w (request (i32 1) 2) locals memory) b → seen b ≡ record { held = 128; refused = None; end = None } }
-    ensures done { (store : Store) (w : World) (memory locals : List ℕ) (b : Moment) → HasRaise store → StandsFor w nearly_full memory → AreMeant w nearly_full.locals locals →
+    ensures done { (store : Store) (w : World) (memory locals : List ℕ) (b : Moment) → HasHosts store → StandsFor w nearly_full memory → AreMeant w nearly_full.locals locals →
         OpenRun 10 (beginning store w (request (i32 1) 2) locals memory) b → seen b ≡ record { held = 128; refused = None; end = Some Done } }
-    ensures refused { (store : Store) (w : World) (memory locals : List ℕ) (b : Moment) → HasRaise store → StandsFor w nearly_full memory → AreMeant w nearly_full.locals locals →
+    ensures refused { (store : Store) (w : World) (memory locals : List ℕ) (b : Moment) → HasHosts store → StandsFor w nearly_full memory → AreMeant w nearly_full.locals locals →
         OpenRun 2 (beginning store w (request (i32 2) 2) locals memory) b → seen b ≡ record { held = 127; refused = Some 2; end = None } }
-    ensures stopped { (store : Store) (w : World) (memory locals : List ℕ) (b : Moment) → HasRaise store → StandsFor w nearly_full memory → AreMeant w nearly_full.locals locals →
+    ensures stopped { (store : Store) (w : World) (memory locals : List ℕ) (b : Moment) → HasHosts store → StandsFor w nearly_full memory → AreMeant w nearly_full.locals locals →
         OpenRun 8 (beginning store w (request (i32 2) 2) locals memory) b → seen b ≡ record { held = 127; refused = Some 2; end = Some (Pages 127 2 128) } }
 {}
 

@@ -1,6 +1,6 @@
 -- What behaves within bounds behaves; both may be weakened; and pages stay within their bound.
-use Rattle.std.proofs.Common.{ℕ, ◌≤◌, ◌⊎◌, true, false, List, ⊎_elim, arith}
-use Rattle.qw_module.specs.Execution.{State, Event, Silent, Loads, Stores, Grows, Raises, Traps}
+use Rattle.std.proofs.Common.{ℕ, ◌≤◌, ◌⊎◌, true, false, List, Some, None, ⊎_elim, arith}
+use Rattle.qw_module.specs.Execution.{State, Event, Silent, Loads, Stores, Grows, AsksHost, Raises, Traps}
 use Rattle.qw_map.specs.Areas.{World, AsksWithin, AsksOn, world_after}
 use Rattle.qw_map.specs.Runs.{Moment, OpenRun, begins, goes_on, Behaves, BehavesWithin}
 
@@ -9,6 +9,7 @@ asks-on pages w Silent state asks = tt
 asks-on pages w (Loads address width) state asks = tt
 asks-on pages w (Stores address width) state asks = tt
 asks-on pages w (Grows asked granted) state asks = asks.1
+asks-on pages w (AsksHost asked first) state asks = asks.1
 asks-on pages w (Raises code) state asks = tt
 asks-on pages w (Traps why) state asks = tt
 
@@ -49,6 +50,7 @@ within-weaker most more pages others left less P Q a count room enough weaker h 
     asks-more w (Loads address width) state asks = tt
     asks-more w (Stores address width) state asks = tt
     asks-more w (Grows asked granted) state asks = (let few = asks.0 in omega (arith, room, few), asks.1)
+    asks-more w (AsksHost asked first) state asks = (let few = asks.0 in omega (arith, room, few), asks.1)
     asks-more w (Raises code) state asks = tt
     asks-more w (Traps why) state asks = tt
 
@@ -58,6 +60,8 @@ held-step pages w before (Loads address width) state asks few = few
 held-step pages w before (Stores address width) state asks few = few
 held-step pages w before (Grows asked true) state asks few = asks.0
 held-step pages w before (Grows asked false) state asks few = few
+held-step pages w before (AsksHost asked (Some first)) state asks few = asks.0
+held-step pages w before (AsksHost asked None) state asks few = few
 held-step pages w before (Raises code) state asks few = few
 held-step pages w before (Traps why) state asks few = few
 

@@ -3,6 +3,8 @@ pub mod AreaLemmas
 pub mod BehavingLemmas
 pub mod Chains
 pub mod ColumnLemmas
+pub mod FreeFacts
+pub mod FreeSteps
 pub mod LayoutLemmas
 pub mod NoTrap
 pub mod OpenRuns

@@ -3,12 +3,12 @@ use Rattle.std.proofs.Common.{◌≡◌, ◌≢◌, ℕ, zero, suc, ◌+◌, nat
 use Rattle.std.proofs.lemmas.Bool.{cases_Bool, false≢true}
 use Rattle.std.proofs.lemmas.Option.{same_Some, none-some}
 use Rattle.qw_module.specs.Syntax.{Code, done}
-use Rattle.qw_module.specs.Execution.{Store, Context, label, frame, Config, State, Running, Returned, Raised, Trapped, Event, Grows, Raises, Step, nop, unreachable_traps, drop_operand, select, local_get, local_set, local_tee, global_get, global_set, const, unop, binop, divide, divide_traps, testop, relop, cvtop, load, load_outside, store, store_outside, memory_size, grow_granted, grow_refused, enter_block, enter_loop, if_true, if_false, then_true, then_false, branch, branch_taken, branch_passed, branch_chosen, leave, raise, invoke, settled, branched, left, arity_of, chosen, with_global}
+use Rattle.qw_module.specs.Execution.{Store, Context, label, frame, Config, State, Running, Returned, Raised, Trapped, Event, Grows, AsksHost, Raises, Step, nop, unreachable_traps, drop_operand, select, local_get, local_set, local_tee, global_get, global_set, const, unop, binop, divide, divide_traps, testop, relop, cvtop, load, load_outside, store, store_outside, memory_size, grow_granted, grow_refused, enter_block, enter_loop, if_true, if_false, then_true, then_false, branch, branch_taken, branch_passed, branch_chosen, leave, raise, ask_granted, ask_refused, invoke, settled, branched, left, arity_of, chosen, with_global}
 use Rattle.qw_map.specs.Areas.{World, IsFine, grants, world_after}
-use Rattle.qw_map.specs.Turns.{Shared, Trap, Act, end_of_refusal, end_of_raise, end_at, turns, EachInstance, AreSafe}
+use Rattle.qw_map.specs.Turns.{Shared, Trap, Act, end_of_refusal, end_of_raise, end_at, placing, given, turns, EachInstance, AreSafe}
 use Rattle.qw_module.proofs.Steps.{rule_from_next}
-use Rattle.qw_map.proofs.TurnFacts.{each-step, turns-keep}
-use Rattle.qw_map.proofs.Separate.{safe-step, fine-now}
+use Rattle.qw_map.proofs.TurnFacts.{each-put, each-step, turns-keep}
+use Rattle.qw_map.proofs.Separate.{safe-step, safe-release, fine-now, unended-held}
 
 -- a state to which fine steps lead: nothing trapped, and what was raised may be raised
 abbrev pub Goes : World → State → Type 0
@@ -81,6 +81,8 @@ step-goes w _ _ _ _ _ (branch_passed c m index rest operands code popped) fine =
 step-goes w _ _ _ _ _ (branch_chosen c m labels default n rest operands s code popped there) fine = branched-goes w c.store (chosen labels default n) c.contexts operands c.locals s there
 step-goes w _ _ _ _ _ (leave c m rest s code there) fine = left-goes w c.store c.contexts c.operands s there
 step-goes w _ _ _ _ _ (raise c m index number operands rest code found popped) fine = fine
+step-goes w _ _ _ _ _ (ask_granted c m index pages first operands rest code found popped there) fine = settled-goes (world_after w m (AsksHost pages (Some first))) c.store c.contexts rest _ _
+step-goes w _ _ _ _ _ (ask_refused c m index pages operands rest code found popped) fine = settled-goes (world_after w m (AsksHost pages None)) c.store c.contexts rest _ _
 step-goes w _ _ _ _ _ (invoke c m index function rest code found room) fine =
     settled-goes w c.store (label done function.results [] done ∷ frame c.locals function.results (drop function.params c.operands) rest ∷ c.contexts) function.body []
     (reverse (take function.params c.operands) ++ replicate function.declared 0)
@@ -104,14 +106,18 @@ end-untrapped (Trapped why) w ran most goes e = absurd goes
 abbrev Untrapped : Shared → Type 0
 Untrapped s = EachInstance (λ i. i.end ≢ Some Trap) s
 
-pub untrapped-turns : (s : Shared) (acts : List Act) → AreSafe s → Untrapped s → Untrapped (turns acts s)
-untrapped-turns s acts safe untrapped = (turns-keep (λ (now : Shared). AreSafe now × Untrapped now)
+pub untrapped-turns : (behind : ℕ) (s : Shared) (acts : List Act) → AreSafe behind s → Untrapped s → Untrapped (turns acts s)
+untrapped-turns behind s acts safe untrapped = (turns-keep (λ (now : Shared). AreSafe behind now × Untrapped now)
     (λ now j one c t there unended running made h.
     let after : World = world_after one.world now.common.memory t.event in
-    let fine : IsFine one.world t.event = fine-now now h.0 j one c t there running made in
-    let goes : Goes after t.state = step-goes one.world c now.common.memory t.event t.state t.memory (rule_from_next (grants one.world) c now.common.memory t made) fine in (
-      safe-step now j one c t there running made h.0,
+    let fine : IsFine one.world t.event = fine-now behind now h.0 j one c t there (unended-held one unended) running made in
+    let goes : Goes after t.state = step-goes one.world c now.common.memory t.event t.state t.memory (rule_from_next (grants one.world) (placing now.common) c now.common.memory t made) fine in (
+      safe-step behind now j one c t there unended running made h.0,
       each-step (λ k i. i.end ≢ Some Trap) now j one t there (end-untrapped t.state after (one.ran + 1) one.most_steps goes)
           (λ k i elsewhere found. h.1 k i found),
+    ))
+    (λ now j one there done unreleased h. (
+      safe-release behind now j one there done unreleased h.0,
+      each-put (λ k i. i.end ≢ Some Trap) now j one (given one now.common) there (h.1 j one there) (λ k i elsewhere found. h.1 k i found),
     ))
     acts s (safe, untrapped)).1

@@ -1,6 +1,6 @@
 -- A code of instances that share a memory: what tells the values of a model apart where one of them holds such instances.
-use Rattle.std.specs.Prelude.{◌≡◌, ℕ, List, ◌⊎◌, Option, Some, None, refl}
-use Rattle.std.specs.Coded.{Coded, code_by, coded×, coded⊎, coded_ℕ, coded_list, coded_option}
+use Rattle.std.specs.Prelude.{◌≡◌, ℕ, Bool, List, ◌⊎◌, Option, Some, None, refl}
+use Rattle.std.specs.Coded.{Coded, code_by, coded×, coded⊎, coded_ℕ, coded_bool, coded_list, coded_option}
 use Rattle.std.proofs.Common.{inl, inr}
 use Rattle.qw_module.proofs.StateCode.{state_code}
 use Rattle.qw_module.specs.Execution.{State}
@@ -49,15 +49,15 @@ end_code =
 
 abbrev instance_code : Coded Instance
 instance_code =
-    code_by (State × (World × (ℕ × (ℕ × Option End))))
-    (coded× state_code (coded× world_code (coded× coded_ℕ (coded× coded_ℕ (coded_option end_code)))))
-    (λ i. (i.state, (i.world, (i.most_steps, (i.ran, i.end)))))
-    (λ p. record { state = p.0; world = p.1.0; most_steps = p.1.1.0; ran = p.1.1.1.0; end = p.1.1.1.1 })
+    code_by (State × (World × (ℕ × (ℕ × (Option End × Bool)))))
+    (coded× state_code (coded× world_code (coded× coded_ℕ (coded× coded_ℕ (coded× (coded_option end_code) coded_bool)))))
+    (λ i. (i.state, (i.world, (i.most_steps, (i.ran, (i.end, i.released))))))
+    (λ p. record { state = p.0; world = p.1.0; most_steps = p.1.1.0; ran = p.1.1.1.0; end = p.1.1.1.1.0; released = p.1.1.1.1.1 })
     (λ _. refl)
 
 abbrev pub shared_code : Coded Shared
 shared_code =
-    code_by (List ℕ × List Instance) (coded× (coded_list coded_ℕ) (coded_list instance_code))
-    (λ s. (s.common.memory, s.instances))
-    (λ p. record { common = record { memory = p.0 }; instances = p.1 })
+    code_by (List ℕ × (List Bool × List Instance)) (coded× (coded_list coded_ℕ) (coded× (coded_list coded_bool) (coded_list instance_code)))
+    (λ s. (s.common.memory, (s.common.free, s.instances)))
+    (λ p. record { common = record { memory = p.0; free = p.1.0 }; instances = p.1.1 })
     (λ _. refl)

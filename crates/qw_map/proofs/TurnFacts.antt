@@ -1,12 +1,12 @@
 -- What every list of acts keeps, by one step at a time.
-use Rattle.std.proofs.Common.{◌≡◌, ◌≢◌, ℕ, zero, suc, ◌<◌, false, List, [], ◌∷◌, length, Option, Some, None, slice_get, slice_set, is_some, refl, sym, ap, ◌∙◌, subst, ⊎_elim, arith}
-use Rattle.std.proofs.lemmas.Bool.{cases_Bool, cases_eq}
+use Rattle.std.proofs.Common.{◌≡◌, ◌≢◌, ℕ, zero, suc, ◌<◌, false, List, [], ◌∷◌, length, Option, Some, None, slice_get, slice_set, is_some, Bool, true, refl, sym, ap, ◌∙◌, subst, ⊎_elim, arith}
+use Rattle.std.proofs.lemmas.Bool.{cases_Bool, cases_eq, false≢true}
 use Rattle.std.proofs.lemmas.List.{set-set}
 use Rattle.std.proofs.lemmas.Option.{same_Some, none-some, slice_get_within}
 use Rattle.qw_module.specs.Execution.{Config, State, Running, Returned, Raised, Trapped}
 use Rattle.qw_module.specs.Step.{Next, next}
-use Rattle.qw_map.specs.Areas.{grants, world_after}
-use Rattle.qw_map.specs.Turns.{Instance, Common, Shared, moved, after_next, stepped_from, stepped, steps_of, with_instance, turn_at, Act, turn, acted, turns}
+use Rattle.qw_map.specs.Areas.{grants}
+use Rattle.qw_map.specs.Turns.{Instance, Common, Shared, End, Done, Exception, Pages, Steps, Trap, moved_by, common_after, placing, after_next, stepped_from, stepped, steps_of, with_instance, turn_at, given, may_release, release_at, Act, turn, release, acted, turns}
 
 -- ---- an element that was put
 pub slice_get-set_same : {A : Type 0} (xs : List A) (k : ℕ) (x : A) → k < length xs → slice_get (slice_set xs k x) k ≡ Some x
@@ -39,40 +39,57 @@ unchanged s j i found = ap (λ (instances : List Instance). record { common = s.
 pub changed_twice : (s : Shared) (j : ℕ) (one other : Instance × Common) → with_instance (with_instance s j one) j other ≡ with_instance s j other
 changed_twice s j one other = ap (λ (instances : List Instance). record { common = other.1; instances = instances }) (set-set s.instances j one.0 other.0)
 
+-- what holds of the instance that was put, and of the others, holds of each
+pub each-put : (P : ℕ → Instance → Type 0) (s : Shared) (j : ℕ) (one : Instance) (new : Instance × Common) → slice_get s.instances j ≡ Some one →
+    P j new.0 → ((k : ℕ) (i : Instance) → k ≢ j → slice_get s.instances k ≡ Some i → P k i) →
+    (k : ℕ) (i : Instance) → slice_get (with_instance s j new).instances k ≡ Some i → P k i
+each-put P s j one new there here others k i found = ⊎_elim
+    (λ same.
+    let put_there : slice_get (slice_set s.instances j new.0) j ≡ Some new.0 =
+    slice_get-set_same s.instances j new.0 (slice_get_within s.instances j one there) in
+    let is : new.0 ≡ i = same_Some new.0 i (sym put_there ∙ rw same at found) in
+    rw same (subst (P j) is here))
+    (λ elsewhere. others k i elsewhere (sym (slice_get-set_other s.instances j k new.0 elsewhere) ∙ found))
+    (cases_eq k j)
+
 -- the shared state after a step of one instance
 abbrev pub after_step : Shared → ℕ → Instance → Next → Shared
-after_step s j i t = with_instance s j (moved i (world_after i.world s.common.memory t.event) t.state, record s.common { memory = t.memory })
+after_step s j i t = with_instance s j (moved_by i s.common t, common_after i s.common t)
 
--- what holds of the instance that was put, and of the others, holds of each
 pub each-step : (P : ℕ → Instance → Type 0) (s : Shared) (j : ℕ) (one : Instance) (t : Next) → slice_get s.instances j ≡ Some one →
-    P j (moved one (world_after one.world s.common.memory t.event) t.state) →
+    P j (moved_by one s.common t) →
     ((k : ℕ) (i : Instance) → k ≢ j → slice_get s.instances k ≡ Some i → P k i) →
     (k : ℕ) (i : Instance) → slice_get (after_step s j one t).instances k ≡ Some i → P k i
-each-step P s j one t there new others k i found =
-    let put : Instance = moved one (world_after one.world s.common.memory t.event) t.state in
-    ⊎_elim
-    (λ here.
-    let put_there : slice_get (slice_set s.instances j put) j ≡ Some put =
-    slice_get-set_same s.instances j put (slice_get_within s.instances j one there) in
-    let is : put ≡ i = same_Some put i (sym put_there ∙ rw here at found) in
-    rw here (subst (P j) is new))
-    (λ elsewhere. others k i elsewhere (sym (slice_get-set_other s.instances j k put elsewhere) ∙ found))
-    (cases_eq k j)
+each-step P s j one t there new others = each-put P s j one (moved_by one s.common t, common_after one s.common t) there new others
 
 -- P stays at each step that an instance makes which has not ended
 abbrev pub StaysAtSteps : (Shared → Type 0) → Type 0
 StaysAtSteps P = (s : Shared) (j : ℕ) (i : Instance) (c : Config) (t : Next) → slice_get s.instances j ≡ Some i → is_some i.end ≡ false →
-    i.state ≡ Running c → next (grants i.world) c s.common.memory ≡ Some t → P s → P (after_step s j i t)
+    i.state ≡ Running c → next (grants i.world) (placing s.common) c s.common.memory ≡ Some t → P s → P (after_step s j i t)
 
-module _ (P : Shared → Type 0) (kept : StaysAtSteps P) where
+-- and where one that is done is released
+abbrev pub StaysAtReleases : (Shared → Type 0) → Type 0
+StaysAtReleases P = (s : Shared) (j : ℕ) (i : Instance) → slice_get s.instances j ≡ Some i → i.end ≡ Some Done → i.released ≡ false → P s →
+    P (with_instance s j (given i s.common))
+
+releases-done : (end : Option End) (released : Bool) → may_release end released ≡ true → (end ≡ Some Done) × (released ≡ false)
+releases-done None released may = absurd (false≢true may)
+releases-done (Some Done) true may = absurd (false≢true may)
+releases-done (Some Done) false may = (refl, refl)
+releases-done (Some (Exception code)) released may = absurd (false≢true may)
+releases-done (Some (Pages held asked limit)) released may = absurd (false≢true may)
+releases-done (Some (Steps limit)) released may = absurd (false≢true may)
+releases-done (Some Trap) released may = absurd (false≢true may)
+
+module _ (P : Shared → Type 0) (kept : StaysAtSteps P) (kept_released : StaysAtReleases P) where
   after_next-keeps : (s : Shared) (j : ℕ) (i : Instance) (c : Config) (made : Option Next) → slice_get s.instances j ≡ Some i → is_some i.end ≡ false →
-      i.state ≡ Running c → next (grants i.world) c s.common.memory ≡ made → P s → P (with_instance s j (after_next i s.common made))
+      i.state ≡ Running c → next (grants i.world) (placing s.common) c s.common.memory ≡ made → P s → P (with_instance s j (after_next i s.common made))
   after_next-keeps s j i c None found unended running made h = subst P (sym (unchanged s j i found)) h
   after_next-keeps s j i c (Some t) found unended running made h = kept s j i c t found unended running made h
 
   stepped-keeps : (s : Shared) (j : ℕ) (i : Instance) (state : State) → slice_get s.instances j ≡ Some i → is_some i.end ≡ false →
       i.state ≡ state → P s → P (with_instance s j (stepped_from state i s.common))
-  stepped-keeps s j i (Running c) found unended is h = after_next-keeps s j i c (next (grants i.world) c s.common.memory) found unended is refl h
+  stepped-keeps s j i (Running c) found unended is h = after_next-keeps s j i c (next (grants i.world) (placing s.common) c s.common.memory) found unended is refl h
   stepped-keeps s j i Returned found unended is h = subst P (sym (unchanged s j i found)) h
   stepped-keeps s j i (Raised code) found unended is h = subst P (sym (unchanged s j i found)) h
   stepped-keeps s j i (Trapped why) found unended is h = subst P (sym (unchanged s j i found)) h
@@ -94,8 +111,16 @@ module _ (P : Shared → Type 0) (kept : StaysAtSteps P) where
   turn_at-keeps s j quantum None found h = h
   turn_at-keeps s j quantum (Some i) found h = steps_of-keeps quantum s j i found h
 
+  release_at-keeps : (s : Shared) (j : ℕ) (found : Option Instance) → slice_get s.instances j ≡ found → P s → P (release_at s j found)
+  release_at-keeps s j None found h = h
+  release_at-keeps s j (Some i) found h = ⊎_elim
+      (λ may. let done = releases-done i.end i.released may in rw may (kept_released s j i found done.0 done.1 h))
+      (λ may_not. rw may_not h)
+      (cases_Bool (may_release i.end i.released))
+
   pub acted-keeps : (s : Shared) (act : Act) → P s → P (acted s act)
   acted-keeps s (turn j quantum) h = turn_at-keeps s j quantum (slice_get s.instances j) refl h
+  acted-keeps s (release j) h = release_at-keeps s j (slice_get s.instances j) refl h
 
   pub turns-keep : (acts : List Act) (s : Shared) → P s → P (turns acts s)
   turns-keep [] s h = h

@@ -1,15 +1,15 @@
 -- How many steps turns take, and what stays where an instance has ended.
-use Rattle.std.proofs.Common.{◌≡◌, ◌≢◌, ℕ, zero, suc, ◌+◌, ◌<◌, ◌≤◌, nat_le, true, false, ◌==◌, ◌||◌, List, length, Option, Some, None, slice_get, is_some, IsSome, ◌⊎◌, inl, inr, refl, sym, ap, ◌∙◌, ⊎_elim, arith, length-set}
-use Rattle.std.proofs.lemmas.Bool.{cases_Bool, leb-false, false≢true}
+use Rattle.std.proofs.Common.{◌≡◌, ◌≢◌, ℕ, zero, suc, ◌+◌, ◌<◌, ◌≤◌, nat_le, Bool, true, false, ◌==◌, ◌||◌, List, length, Option, Some, None, slice_get, is_some, IsSome, ◌⊎◌, inl, inr, refl, sym, ap, ◌∙◌, ⊎_elim, arith, length-set}
+use Rattle.std.proofs.lemmas.Bool.{cases_Bool, cases_eq, leb-false, false≢true}
 use Rattle.std.proofs.lemmas.Option.{same_Some, slice_get_within}
 use Rattle.qw_module.specs.Execution.{Config, State, Running, Returned, Raised, Trapped}
 use Rattle.qw_linear.specs.Memory.{AreOctets, most_pages, pages_of}
 use Rattle.qw_module.specs.Step.{Next, next}
 use Rattle.qw_map.specs.Areas.{World, grants, world_after}
 use Rattle.qw_module.specs.Soundness.{IsTyped, IsTypedState}
-use Rattle.qw_map.specs.Turns.{Instance, Common, Shared, end_of_refusal, end_of_raise, end_at, moved, after_next, stepped_from, stepped, steps_of, with_instance, turn_at, Act, turn, acted, turns, EachInstance, IsWhole}
+use Rattle.qw_map.specs.Turns.{Instance, Common, Shared, end_of_refusal, end_of_raise, end_at, moved, moved_by, common_after, placing, given, after_next, stepped_from, stepped, steps_of, with_instance, turn_at, Act, turn, acted, turns, EachInstance, IsWhole}
 use Rattle.qw_module.proofs.Sound.{progress, preservation, octets_stay, pages_stay}
-use Rattle.qw_map.proofs.TurnFacts.{slice_get-set_same, slice_get-set_other, changed_twice, each-step, turns-keep}
+use Rattle.qw_map.proofs.TurnFacts.{slice_get-set_same, slice_get-set_other, changed_twice, each-put, each-step, turns-keep}
 
 -- ---- an instance that has ended
 ended : (i : Instance) → IsSome i.end → is_some i.end ≡ false → ⊥
@@ -24,12 +24,25 @@ other_stays : (s : Shared) (j k : ℕ) (one : Instance × Common) (i : Instance)
     slice_get (with_instance s j one).instances k ≡ Some i
 other_stays s j k one i other found = slice_get-set_other s.instances j k one.0 other ∙ found
 
+-- it stays as it is, but that it may be released
 pub ended_stays : (s : Shared) (acts : List Act) (k : ℕ) (i : Instance) → slice_get s.instances k ≡ Some i → IsSome i.end →
-    slice_get (turns acts s).instances k ≡ Some i
-ended_stays s acts k i found some = turns-keep (λ (now : Shared). slice_get now.instances k ≡ Some i)
-    (λ now j one c t there unended running made h. other_stays now j k (moved one (world_after one.world now.common.memory t.event) t.state, record now.common { memory = t.memory }) i
-    (λ e. ended i some (rw (same_Some one i (sym there ∙ rw e at h)) at unended)) h)
-    acts s found
+    (released : Bool) × (slice_get (turns acts s).instances k ≡ Some (record i { released = released }))
+ended_stays s acts k i found some = turns-keep (λ (now : Shared). (released : Bool) × (slice_get now.instances k ≡ Some (record i { released = released })))
+    (λ now j one c t there unended running made h. (
+      h.0,
+      other_stays now j k (moved_by one now.common t, common_after one now.common t) (record i { released = h.0 })
+          (λ e. ended i some (rw (same_Some one (record i { released = h.0 }) (sym there ∙ rw e at h.1)) at unended)) h.1,
+    ))
+    (λ now j one there done unreleased h. ⊎_elim
+    (λ here.
+    let is : one ≡ record i { released = h.0 } = same_Some one (record i { released = h.0 }) (sym there ∙ rw here at h.1) in (
+      true,
+      rw here (slice_get-set_same now.instances j (record one { released = true }) (slice_get_within now.instances j one there)
+          ∙ ap (λ (x : Instance). Some (record x { released = true })) is),
+    ))
+    (λ elsewhere. (h.0, other_stays now j k (given one now.common) (record i { released = h.0 }) elsewhere h.1))
+    (cases_eq k j))
+    acts s (i.released, found)
 
 -- ---- turns of one instance
 pub turn-others : (s : Shared) (j k quantum : ℕ) → k ≢ j → slice_get (acted s (turn j quantum)).instances k ≡ slice_get s.instances k
@@ -41,7 +54,8 @@ turn-others s j k quantum other = at_found (slice_get s.instances j)
 
 pub turns-many : (s : Shared) (acts : List Act) → length (turns acts s).instances ≡ length s.instances
 turns-many s acts = turns-keep (λ (now : Shared). length now.instances ≡ length s.instances)
-    (λ now j one c t there unended running made h. length-set now.instances j (moved one (world_after one.world now.common.memory t.event) t.state) ∙ h)
+    (λ now j one c t there unended running made h. length-set now.instances j (moved_by one now.common t) ∙ h)
+    (λ now j one there done unreleased h. length-set now.instances j (record one { released = true }) ∙ h)
     acts s refl
 
 pub steps_of-added : (a b : ℕ) (i : Instance) (common : Common) → steps_of (a + b) i common ≡ steps_of b (steps_of a i common).0 (steps_of a i common).1
@@ -80,7 +94,7 @@ next-ran i common None = (omega arith, omega arith)
 next-ran i common (Some t) = (omega arith, omega arith)
 
 stepped-ran : (i : Instance) (common : Common) (state : State) → (i.ran ≤ (stepped_from state i common).0.ran) × ((stepped_from state i common).0.ran ≤ i.ran + 1)
-stepped-ran i common (Running c) = next-ran i common (next (grants i.world) c common.memory)
+stepped-ran i common (Running c) = next-ran i common (next (grants i.world) (placing common) c common.memory)
 stepped-ran i common Returned = (omega arith, omega arith)
 stepped-ran i common (Raised code) = (omega arith, omega arith)
 stepped-ran i common (Trapped why) = (omega arith, omega arith)
@@ -132,16 +146,19 @@ turns-whole s acts = turns-keep (EachInstance IsWhole)
     (λ now j one c t there unended running made h. each-step (λ k i. IsWhole i) now j one t there
     (moved-whole one (world_after one.world now.common.memory t.event) t.state (unended-runs one (h j one there) unended one.state refl).2)
     (λ k i elsewhere found. h k i found))
+    (λ now j one there done unreleased h. each-put (λ k i. IsWhole i) now j one (given one now.common) there
+    (let whole = h j one there in record { within = whole.within; end_is = whole.end_is })
+    (λ k i elsewhere found. h k i found))
     acts s
 
 -- ---- an instance with a typed configuration goes on
 -- its step is one that is made
-stepped-typed : (i : Instance) (common : Common) (c : Config) → i.state ≡ Running c → IsTyped c → (t : Next) × (next (grants i.world) c common.memory ≡ Some t)
-    × (stepped i common ≡ (moved i (world_after i.world common.memory t.event) t.state, record common { memory = t.memory }))
-stepped-typed i common c is typed = made (next (grants i.world) c common.memory) refl (progress (grants i.world) c common.memory typed)
+stepped-typed : (i : Instance) (common : Common) (c : Config) → i.state ≡ Running c → IsTyped c → (t : Next) × (next (grants i.world) (placing common) c common.memory ≡ Some t)
+    × (stepped i common ≡ (moved_by i common t, common_after i common t))
+stepped-typed i common c is typed = made (next (grants i.world) (placing common) c common.memory) refl (progress (grants i.world) (placing common) c common.memory typed)
   where
-    made : (found : Option Next) → next (grants i.world) c common.memory ≡ found → IsSome found → (t : Next) × (next (grants i.world) c common.memory ≡ Some t)
-        × (stepped i common ≡ (moved i (world_after i.world common.memory t.event) t.state, record common { memory = t.memory }))
+    made : (found : Option Next) → next (grants i.world) (placing common) c common.memory ≡ found → IsSome found → (t : Next) × (next (grants i.world) (placing common) c common.memory ≡ Some t)
+        × (stepped i common ≡ (moved_by i common t, common_after i common t))
     made None there some = absurd (false≢true some)
     made (Some t) there some = (t, there, rw (is, there) refl)
 
@@ -155,11 +172,11 @@ steps_of-all (suc q) i common whole typed octets few = ⊎_elim
     let here : IsTyped runs.0 = rw runs.1 at typed in
     let one = stepped-typed i common runs.0 runs.1 here in
     let after : Instance = moved i (world_after i.world common.memory one.0.event) one.0.state in
-    let left : Common = record common { memory = one.0.memory } in
+    let left : Common = common_after i common one.0 in
     let rest : ((steps_of q after left).0.ran ≡ i.ran + 1 + q) ⊎ IsSome (steps_of q after left).0.end =
     steps_of-all q after left (moved-whole i (world_after i.world common.memory one.0.event) one.0.state runs.2)
-    (preservation (grants i.world) runs.0 common.memory one.0 here octets few one.1) (octets_stay (grants i.world) runs.0 common.memory one.0 octets one.1)
-    (pages_stay (grants i.world) runs.0 common.memory one.0 few one.1) in
+    (preservation (grants i.world) (placing common) runs.0 common.memory one.0 here octets few one.1) (octets_stay (grants i.world) (placing common) runs.0 common.memory one.0 octets one.1)
+    (pages_stay (grants i.world) (placing common) runs.0 common.memory one.0 few one.1) in
     let same : i.ran + suc q ≡ i.ran + 1 + q = omega arith in
     rw (unended, one.2, same) rest)
     (cases_Bool (is_some i.end))
@@ -173,7 +190,7 @@ steps_of-some (suc q) i common whole typed octets none given =
     let here : IsTyped runs.0 = rw runs.1 at typed in
     let one = stepped-typed i common runs.0 runs.1 here in
     let after : Instance = moved i (world_after i.world common.memory one.0.event) one.0.state in
-    let left : Common = record common { memory = one.0.memory } in
+    let left : Common = common_after i common one.0 in
     let rest : (i.ran + 1 ≤ (steps_of q after left).0.ran) × ((steps_of q after left).0.ran ≤ i.ran + 1 + q) = steps_of-at_most q after left in
     rw (unended, one.2) (omega (arith, rest.0))
 
@@ -182,6 +199,9 @@ pub limits-turns : (s : Shared) (acts : List Act) (k : ℕ) (i later : Instance)
     slice_get (turns acts s).instances k ≡ Some later → later.most_steps ≡ i.most_steps
 limits-turns s acts k i later found = turns-keep (λ (now : Shared). (x : Instance) → slice_get now.instances k ≡ Some x → x.most_steps ≡ i.most_steps)
     (λ now j one c t there unended running made h x found_x. each-step (λ l y. l ≡ k → y.most_steps ≡ i.most_steps) now j one t there
+    (λ is. h one (rw (← is) there))
+    (λ l y elsewhere found is. h y (rw (← is) found)) k x found_x refl)
+    (λ now j one there done unreleased h x found_x. each-put (λ l y. l ≡ k → y.most_steps ≡ i.most_steps) now j one (given one now.common) there
     (λ is. h one (rw (← is) there))
     (λ l y elsewhere found is. h y (rw (← is) found)) k x found_x refl)
     acts s (λ x found_x. ap (λ (y : Instance). y.most_steps) (same_Some x i (sym found_x ∙ found))) later
@@ -194,9 +214,10 @@ turns-typed s acts octets few typed = turns-keep
     (λ (now : Shared). AreOctets now.common.memory × (pages_of now.common.memory ≤ most_pages) × EachInstance (λ i. IsTypedState i.state) now)
     (λ now j one c t there unended running made h.
     let here : IsTyped c = rw running at (h.2 j one there) in (
-      octets_stay (grants one.world) c now.common.memory t h.0 made,
-      pages_stay (grants one.world) c now.common.memory t h.1 made,
-      each-step (λ k i. IsTypedState i.state) now j one t there (preservation (grants one.world) c now.common.memory t here h.0 h.1 made)
+      octets_stay (grants one.world) (placing now.common) c now.common.memory t h.0 made,
+      pages_stay (grants one.world) (placing now.common) c now.common.memory t h.1 made,
+      each-step (λ k i. IsTypedState i.state) now j one t there (preservation (grants one.world) (placing now.common) c now.common.memory t here h.0 h.1 made)
           (λ k i elsewhere found. h.2 k i found),
     ))
+    (λ now j one there done unreleased h. (h.0, h.1, each-put (λ k i. IsTypedState i.state) now j one (given one now.common) there (h.2 j one there) (λ k i elsewhere found. h.2 k i found)))
     acts s (octets, few, typed)

@@ -1,8 +1,8 @@
 -- The memory as its users see it: areas, what an instance may touch of it, and what others may change.
-use Rattle.std.specs.Prelude.{◌≡◌, ℕ, zero, suc, ◌+◌, ◌-◌, ◌*◌, ◌<◌, ◌≤◌, nat_le, nat_lt, ◌&&◌, Bool, true, false, IsTrue, ◌⊎◌, List, [], ◌∷◌, ◌++◌, length, Option, Some, IsSome, slice_index}
+use Rattle.std.specs.Prelude.{◌≡◌, ℕ, zero, suc, ◌+◌, ◌-◌, ◌*◌, ◌<◌, ◌≤◌, nat_le, nat_lt, ◌&&◌, Bool, true, false, IsTrue, ◌⊎◌, List, [], ◌∷◌, ◌++◌, length, Option, Some, None, IsSome, is_some, slice_index}
 use Rattle.std.specs.List.{list_any, AllByRecursion}
-use Rattle.qw_linear.specs.Memory.{page, most_pages, AreOctets}
-use Rattle.qw_module.specs.Execution.{State, Running, Returned, Raised, Trapped, Event, Silent, Loads, Stores, Grows, Raises, Traps}
+use Rattle.qw_linear.specs.Memory.{page, most_pages, pages_of, AreOctets}
+use Rattle.qw_module.specs.Execution.{State, Running, Returned, Raised, Trapped, Event, Silent, Loads, Stores, Grows, AsksHost, Raises, Traps}
 
 -- an area of the memory: its first address, and how many octets it has
 pub record Area : Type 0 where
@@ -51,6 +51,7 @@ IsFine w Silent = Unit {0}
 IsFine w (Loads address width) = IsTrue (are_covered (w.mapped ++ w.own) address width)
 IsFine w (Stores address width) = IsTrue (are_covered w.own address width)
 IsFine w (Grows pages granted) = Unit {0}
+IsFine w (AsksHost pages first) = Unit {0}
 IsFine w (Raises code) = (code ≡ 1) ⊎ (code ≡ 2) ⊎ ((code ≡ 3) × IsSome w.refused)
 IsFine w (Traps why) = ⊥
 
@@ -60,6 +61,7 @@ grants w pages = nat_le (w.held + pages) w.limit
 
 abbrev pub IsAnswered : World → Event → Type 0
 IsAnswered w (Grows pages granted) = granted ≡ grants w pages
+IsAnswered w (AsksHost pages first) = is_some first ≡ grants w pages
 IsAnswered w _ = Unit {0}
 
 -- an instance that goes on has not ended
@@ -72,11 +74,13 @@ GoesOn (Trapped why) = ⊥
 -- A request asks for no more pages than that with them so many are held; and the run goes on after it.
 abbrev pub AsksWithin : (most : ℕ) → World → Event → State → Type 0
 AsksWithin most w (Grows pages granted) state = (w.held + pages ≤ most) × GoesOn state
+AsksWithin most w (AsksHost pages first) state = (w.held + pages ≤ most) × GoesOn state
 AsksWithin most w _ state = Unit {0}
 
 -- the run goes on after a request, of however many pages
 abbrev pub AsksOn : Event → State → Type 0
 AsksOn (Grows pages granted) state = GoesOn state
+AsksOn (AsksHost pages first) state = GoesOn state
 AsksOn _ state = Unit {0}
 
 -- the pages that a request was granted, from an address on, as an area; where it asked for none there is none
@@ -84,8 +88,29 @@ abbrev pub granted_area : (start pages : ℕ) → List Area
 granted_area start zero = []
 granted_area start (suc pages) = record { start = start; size = suc pages * page } ∷ []
 
--- what the instance has after a step from a memory: a granted growth's pages are its own, the memory's next ones
+-- what the instance has after a step from a memory: a granted growth's pages are its own, the memory's next ones, and so are those
+-- that the host gave
 abbrev pub world_after : World → List ℕ → Event → World
 world_after w memory (Grows pages true) = record w { own = w.own ++ granted_area (length memory) pages; held = w.held + pages }
 world_after w memory (Grows pages false) = record w { refused = Some pages }
+world_after w memory (AsksHost pages (Some first)) = record w { own = w.own ++ granted_area (first * page) pages; held = w.held + pages }
+world_after w memory (AsksHost pages None) = record w { refused = Some pages }
 world_after w memory _ = w
+
+-- an area ends before so many pages from one on, or begins behind them
+abbrev pub LiesBeside : (first pages : ℕ) → Area → Type 0
+LiesBeside first pages area = (area.start + area.size ≤ first * page) ⊎ ((first + pages) * page ≤ area.start)
+
+-- Pages that may be free for an instance: behind the columns, of which some stand in the first page, and beside its own areas.
+abbrev pub LieFree : World → (first pages : ℕ) → Type 0
+LieFree w first pages =
+    (1 ≤ first) × AllByRecursion (λ a. a.start + a.size ≤ first * page) w.mapped × AllByRecursion (LiesBeside first pages) w.own
+
+-- where the host gives pages of a memory: its next ones, or some that it has and that may be free
+abbrev pub IsPlaced : World → List ℕ → Event → Type 0
+IsPlaced w memory (AsksHost pages (Some first)) = (first ≡ pages_of memory) ⊎ ((first + pages ≤ pages_of memory) × LieFree w first pages)
+IsPlaced w memory _ = Unit {0}
+
+-- a function of the pages asked tells such places
+abbrev pub IsPlace : World → List ℕ → (place : ℕ → ℕ) → Type 0
+IsPlace w memory place = (pages : ℕ) → grants w pages ≡ true → IsPlaced w memory (AsksHost pages (Some (place pages)))

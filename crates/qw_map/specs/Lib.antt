@@ -1,6 +1,7 @@
 pub mod Areas
 pub mod Behaving
 pub mod Columns
+pub mod Free
 pub mod Inner
 pub mod Layout
 pub mod Region

@@ -1,7 +1,7 @@
 -- Open runs: an instance's steps over a memory that others change between them.
 use Rattle.std.specs.Prelude.{◌≡◌, ℕ, zero, suc, ◌<◌, ◌≤◌, List}
 use Rattle.qw_module.specs.Execution.{Config, State, Running, Event, Step, IsOver}
-use Rattle.qw_map.specs.Areas.{World, Others, IsFine, AsksWithin, AsksOn, IsAnswered, world_after}
+use Rattle.qw_map.specs.Areas.{World, Others, IsFine, AsksWithin, AsksOn, IsAnswered, IsPlaced, world_after}
 
 -- an instance between two steps: what it has, its state, and the memory
 pub record Moment : Type 0 where
@@ -19,6 +19,7 @@ pub record OpenStep (a : Moment) (c : Config) (before : List ℕ) (event : Event
   pub others : Others a.world a.memory before
   pub step : Step c before event state after
   pub answered : IsAnswered a.world event
+  pub placed : IsPlaced a.world before event
 
 -- an open run of so many steps from one moment to another
 pub data OpenRun : ℕ → Moment → Moment → Type 0 where

@@ -7,10 +7,12 @@
 pub mod columns;
 pub mod rows;
 
-ghost use Rattle.std.specs.Prelude.{◌≡◌, ℕ, List, [], ◌∷◌, length, Some, None, true, false};
+ghost use Rattle.std.specs.Prelude.{◌≡◌, ℕ, List, [], ◌∷◌, length, Bool, Some, None, true, false};
 ghost use Rattle.qw_module.specs.declared.trap.Trap.{Trap};
 ghost use Rattle.qw_module.specs.Execution.{Config, Running, Returned, Event, Silent, Loads, Stores, Grows, Raises, Traps};
 ghost use Rattle.qw_map.specs.Areas.{Area, World, IsFine, IsAnswered, AsksWithin, AsksOn, grants, lies_in_one, are_covered, world_after};
+ghost use Rattle.qw_linear.specs.Memory.{pages_of};
+ghost use Rattle.qw_map.specs.Free.{place_among, marked, given_back};
 ghost use Rattle.qw_map.specs.Worked.{at_start, two_pages};
 
 /// Of a column of three rows, from octet 64 on, an instance whose first page begins at 65,536 may load each value, and nothing
@@ -85,4 +87,16 @@ pub fn worlds_after_requests()
         } }
     ensures none { (memory : List ℕ) → world_after at_start memory (Grows 0 true) ≡ at_start }
     ensures refused { (w : World) (memory : List ℕ) → world_after w memory (Grows 2 false) ≡ record w { refused = Some 2 } }
+{}
+
+/// Where requests are placed, of a column page 0 and first pages 1, 2 and 3. Instance 0 asks for 1 and gets page 4, then ends with an
+/// exception, so 1 and 4 are free. Instance 1 asks for 1 and gets 1; it asks for 2 and gets 5 and 6. Instance 2 asks for 1 and gets 4.
+pub fn recycled_pages()
+    ensures first { (m : List ℕ) → pages_of m ≡ 4 → place_among m (false ∷ false ∷ false ∷ false ∷ []) 1 ≡ 4 }
+    ensures ended { given_back ((record { start = 65536; size = 65536 }) ∷ (record { start = 262144; size = 65536 }) ∷ []) (false ∷ false ∷ false ∷ false ∷ false ∷ [])
+        ≡ false ∷ true ∷ false ∷ false ∷ true ∷ [] }
+    ensures second { (m : List ℕ) → place_among m (false ∷ true ∷ false ∷ false ∷ true ∷ []) 1 ≡ 1 }
+    ensures third { (m : List ℕ) → pages_of m ≡ 5 → place_among m (marked false 1 1 (false ∷ true ∷ false ∷ false ∷ true ∷ [])) 2 ≡ 5 }
+    ensures fourth { (m : List ℕ) → place_among m (false ∷ false ∷ false ∷ false ∷ true ∷ false ∷ false ∷ []) 1 ≡ 4 }
+    ensures none { (m : List ℕ) (free : List Bool) → place_among m free 0 ≡ pages_of m }
 {}

@@ -1,8 +1,8 @@
 -- Typed code over typed values goes on, and stays typed.
-use Rattle.std.proofs.Common.{◌≡◌, ◌≢◌, ℕ, zero, suc, ◌+◌, ◌*◌, ◌/◌, ◌^◌, ◌<◌, ◌≤◌, ◌==◌, nat_le, Bool, ◌&&◌, List, [], ◌∷◌, ◌++◌, length, take, drop, reverse, replicate, Option, Some, None, Result, Ok, Err, slice_get, slice_set, refl, sym, ap, ◌∙◌, subst, ⊎_elim, IsSome, arith, length-append, append-nil}
+use Rattle.std.proofs.Common.{◌≡◌, ◌≢◌, ℕ, zero, suc, ◌+◌, ◌*◌, ◌/◌, ◌^◌, ◌<◌, ◌≤◌, ◌==◌, nat_le, Bool, ◌&&◌, List, [], ◌∷◌, ◌++◌, length, take, drop, reverse, replicate, Option, Some, None, Result, Ok, Err, slice_get, slice_set, refl, sym, ap, ◌∙◌, subst, ⊎_elim, if◌then◌else◌, inl, inr, IsSome, arith, length-append, append-nil}
 use Rattle.std.proofs.lemmas.Grind.{reverse_onto}
 use Rattle.std.proofs.lemmas.List.{length-reverse, reverse-reverse}
-use Rattle.std.proofs.lemmas.Bool.{le-leb, lt-ltb, cases_Bool}
+use Rattle.std.proofs.lemmas.Bool.{le-leb, lt-ltb, cases_Bool, eqb-true, eq-eqb, false≢true}
 use Rattle.std.proofs.lemmas.Option.{same_Some, none-some, slice_get_within}
 use Rattle.std.specs.List.{AllByRecursion}
 use Rattle.qw_module.specs.declared.instruction.ValType.{ValType}
@@ -11,16 +11,17 @@ use Rattle.qw_module.specs.declared.instruction.Op.{Op}
 use Rattle.qw_module.specs.declared.trap.Trap.{Trap}
 use Rattle.qw_module.specs.Numbers.{values_of, division}
 use Rattle.qw_module.specs.Syntax.{Code, done, loop}
-use Rattle.qw_module.specs.Execution.{Closure, Callee, host_raise, own, Store, Context, label, frame, Config, State, Running, Returned, settled, branched, left, arity_of, goes_on, enters, invoked, chosen, selected, refusal, pages_gained}
-use Rattle.qw_module.specs.Step.{Want, Stuck, Goes, Asks, Puts, Measures, AsksPages, Signals, Fails, OpWant, Stuck', Leaves, Sets, Reads, Writes, Sizes, Requests, Fails', leaves_or_fails, op_wants, then_wants, goes_if_some, by_operand, with_operand, call_wants, code_wants, wants, Next, answered, next}
+use Rattle.qw_module.specs.Execution.{Closure, Callee, host_raise, host_pages, own, Store, Context, label, frame, Config, State, Running, Returned, settled, branched, left, arity_of, goes_on, enters, invoked, chosen, selected, refusal, pages_gained, IsPlaceIn}
+use Rattle.qw_module.specs.Step.{Want, Stuck, Goes, Asks, Puts, Measures, AsksPages, AsksPlace, Signals, Fails, OpWant, Stuck', Leaves, Sets, Reads, Writes, Sizes, Requests, Fails', leaves_or_fails, op_wants, then_wants, goes_if_some, by_operand, with_operand, call_wants, code_wants, wants, Next, can_place, answered, next}
 use Rattle.qw_module.specs.Typing.{types_of, Signature, GlobalType, Outside, Scope, scope_of, within, Takes, OpTyped, typed-nop, typed-drop, typed-select, typed-local_get, typed-local_set, typed-local_tee, typed-global_get, typed-global_set, typed-const, typed-unary, typed-binary, typed-division, typed-eqz, typed-relation, typed-convert, typed-load, typed-store, typed-size, typed-grow, Typed, typed-done, typed-op, typed-unreachable, typed-block, typed-loop, typed-if_then, typed-if_else, typed-br, typed-br_if, typed-br_table, typed-return, typed-call}
 use Rattle.qw_module.specs.Validity.{function_scope}
-use Rattle.qw_linear.specs.Memory.{page, most_pages, number_at, pages_of, AreOctets}
+use Rattle.qw_linear.specs.Memory.{page, most_pages, number_at, cleared, pages_of, AreOctets}
 use Rattle.qw_linear.proofs.MemoryFacts.{length-with_number, number_at-below, AreOctets-with_number}
+use Rattle.qw_linear.proofs.ClearedFacts.{length-cleared-any, length-cleared, length-cleared-next, AreOctets-cleared}
 use Rattle.qw_linear.proofs.GrowthFacts.{length-grown_by, AreOctets-grown_by}
 use Rattle.qw_module.specs.Soundness.{AreOf, IsClosureOf, IsCalleeOf, AreCalleesOf, AreGlobalsOf, IsStoreOf, Awaits, IsTyped, IsTypedState}
 use Rattle.qw_module.proofs.NumberFacts.{values-positive, unary-below, binary-below, division-below, truth-below, relation-below, converted-below, loaded_value-below}
-use Rattle.qw_module.proofs.Outcomes.{Outcome, went, read, read_outside, put, put_outside, measured, was_granted, was_refused, raised, failed, outcome}
+use Rattle.qw_module.proofs.Outcomes.{Outcome, went, read, read_outside, put, put_outside, measured, was_granted, was_refused, host_granted, host_refused, raised, failed, outcome}
 
 -- ---- values of types, one for one
 pub AreOf-length : (values : List ℕ) (types : List ValType) → AreOf values types → length values ≡ length types
@@ -290,6 +291,7 @@ WantTyped (Asks address width make) = (n : ℕ) → n < 2 ^ (8 * width) → IsTy
 WantTyped (Puts address width value s) = IsTypedState s
 WantTyped (Measures make) = (n : ℕ) → n < 2 ^ 32 → IsTypedState (make n)
 WantTyped (AsksPages pages make) = (n : ℕ) → n < 2 ^ 32 → IsTypedState (make n)
+WantTyped (AsksPlace pages make) = (n : ℕ) → n < 2 ^ 32 → IsTypedState (make n)
 WantTyped (Signals code) = Unit {0}
 WantTyped (Fails why) = Unit {0}
 
@@ -407,6 +409,11 @@ module _ (c : Config) (scope : Scope) (store_is : IsStoreOf scope.outside c.stor
   called-typed host_raise signature rest types is are rest_typed =
       let one : AreOf c.operands (I32 ∷ types) = subst (λ (s : Signature). AreOf c.operands (reverse s.params ++ types)) is are in
       with_operand-typed c.operands I32 types (λ code operands. Signals code) one (λ code left are_left. tt)
+  called-typed host_pages signature rest types is are rest_typed =
+      let one : AreOf c.operands (I32 ∷ types) = subst (λ (s : Signature). AreOf c.operands (reverse s.params ++ types)) is are in
+      let left_typed : Typed scope rest (I32 ∷ types) ends = subst (λ (s : Signature). Typed scope rest (reverse s.results ++ types) ends) is rest_typed in
+      with_operand-typed c.operands I32 types (λ pages left. AsksPlace pages (λ first. goes_on c rest (first ∷ left) c.locals)) one
+      (λ pages left are_left. λ n h. goes_on-typed c scope store_is are_locals ends awaits rest (n ∷ left) (I32 ∷ types) (h, are_left) left_typed)
   called-typed (own function) signature rest types is are rest_typed =
       let enough : function.params ≤ length c.operands = omega (
         arith,
@@ -473,87 +480,114 @@ wants-typed c typed = code_wants-typed c typed.scope c.code typed.before typed.e
     typed.store_is typed.operands_are typed.locals_are typed.awaits
 
 -- ---- what memory answers
-answered-some : (grants : ℕ → Bool) (m : List ℕ) (w : Want) → WantTyped w → IsSome (answered grants m w)
-answered-some grants m Stuck typed = absurd typed
-answered-some grants m (Goes s) typed = refl
-answered-some grants m (Asks address width make) typed =
+answered-some : (grants : ℕ → Bool) (place : ℕ → ℕ) (m : List ℕ) (w : Want) → WantTyped w → IsSome (answered grants place m w)
+answered-some grants place m Stuck typed = absurd typed
+answered-some grants place m (Goes s) typed = refl
+answered-some grants place m (Asks address width make) typed =
     ⊎_elim (λ is. rw is refl) (λ is_not. rw is_not refl) (cases_Bool (nat_le (address + width) (length m)))
-answered-some grants m (Puts address width value s) typed =
+answered-some grants place m (Puts address width value s) typed =
     ⊎_elim (λ is. rw is refl) (λ is_not. rw is_not refl) (cases_Bool (nat_le (address + width) (length m)))
-answered-some grants m (Measures make) typed = refl
-answered-some grants m (AsksPages pages make) typed =
+answered-some grants place m (Measures make) typed = refl
+answered-some grants place m (AsksPages pages make) typed =
     ⊎_elim (λ is. rw is refl) (λ is_not. rw is_not refl) (cases_Bool (grants pages && nat_le (pages_of m + pages) most_pages))
-answered-some grants m (Signals code) typed = refl
-answered-some grants m (Fails why) typed = refl
+answered-some grants place m (AsksPlace pages make) typed =
+    ⊎_elim (λ is. rw is refl) (λ is_not. rw is_not refl) (cases_Bool (grants pages && can_place (place pages) pages m))
+answered-some grants place m (Signals code) typed = refl
+answered-some grants place m (Fails why) typed = refl
 
-outcome-typed : (grants : ℕ → Bool) (m : List ℕ) (w : Want) (n : Next) → Outcome grants m w n → AreOctets m → pages_of m ≤ most_pages → WantTyped w → IsTypedState n.state
-outcome-typed _ _ _ _ (went grants m s) octets few typed = typed
-outcome-typed _ _ _ _ (read grants m address width make inside) octets few typed = typed (number_at m address width) (number_at-below m octets address width)
-outcome-typed _ _ _ _ (read_outside grants m address width make outside) octets few typed = tt
-outcome-typed _ _ _ _ (put grants m address width value s inside) octets few typed = typed
-outcome-typed _ _ _ _ (put_outside grants m address width value s outside) octets few typed = tt
-outcome-typed _ _ _ _ (measured grants m make) octets few typed = typed (pages_of m) (omega (arith, few))
-outcome-typed _ _ _ _ (was_granted grants m pages make is room) octets few typed = typed (pages_of m) (omega arith)
-outcome-typed _ _ _ _ (was_refused grants m pages make is) octets few typed = typed refusal (omega arith)
-outcome-typed _ _ _ _ (raised grants m code) octets few typed = tt
-outcome-typed _ _ _ _ (failed grants m why) octets few typed = tt
+outcome-typed : (grants : ℕ → Bool) (place : ℕ → ℕ) (m : List ℕ) (w : Want) (n : Next) → Outcome grants place m w n → AreOctets m → pages_of m ≤ most_pages → WantTyped w → IsTypedState n.state
+outcome-typed _ _ _ _ _ (went grants place m s) octets few typed = typed
+outcome-typed _ _ _ _ _ (read grants place m address width make inside) octets few typed = typed (number_at m address width) (number_at-below m octets address width)
+outcome-typed _ _ _ _ _ (read_outside grants place m address width make outside) octets few typed = tt
+outcome-typed _ _ _ _ _ (put grants place m address width value s inside) octets few typed = typed
+outcome-typed _ _ _ _ _ (put_outside grants place m address width value s outside) octets few typed = tt
+outcome-typed _ _ _ _ _ (measured grants place m make) octets few typed = typed (pages_of m) (omega (arith, few))
+outcome-typed _ _ _ _ _ (was_granted grants place m pages make is room) octets few typed = typed (pages_of m) (omega arith)
+outcome-typed _ _ _ _ _ (was_refused grants place m pages make is) octets few typed = typed refusal (omega arith)
+outcome-typed _ _ _ _ _ (host_granted grants place m pages make is there) octets few typed = typed (place pages) (let most = there.0 in omega (arith, most))
+outcome-typed _ _ _ _ _ (host_refused grants place m pages make is) octets few typed = typed refusal (omega arith)
+outcome-typed _ _ _ _ _ (raised grants place m code) octets few typed = tt
+outcome-typed _ _ _ _ _ (failed grants place m why) octets few typed = tt
 
-outcome-octets : (grants : ℕ → Bool) (m : List ℕ) (w : Want) (n : Next) → Outcome grants m w n → AreOctets m → AreOctets n.memory
-outcome-octets _ _ _ _ (went grants m s) octets = octets
-outcome-octets _ _ _ _ (read grants m address width make inside) octets = octets
-outcome-octets _ _ _ _ (read_outside grants m address width make outside) octets = octets
-outcome-octets _ _ _ _ (put grants m address width value s inside) octets = AreOctets-with_number m octets address width value
-outcome-octets _ _ _ _ (put_outside grants m address width value s outside) octets = octets
-outcome-octets _ _ _ _ (measured grants m make) octets = octets
-outcome-octets _ _ _ _ (was_granted grants m pages make is room) octets = AreOctets-grown_by pages m octets
-outcome-octets _ _ _ _ (was_refused grants m pages make is) octets = octets
-outcome-octets _ _ _ _ (raised grants m code) octets = octets
-outcome-octets _ _ _ _ (failed grants m why) octets = octets
+outcome-octets : (grants : ℕ → Bool) (place : ℕ → ℕ) (m : List ℕ) (w : Want) (n : Next) → Outcome grants place m w n → AreOctets m → AreOctets n.memory
+outcome-octets _ _ _ _ _ (went grants place m s) octets = octets
+outcome-octets _ _ _ _ _ (read grants place m address width make inside) octets = octets
+outcome-octets _ _ _ _ _ (read_outside grants place m address width make outside) octets = octets
+outcome-octets _ _ _ _ _ (put grants place m address width value s inside) octets = AreOctets-with_number m octets address width value
+outcome-octets _ _ _ _ _ (put_outside grants place m address width value s outside) octets = octets
+outcome-octets _ _ _ _ _ (measured grants place m make) octets = octets
+outcome-octets _ _ _ _ _ (was_granted grants place m pages make is room) octets = AreOctets-grown_by pages m octets
+outcome-octets _ _ _ _ _ (was_refused grants place m pages make is) octets = octets
+outcome-octets _ _ _ _ _ (host_granted grants place m pages make is there) octets = AreOctets-cleared (place pages) pages m octets
+outcome-octets _ _ _ _ _ (host_refused grants place m pages make is) octets = octets
+outcome-octets _ _ _ _ _ (raised grants place m code) octets = octets
+outcome-octets _ _ _ _ _ (failed grants place m why) octets = octets
 
-outcome-length : (grants : ℕ → Bool) (m : List ℕ) (w : Want) (n : Next) → Outcome grants m w n →
-    length n.memory ≡ length m + pages_gained n.event * page
-outcome-length _ _ _ _ (went grants m s) = omega arith
-outcome-length _ _ _ _ (read grants m address width make inside) = omega arith
-outcome-length _ _ _ _ (read_outside grants m address width make outside) = omega arith
-outcome-length _ _ _ _ (put grants m address width value s inside) = omega (arith, length-with_number m address width value)
-outcome-length _ _ _ _ (put_outside grants m address width value s outside) = omega arith
-outcome-length _ _ _ _ (measured grants m make) = omega arith
-outcome-length _ _ _ _ (was_granted grants m pages make is room) = length-grown_by pages m
-outcome-length _ _ _ _ (was_refused grants m pages make is) = omega arith
-outcome-length _ _ _ _ (raised grants m code) = omega arith
-outcome-length _ _ _ _ (failed grants m why) = omega arith
+-- pages that were placed are in the memory, or the memory is longer by them
+pub length-placed : (first pages : ℕ) (m : List ℕ) → IsPlaceIn m first pages → length m ≡ pages_of m * page →
+    length (cleared first pages m) ≡ length m + (if first == pages_of m then pages else 0) * page
+length-placed first pages m (few, place) whole = ⊎_elim
+    (λ next.
+    let is : first ≡ pages_of m = eqb-true first (pages_of m) next in
+    rw next (rw is (length-cleared-next pages (pages_of m) m whole)))
+    (λ elsewhere. rw elsewhere (⊎_elim
+    (λ is. absurd (false≢true (sym elsewhere ∙ rw is (eq-eqb (pages_of m) (pages_of m) refl))))
+    (λ there. length-cleared first pages m (omega (arith, there, whole)) ∙ omega arith)
+    place))
+    (cases_Bool (first == pages_of m))
+
+outcome-length : (grants : ℕ → Bool) (place : ℕ → ℕ) (m : List ℕ) (w : Want) (n : Next) → Outcome grants place m w n → length m ≡ pages_of m * page →
+    length n.memory ≡ length m + pages_gained m n.event * page
+outcome-length _ _ _ _ _ (went grants place m s) whole = omega arith
+outcome-length _ _ _ _ _ (read grants place m address width make inside) whole = omega arith
+outcome-length _ _ _ _ _ (read_outside grants place m address width make outside) whole = omega arith
+outcome-length _ _ _ _ _ (put grants place m address width value s inside) whole = omega (arith, length-with_number m address width value)
+outcome-length _ _ _ _ _ (put_outside grants place m address width value s outside) whole = omega arith
+outcome-length _ _ _ _ _ (measured grants place m make) whole = omega arith
+outcome-length _ _ _ _ _ (was_granted grants place m pages make is room) whole = length-grown_by pages m
+outcome-length _ _ _ _ _ (was_refused grants place m pages make is) whole = omega arith
+outcome-length _ _ _ _ _ (host_granted grants place m pages make is there) whole = length-placed (place pages) pages m there whole
+outcome-length _ _ _ _ _ (host_refused grants place m pages make is) whole = omega arith
+outcome-length _ _ _ _ _ (raised grants place m code) whole = omega arith
+outcome-length _ _ _ _ _ (failed grants place m why) whole = omega arith
 
 more_pages : (length pages : ℕ) → (length + pages * page) / page ≡ length / page + pages
 more_pages length pages = omega arith
 
-outcome-pages : (grants : ℕ → Bool) (m : List ℕ) (w : Want) (n : Next) → Outcome grants m w n → pages_of m ≤ most_pages → pages_of n.memory ≤ most_pages
-outcome-pages _ _ _ _ (went grants m s) few = few
-outcome-pages _ _ _ _ (read grants m address width make inside) few = few
-outcome-pages _ _ _ _ (read_outside grants m address width make outside) few = few
-outcome-pages _ _ _ _ (put grants m address width value s inside) few = rw (length-with_number m address width value) few
-outcome-pages _ _ _ _ (put_outside grants m address width value s outside) few = few
-outcome-pages _ _ _ _ (measured grants m make) few = few
-outcome-pages _ _ _ _ (was_granted grants m pages make is room) few = rw (length-grown_by pages m) (omega (arith, more_pages (length m) pages, room))
-outcome-pages _ _ _ _ (was_refused grants m pages make is) few = few
-outcome-pages _ _ _ _ (raised grants m code) few = few
-outcome-pages _ _ _ _ (failed grants m why) few = few
+pages-placed : (first pages : ℕ) (m : List ℕ) → IsPlaceIn m first pages → pages_of m ≤ most_pages → pages_of (cleared first pages m) ≤ most_pages
+pages-placed first pages m (few, inl is) most = let long = length-cleared-any first pages m (omega (arith, is)) in omega (arith, long, few, is, most)
+pages-placed first pages m (few, inr there) most = let same = length-cleared first pages m (omega (arith, there)) in omega (arith, same, most)
 
-module _ (grants : ℕ → Bool) (c : Config) (m : List ℕ) where
+outcome-pages : (grants : ℕ → Bool) (place : ℕ → ℕ) (m : List ℕ) (w : Want) (n : Next) → Outcome grants place m w n → pages_of m ≤ most_pages → pages_of n.memory ≤ most_pages
+outcome-pages _ _ _ _ _ (went grants place m s) few = few
+outcome-pages _ _ _ _ _ (read grants place m address width make inside) few = few
+outcome-pages _ _ _ _ _ (read_outside grants place m address width make outside) few = few
+outcome-pages _ _ _ _ _ (put grants place m address width value s inside) few = rw (length-with_number m address width value) few
+outcome-pages _ _ _ _ _ (put_outside grants place m address width value s outside) few = few
+outcome-pages _ _ _ _ _ (measured grants place m make) few = few
+outcome-pages _ _ _ _ _ (was_granted grants place m pages make is room) few = rw (length-grown_by pages m) (omega (arith, more_pages (length m) pages, room))
+outcome-pages _ _ _ _ _ (was_refused grants place m pages make is) few = few
+outcome-pages _ _ _ _ _ (host_granted grants place m pages make is there) few = pages-placed (place pages) pages m there few
+outcome-pages _ _ _ _ _ (host_refused grants place m pages make is) few = few
+outcome-pages _ _ _ _ _ (raised grants place m code) few = few
+outcome-pages _ _ _ _ _ (failed grants place m why) few = few
+
+module _ (grants : ℕ → Bool) (place : ℕ → ℕ) (c : Config) (m : List ℕ) where
   -- a typed configuration makes a step
-  pub progress : IsTyped c → IsSome (next grants c m)
-  progress typed = answered-some grants m (wants c) (wants-typed c typed)
+  pub progress : IsTyped c → IsSome (next grants place c m)
+  progress typed = answered-some grants place m (wants c) (wants-typed c typed)
 
   -- to a typed state
-  pub preservation : (n : Next) → IsTyped c → AreOctets m → pages_of m ≤ most_pages → next grants c m ≡ Some n → IsTypedState n.state
-  preservation n typed octets few h = outcome-typed grants m (wants c) n (outcome grants m (wants c) n h) octets few (wants-typed c typed)
+  pub preservation : (n : Next) → IsTyped c → AreOctets m → pages_of m ≤ most_pages → next grants place c m ≡ Some n → IsTypedState n.state
+  preservation n typed octets few h = outcome-typed grants place m (wants c) n (outcome grants place m (wants c) n h) octets few (wants-typed c typed)
 
   -- a memory of octets stays one, and its length changes by the pages gained
-  pub octets_stay : (n : Next) → AreOctets m → next grants c m ≡ Some n → AreOctets n.memory
-  octets_stay n octets h = outcome-octets grants m (wants c) n (outcome grants m (wants c) n h) octets
+  pub octets_stay : (n : Next) → AreOctets m → next grants place c m ≡ Some n → AreOctets n.memory
+  octets_stay n octets h = outcome-octets grants place m (wants c) n (outcome grants place m (wants c) n h) octets
 
-  pub length_grows : (n : Next) → next grants c m ≡ Some n → length n.memory ≡ length m + pages_gained n.event * page
-  length_grows n h = outcome-length grants m (wants c) n (outcome grants m (wants c) n h)
+  pub length_grows : (n : Next) → length m ≡ pages_of m * page → next grants place c m ≡ Some n → length n.memory ≡ length m + pages_gained m n.event * page
+  length_grows n whole h = outcome-length grants place m (wants c) n (outcome grants place m (wants c) n h) whole
 
   -- and it never has more pages than there can be
-  pub pages_stay : (n : Next) → pages_of m ≤ most_pages → next grants c m ≡ Some n → pages_of n.memory ≤ most_pages
-  pages_stay n few h = outcome-pages grants m (wants c) n (outcome grants m (wants c) n h) few
+  pub pages_stay : (n : Next) → pages_of m ≤ most_pages → next grants place c m ≡ Some n → pages_of n.memory ≤ most_pages
+  pages_stay n few h = outcome-pages grants place m (wants c) n (outcome grants place m (wants c) n h) few

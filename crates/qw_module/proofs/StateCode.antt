@@ -1,5 +1,5 @@
 -- A code of states: what tells the values of a model apart where one of them is a state.
-use Rattle.std.specs.Prelude.{◌≡◌, ℕ, Bool, true, List, [], ◌∷◌, Option, Some, None, refl}
+use Rattle.std.specs.Prelude.{◌≡◌, ℕ, Bool, true, false, List, [], ◌∷◌, Option, Some, None, refl}
 use Rattle.std.specs.Coded.{Coded, code_by, coded×, coded⊎, coded_ℕ, coded_bool, coded_list, coded_option}
 use Rattle.std.proofs.Common.{ap, ◌∙◌}
 use mathlib.Core.Logic.{◌⊎◌, inl, inr}
@@ -9,7 +9,7 @@ use Rattle.qw_module.specs.contracts.instruction.Instr as instruction
 use Rattle.qw_module.specs.declared.trap.Trap.{Trap}
 use Rattle.qw_module.specs.contracts.trap.Trap as trap
 use Rattle.qw_module.specs.Syntax.{Code, done, op, unreachable, block, loop, if_then, if_else, br, br_if, br_table, return, call}
-use Rattle.qw_module.specs.Execution.{Callee, host_raise, own, Store, Context, label, frame, Config, State, Running, Returned, Raised, Trapped}
+use Rattle.qw_module.specs.Execution.{Callee, host_raise, host_pages, own, Store, Context, label, frame, Config, State, Running, Returned, Raised, Trapped}
 
 -- Nested code written after what it holds: its end is nothing, and an instruction stands after its rest, with the labels of a
 -- br_table. The numbers of inner sequences aren't read.
@@ -83,15 +83,18 @@ code_code = code_by (List Symbol) (coded_list (coded_option (coded× instruction
 
 -- what is called: a function of the host's, or the numbers and the code of one of a module's own
 abbrev function_of : Bool ⊎ (ℕ × (ℕ × (ℕ × Code))) → Callee
-function_of (inl host) = host_raise
+function_of (inl true) = host_raise
+function_of (inl false) = host_pages
 function_of (inr (params, (declared, (results, body)))) = own (record { params = params; declared = declared; results = results; body = body })
 
 abbrev numbers_of : Callee → Bool ⊎ (ℕ × (ℕ × (ℕ × Code)))
 numbers_of host_raise = inl true
+numbers_of host_pages = inl false
 numbers_of (own f) = inr (f.params, (f.declared, (f.results, f.body)))
 
 pub function_of-numbers_of : (callee : Callee) → function_of (numbers_of callee) ≡ callee
 function_of-numbers_of host_raise = refl
+function_of-numbers_of host_pages = refl
 function_of-numbers_of (own f) = refl
 
 abbrev pub callee_code : Coded Callee

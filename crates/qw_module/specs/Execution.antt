@@ -1,6 +1,6 @@
 -- Execution as a relation (WebAssembly Core Specification 1.0, 4.4). Operators of one group share a rule. An instruction that
 -- may go several ways has a rule for each.
-use Rattle.std.specs.Prelude.{◌≡◌, ◌≢◌, ℕ, zero, suc, ◌+◌, ◌-◌, ◌^◌, ◌<◌, ◌≤◌, ◌==◌, nat_le, true, false, if◌then◌else◌, Bool, List, [], ◌∷◌, ◌++◌, length, take, drop, reverse, replicate, unwrap_or, Option, Some, None, Ok, Err, slice_get, slice_set}
+use Rattle.std.specs.Prelude.{◌≡◌, ◌≢◌, ℕ, zero, suc, ◌+◌, ◌-◌, ◌^◌, ◌⊎◌, ◌<◌, ◌≤◌, ◌==◌, nat_le, true, false, if◌then◌else◌, Bool, List, [], ◌∷◌, ◌++◌, length, take, drop, reverse, replicate, unwrap_or, Option, Some, None, Ok, Err, slice_get, slice_set}
 use Rattle.qw_module.specs.declared.instruction.ValType.{ValType}
 use Rattle.qw_module.specs.declared.instruction.Op.TheVariants.{Nop, Drop, Select, LocalGet, LocalSet, LocalTee, GlobalGet, GlobalSet, Eqz, Convert, MemorySize, MemoryGrow}
 use Rattle.qw_module.specs.declared.instruction.Op.TheVariants as o
@@ -17,7 +17,7 @@ use Rattle.qw_module.specs.declared.trap.Trap.{Trap}
 use Rattle.qw_module.specs.declared.trap.Trap.TheVariants as trap
 use Rattle.qw_module.specs.Syntax.{Code, done, op, unreachable, block, loop, if_then, if_else, br, br_if, br_table, return, call}
 use Rattle.qw_module.specs.Numbers.{constant, unary, binary, division, truth, relation, converted, load_width, loaded_value, store_width}
-use Rattle.qw_linear.specs.Memory.{most_pages, number_at, with_number, grown_by, pages_of}
+use Rattle.qw_linear.specs.Memory.{most_pages, number_at, with_number, grown_by, cleared, pages_of}
 
 -- A function of a module's own, as it is called (4.2.6): how many operands it takes, how many locals follow them, how many
 -- results it leaves, and its code.
@@ -27,9 +27,10 @@ pub record Closure : Type 0 where
   pub results : ℕ
   pub body : Code
 
--- what a function is (4.2.6): one of the host's, of which there is `raise`, or one of a module's own
+-- what a function is (4.2.6): one of the host's, of which there are `raise` and `pages`, or one of a module's own
 pub data Callee : Type 0 where
   host_raise : Callee
+  host_pages : Callee
   own : Closure → Callee
 
 -- What functions and globals are (4.2.3), by their indices: those of the one module that runs.
@@ -69,20 +70,26 @@ IsOver Returned = Unit {0}
 IsOver (Raised code) = Unit {0}
 IsOver (Trapped why) = Unit {0}
 
--- What a step does outside the instance: an access, a growth, which is granted or refused, or a call of the imported
--- function `raise` (4.4.7, "Host Functions").
+-- What a step does outside the instance: an access, a growth, which is granted or refused, or a call of one of the imported
+-- functions `pages`, which is granted so many pages from one on or refused, and `raise` (4.4.7, "Host Functions").
 pub data Event : Type 0 where
   Silent : Event
   Loads : (address width : ℕ) → Event
   Stores : (address width : ℕ) → Event
   Grows : (pages : ℕ) → (granted : Bool) → Event
+  AsksHost : (pages : ℕ) → (first : Option ℕ) → Event
   Raises : (code : ℕ) → Event
   Traps : (why : Trap) → Event
 
--- how many pages a step adds to the memory
-abbrev pub pages_gained : Event → ℕ
-pages_gained (Grows pages true) = pages
-pages_gained _ = 0
+-- how many pages a step adds to a memory: of those that the host gave only where they are the memory's next ones
+abbrev pub pages_gained : List ℕ → Event → ℕ
+pages_gained m (Grows pages true) = pages
+pages_gained m (AsksHost pages (Some first)) = if first == pages_of m then pages else 0
+pages_gained m _ = 0
+
+-- So many pages from one on can be given of a memory: those that it has, or its next ones.
+abbrev pub IsPlaceIn : List ℕ → (first pages : ℕ) → Type 0
+IsPlaceIn m first pages = (first + pages ≤ most_pages) × ((first ≡ pages_of m) ⊎ (first + pages ≤ pages_of m))
 
 -- how many results a block's type has (2.3.2)
 abbrev pub arity_of : Option ValType → ℕ
@@ -152,7 +159,7 @@ selected n first second = if n == 0 then second else first
 abbrev pub effective : ℕ → MemArg → ℕ
 effective address arg = address + arg.offset
 
--- what a growth that is refused gives: -1 (4.4.4, memory.grow)
+-- what a growth that is refused gives, and a refused request to the host: -1 (4.4.4, memory.grow)
 abbrev pub refusal : ℕ
 refusal = 2 ^ 32 - 1
 
@@ -255,6 +262,14 @@ pub data Step : Config → List ℕ → Event → State → List ℕ → Type 0 
   -- function, told apart by its code. A function of the module's own gets a frame.
   raise : (c : Config) (m : List ℕ) (index code : ℕ) (operands : List ℕ) (rest : Code) → c.code ≡ call index rest →
       slice_get c.store.functions index ≡ Some host_raise → c.operands ≡ code ∷ operands → Step c m (Raises code) (Raised code) m
+  -- The imported function `pages` takes how many pages are wanted and gives the number of the first of so many neighbouring ones, whose
+  -- octets are 0 then, or -1: the host chooses which, and may refuse.
+  ask_granted : (c : Config) (m : List ℕ) (index pages first : ℕ) (operands : List ℕ) (rest : Code) → c.code ≡ call index rest →
+      slice_get c.store.functions index ≡ Some host_pages → c.operands ≡ pages ∷ operands → IsPlaceIn m first pages →
+      Step c m (AsksHost pages (Some first)) (goes_on c rest (first ∷ operands) c.locals) (cleared first pages m)
+  ask_refused : (c : Config) (m : List ℕ) (index pages : ℕ) (operands : List ℕ) (rest : Code) → c.code ≡ call index rest →
+      slice_get c.store.functions index ≡ Some host_pages → c.operands ≡ pages ∷ operands →
+      Step c m (AsksHost pages None) (goes_on c rest (refusal ∷ operands) c.locals) m
   invoke : (c : Config) (m : List ℕ) (index : ℕ) (function : Closure) (rest : Code) → c.code ≡ call index rest →
       slice_get c.store.functions index ≡ Some (own function) → function.params ≤ length c.operands →
       Step c m Silent (invoked c function rest) m

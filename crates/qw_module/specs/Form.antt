@@ -5,7 +5,7 @@ use Rattle.qw_module.specs.declared.instruction.Op.TheVariants as o
 use Rattle.qw_module.specs.declared.module.Function.{Function}
 use Rattle.qw_module.specs.declared.module.Module.{Module}
 use Rattle.qw_module.specs.Syntax.{Code, done, op, unreachable, block, loop, if_then, if_else, br, br_if, br_table, return, call}
-use Rattle.qw_module.specs.Execution.{Callee, host_raise, own}
+use Rattle.qw_module.specs.Execution.{Callee, host_raise, host_pages, own}
 use Rattle.qw_module.specs.Start.{callees_of}
 use Rattle.qw_module.specs.Validity.{code_of_body, imported_functions, IsShaped}
 
@@ -52,12 +52,14 @@ CallsOnly These (call index rest) = These index × CallsOnly These rest
 abbrev pub IsHost : Option Callee → Type 0
 IsHost None = ⊥
 IsHost (Some host_raise) = Unit {0}
+IsHost (Some host_pages) = Unit {0}
 IsHost (Some (own function)) = ⊥
 
 -- it is the host's, or its code calls only these
 abbrev pub NestsOver : (ℕ → Type 0) → Option Callee → Type 0
 NestsOver These None = ⊥
 NestsOver These (Some host_raise) = Unit {0}
+NestsOver These (Some host_pages) = Unit {0}
 NestsOver These (Some (own function)) = CallsOnly These function.body
 
 -- A function nests calls within a depth, by its index among all: one of the host nests within any, and another one within one more

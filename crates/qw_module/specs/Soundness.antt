@@ -5,7 +5,7 @@ use Rattle.qw_module.specs.declared.instruction.ValType.{ValType}
 use Rattle.qw_module.specs.declared.instruction.ValType.TheVariants.{I32}
 use Rattle.qw_module.specs.Numbers.{values_of}
 use Rattle.qw_module.specs.Syntax.{Code, done}
-use Rattle.qw_module.specs.Execution.{Closure, Callee, host_raise, own, Store, Context, label, frame, Config, State, Running, Returned, Raised, Trapped}
+use Rattle.qw_module.specs.Execution.{Closure, Callee, host_raise, host_pages, own, Store, Context, label, frame, Config, State, Running, Returned, Raised, Trapped}
 use Rattle.qw_module.specs.Typing.{Signature, GlobalType, Outside, Scope, scope_of, Typed}
 use Rattle.qw_module.specs.Validity.{function_scope}
 
@@ -21,6 +21,10 @@ AreOf (v ∷ values) [] = ⊥
 abbrev pub raise_signature : Signature
 raise_signature = record { params = I32 ∷ []; results = [] }
 
+-- and of `pages`, which takes one and leaves one
+abbrev pub pages_signature : Signature
+pages_signature = record { params = I32 ∷ []; results = I32 ∷ [] }
+
 -- A function of a module's own has a type: it takes and leaves as many operands, and its code is typed with some locals
 -- after its parameters (3.4.1).
 pub record IsClosureOf (outside : Outside) (function : Closure) (signature : Signature) : Type 0 where
@@ -33,6 +37,7 @@ pub record IsClosureOf (outside : Outside) (function : Closure) (signature : Sig
 -- what is called is of a type
 abbrev pub IsCalleeOf : Outside → Callee → Signature → Type 0
 IsCalleeOf outside host_raise signature = signature ≡ raise_signature
+IsCalleeOf outside host_pages signature = signature ≡ pages_signature
 IsCalleeOf outside (own function) signature = IsClosureOf outside function signature
 
 abbrev pub AreCalleesOf : Outside → List Callee → List Signature → Type 0

@@ -11,13 +11,14 @@ use Rattle.qw_module.specs.declared.module.Global.{Global}
 use Rattle.qw_module.specs.Numbers.{constant}
 use Rattle.qw_module.specs.Syntax.{Code, done, op, unreachable, block, loop, if_then, if_else, br, br_if, br_table, return, call, Sequences, code_of}
 use Rattle.qw_module.specs.Typing.{Signature}
-use Rattle.qw_module.specs.Execution.{Closure, Callee, host_raise, own, Store, State, label, settled}
+use Rattle.qw_module.specs.Execution.{Closure, Callee, host_raise, host_pages, own, Store, State, label, settled}
 use Rattle.qw_module.specs.Validity.{sequences_of, code_of_body, declared_types, signature_in}
 
 -- what the host gives for an import, where it is a function (4.5.4)
 abbrev pub host_of : Import → Option Callee
 host_of (import.Memory limits) = None
 host_of (import.Raise type) = Some host_raise
+host_of (import.Pages type) = Some host_pages
 
 -- a module's own function as it is called
 abbrev pub closure_with : Signature → Function → Closure
@@ -92,6 +93,7 @@ weight code = weight_with (λ index. 0) code
 abbrev pub weight_of_callee : (ℕ → ℕ) → Option Callee → ℕ
 weight_of_callee called None = 0
 weight_of_callee called (Some host_raise) = 0
+weight_of_callee called (Some host_pages) = 0
 weight_of_callee called (Some (own function)) = weight_with called function.body
 
 unfoldable pub weights_below : List Callee → ℕ → ℕ → ℕ

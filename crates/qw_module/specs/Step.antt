@@ -1,6 +1,6 @@
--- The step of `Execution`, computed: what the instruction wants of memory, and what memory answers. Which growths are granted
--- is a test of the pages asked.
-use Rattle.std.specs.Prelude.{◌≡◌, ℕ, zero, suc, ◌+◌, ◌==◌, Bool, true, false, ◌&&◌, nat_lt, nat_le, if◌then◌else◌, List, [], ◌∷◌, length, Option, Some, None, Result, Ok, Err, slice_get, slice_set}
+-- The step of `Execution`, computed: what the instruction wants of memory, and what memory answers. Which requests are granted
+-- is a test of the pages asked, and where the host places a granted one a function of them.
+use Rattle.std.specs.Prelude.{◌≡◌, ℕ, zero, suc, ◌+◌, ◌==◌, Bool, true, false, ◌&&◌, ◌||◌, is_some, nat_lt, nat_le, if◌then◌else◌, List, [], ◌∷◌, length, Option, Some, None, Result, Ok, Err, slice_get, slice_set}
 use Rattle.qw_module.specs.declared.instruction.Op.{Op}
 use Rattle.qw_module.specs.declared.instruction.Op.TheVariants.{Nop, Drop, Select, LocalGet, LocalSet, LocalTee, GlobalGet, GlobalSet, Eqz, Convert, MemorySize, MemoryGrow}
 use Rattle.qw_module.specs.declared.instruction.Op.TheVariants as o
@@ -8,11 +8,11 @@ use Rattle.qw_module.specs.declared.trap.Trap.{Trap}
 use Rattle.qw_module.specs.declared.trap.Trap.TheVariants as trap
 use Rattle.qw_module.specs.Syntax.{Code, done, op, unreachable, block, loop, if_then, if_else, br, br_if, br_table, return, call}
 use Rattle.qw_module.specs.Numbers.{constant, unary, binary, division, truth, relation, converted, load_width, loaded_value, store_width}
-use Rattle.qw_linear.specs.Memory.{most_pages, number_at, with_number, grown_by, pages_of}
-use Rattle.qw_module.specs.Execution.{Callee, host_raise, own, Config, State, Raised, Trapped, Event, Silent, Loads, Stores, Grows, Raises, Traps, refusal, arity_of, settled, branched, left, goes_on, enters, invoked, chosen, selected, effective}
+use Rattle.qw_linear.specs.Memory.{most_pages, number_at, with_number, grown_by, cleared, pages_of}
+use Rattle.qw_module.specs.Execution.{Callee, host_raise, host_pages, own, Config, State, Raised, Trapped, Event, Silent, Loads, Stores, Grows, AsksHost, Raises, Traps, refusal, arity_of, settled, branched, left, goes_on, enters, invoked, chosen, selected, effective}
 
 -- what an instruction wants: nothing of memory, the number at a place, a number put at a place, the number of pages, or pages,
--- whose number before a growth it goes on with; or it raises a code, or traps
+-- whose number before a growth it goes on with, or of which the host tells the first; or it raises a code, or traps
 pub data Want : Type 0 where
   Stuck : Want
   Goes : State → Want
@@ -20,6 +20,7 @@ pub data Want : Type 0 where
   Puts : (address width value : ℕ) → State → Want
   Measures : (ℕ → State) → Want
   AsksPages : (pages : ℕ) → (ℕ → State) → Want
+  AsksPlace : (pages : ℕ) → (ℕ → State) → Want
   Signals : (code : ℕ) → Want
   Fails : (why : Trap) → Want
 
@@ -96,6 +97,7 @@ with_operand (n ∷ operands) want = want n operands
 abbrev pub call_wants : Option Callee → Config → Code → Want
 call_wants None c rest = Stuck
 call_wants (Some host_raise) c rest = with_operand c.operands (λ code operands. Signals code)
+call_wants (Some host_pages) c rest = with_operand c.operands (λ pages operands. AsksPlace pages (λ first. goes_on c rest (first ∷ operands) c.locals))
 call_wants (Some (own function)) c rest = if nat_le function.params (length c.operands) then Goes (invoked c function rest) else Stuck
 
 abbrev pub code_wants : Code → Config → Want
@@ -125,36 +127,49 @@ pub record Next : Type 0 where
   pub state : State
   pub memory : List ℕ
 
+-- whether so many pages from one on can be given of a memory
+abbrev pub can_place : (first pages : ℕ) → List ℕ → Bool
+can_place first pages m = nat_le (first + pages) most_pages && ((first == pages_of m) || nat_le (first + pages) (pages_of m))
+
 -- what memory answers; no growth leads past the most pages that there can be
-abbrev pub answered : (grants : ℕ → Bool) → List ℕ → Want → Option Next
-answered grants m Stuck = None
-answered grants m (Goes s) = Some (record { event = Silent; state = s; memory = m })
-answered grants m (Asks address width make) =
+abbrev pub answered : (grants : ℕ → Bool) → (place : ℕ → ℕ) → List ℕ → Want → Option Next
+answered grants place m Stuck = None
+answered grants place m (Goes s) = Some (record { event = Silent; state = s; memory = m })
+answered grants place m (Asks address width make) =
     if nat_le (address + width) (length m)
     then Some (record { event = Loads address width; state = make (number_at m address width); memory = m })
     else Some (record { event = Traps trap.OutOfBounds; state = Trapped trap.OutOfBounds; memory = m })
-answered grants m (Puts address width value s) =
+answered grants place m (Puts address width value s) =
     if nat_le (address + width) (length m)
     then Some (record { event = Stores address width; state = s; memory = with_number m address width value })
     else Some (record { event = Traps trap.OutOfBounds; state = Trapped trap.OutOfBounds; memory = m })
-answered grants m (Measures make) = Some (record { event = Silent; state = make (pages_of m); memory = m })
-answered grants m (AsksPages pages make) =
+answered grants place m (Measures make) = Some (record { event = Silent; state = make (pages_of m); memory = m })
+answered grants place m (AsksPages pages make) =
     if grants pages && nat_le (pages_of m + pages) most_pages
     then Some (record { event = Grows pages true; state = make (pages_of m); memory = grown_by pages m })
     else Some (record { event = Grows pages false; state = make refusal; memory = m })
-answered grants m (Signals code) = Some (record { event = Raises code; state = Raised code; memory = m })
-answered grants m (Fails why) = Some (record { event = Traps why; state = Trapped why; memory = m })
+answered grants place m (AsksPlace pages make) =
+    if grants pages && can_place (place pages) pages m
+    then Some (record { event = AsksHost pages (Some (place pages)); state = make (place pages); memory = cleared (place pages) pages m })
+    else Some (record { event = AsksHost pages None; state = make refusal; memory = m })
+answered grants place m (Signals code) = Some (record { event = Raises code; state = Raised code; memory = m })
+answered grants place m (Fails why) = Some (record { event = Traps why; state = Trapped why; memory = m })
 
 -- the step of a configuration over a memory
-abbrev pub next : (grants : ℕ → Bool) → Config → List ℕ → Option Next
-next grants c m = answered grants m (wants c)
+abbrev pub next : (grants : ℕ → Bool) → (place : ℕ → ℕ) → Config → List ℕ → Option Next
+next grants place c m = answered grants place m (wants c)
 
--- the test answers a growth as the event says
-abbrev pub Agrees : (ℕ → Bool) → Event → Type 0
-Agrees grants (Grows pages granted) = grants pages ≡ granted
-Agrees grants _ = Unit {0}
+-- the test and the place answer a request as the event says
+abbrev pub Agrees : (ℕ → Bool) → (ℕ → ℕ) → Event → Type 0
+Agrees grants place (Grows pages granted) = grants pages ≡ granted
+Agrees grants place (AsksHost pages (Some first)) = (grants pages ≡ true) × (place pages ≡ first)
+Agrees grants place (AsksHost pages None) = grants pages ≡ false
+Agrees grants place _ = Unit {0}
 
--- two events answer a growth alike
+-- two events answer a request alike
 abbrev pub AnswerAlike : Event → Event → Type 0
 AnswerAlike (Grows pages granted) (Grows other also) = granted ≡ also
+AnswerAlike (Grows pages granted) (AsksHost other first) = granted ≡ is_some first
+AnswerAlike (AsksHost pages first) (Grows other granted) = is_some first ≡ granted
+AnswerAlike (AsksHost pages first) (AsksHost other second) = first ≡ second
 AnswerAlike _ _ = Unit {0}

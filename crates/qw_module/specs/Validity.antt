@@ -45,10 +45,12 @@ declared_types (run ∷ runs) = replicate run.count run.ty ++ declared_types run
 abbrev pub imported_function : Import → Option ℕ
 imported_function (import.Memory limits) = None
 imported_function (import.Raise type) = Some type
+imported_function (import.Pages type) = Some type
 
 abbrev pub imported_memory : Import → Option Limits
 imported_memory (import.Memory limits) = Some limits
 imported_memory (import.Raise type) = None
+imported_memory (import.Pages type) = None
 
 -- The functions of a module by the indices of their types, and its memories, the imported ones first (2.5.1).
 abbrev pub imported_functions : Module → List ℕ
@@ -76,6 +78,7 @@ IsValidMemory limits = (limits.min ≤ page_limit) × IfSome limits.max (λ grea
 abbrev pub IsValidImport : Module → Import → Type 0
 IsValidImport m (import.Memory limits) = IsValidMemory limits
 IsValidImport m (import.Raise type) = type < length m.types.items
+IsValidImport m (import.Pages type) = type < length m.types.items
 
 -- A numbered body is the initial expression of a global of this type: the code that it stands for is one constant of the type
 -- (3.3.7 and 3.4.4). An expression may read imported globals too, of which the profile has none.
@@ -154,12 +157,25 @@ TakesOneI32 type = (type.params.items ≡ I32 ∷ []) × (type.results.items ≡
 abbrev pub IsOneI32 : Module → ℕ → Type 0
 IsOneI32 m type = IsSomeAnd (slice_get m.types.items type) TakesOneI32
 
--- The shape that is executed: the module imports the memory and the function `raise`, and exports its own function of this
--- number as `run`; `run` and each imported function takes one i32 and leaves nothing.
+-- a function's type: one i32, and one i32 as its result
+abbrev pub TakesAndLeavesI32 : FuncType → Type 0
+TakesAndLeavesI32 type = (type.params.items ≡ I32 ∷ []) × (type.results.items ≡ I32 ∷ [])
+
+abbrev pub IsI32ToI32 : Module → ℕ → Type 0
+IsI32ToI32 m type = IsSomeAnd (slice_get m.types.items type) TakesAndLeavesI32
+
+-- an import is linked to what is of its own type
+abbrev pub IsLinked : Module → Import → Type 0
+IsLinked m (import.Memory limits) = Unit {0}
+IsLinked m (import.Raise type) = IsOneI32 m type
+IsLinked m (import.Pages type) = IsI32ToI32 m type
+
+-- The shape that is executed: the module imports the memory and the function `raise`, it may import the function `pages`, and exports its
+-- own function of this number as `run`; `run` and `raise` take one i32 and leave nothing, and `pages` takes one and leaves one.
 pub record IsShaped (m : Module) (number : ℕ) : Type 0 where
   pub memory : (limits : Limits) × Contains m.imports.items (import.Memory limits)
   pub raise : (type : ℕ) × Contains m.imports.items (import.Raise type)
-  pub linked : All (IsOneI32 m) (imported_functions m)
+  pub linked : All (IsLinked m) m.imports.items
   pub run : IsSomeAnd (slice_get m.functions.items number) (λ (function : Function). IsOneI32 m function.type_index)
   pub exported : (export : Export) × Contains m.exports.items export × (string_bytes export.name ≡ codes "run") × (export.kind ≡ kind.Function (length (imported_functions m) + number))
 

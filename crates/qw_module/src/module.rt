@@ -18,13 +18,15 @@ pub struct Limits {
     pub max: Option<u32>,
 }
 
-/// An import (2.5.11). Only these two names are in the profile.
+/// An import (2.5.11). Only these names are in the profile.
 #[derive(Clone, Copy, Debug, PartialEq, Eq)]
 pub enum Import {
     /// `q` `memory`, with its limits.
     Memory(Limits),
     /// `q` `raise`, with the index of its type.
     Raise(u32),
+    /// `q` `pages`, with the index of its type.
+    Pages(u32),
 }
 
 /// The code of a function, or of a global's first value, as sequences by number. A block names its inner sequences by lower numbers, so

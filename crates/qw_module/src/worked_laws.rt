@@ -138,37 +138,37 @@ pub fn operators_on_operands()
 
 /// Steps over the memory (4.4.4): the number of its pages, a refused growth leaves -1, and an access outside it traps.
 pub fn memory_steps()
-    ensures size { next (λ _. false) (at_code (op o.MemorySize (br 0 done)) (6 ∷ []) []) (1 ∷ [])
+    ensures size { next (λ _. false) (λ _. 0) (at_code (op o.MemorySize (br 0 done)) (6 ∷ []) []) (1 ∷ [])
         ≡ Some (record { event = Silent; state = Running (at_code (br 0 done) (0 ∷ 6 ∷ []) []); memory = 1 ∷ [] }) }
-    ensures refused_growth { next (λ _. false) (at_code (op o.MemoryGrow (br 0 done)) (2 ∷ 6 ∷ []) []) []
+    ensures refused_growth { next (λ _. false) (λ _. 0) (at_code (op o.MemoryGrow (br 0 done)) (2 ∷ 6 ∷ []) []) []
         ≡ Some (record { event = Grows 2 false; state = Running (at_code (br 0 done) (4294967295 ∷ 6 ∷ []) []); memory = [] }) }
-    ensures outside { next (λ _. true) (at_code (op (o.Load (load.Full I32) (record { align = 0; offset = 1 })) done) (0 ∷ []) []) (1 ∷ 2 ∷ 3 ∷ 4 ∷ [])
+    ensures outside { next (λ _. true) (λ _. 0) (at_code (op (o.Load (load.Full I32) (record { align = 0; offset = 1 })) done) (0 ∷ []) []) (1 ∷ 2 ∷ 3 ∷ 4 ∷ [])
         ≡ Some (record { event = Traps OutOfBounds; state = Trapped OutOfBounds; memory = 1 ∷ 2 ∷ 3 ∷ 4 ∷ [] }) }
 {}
 
 /// Steps of control (4.4.5, 4.4.6): a branch keeps what its label takes and what lies below, any number but 0 takes the first
 /// sequence of an `if`, and a table's label stands at its operand, or is the default.
 pub fn control_steps()
-    ensures stopped { next (λ _. true) (at_code (unreachable done) [] []) [] ≡ Some (record { event = Traps Unreachable; state = Trapped Unreachable; memory = [] }) }
-    ensures branch { next (λ _. true) (at_code (br 0 done) (5 ∷ 6 ∷ []) (label (br 1 done) 1 (3 ∷ []) done ∷ [])) []
+    ensures stopped { next (λ _. true) (λ _. 0) (at_code (unreachable done) [] []) [] ≡ Some (record { event = Traps Unreachable; state = Trapped Unreachable; memory = [] }) }
+    ensures branch { next (λ _. true) (λ _. 0) (at_code (br 0 done) (5 ∷ 6 ∷ []) (label (br 1 done) 1 (3 ∷ []) done ∷ [])) []
         ≡ Some (record { event = Silent; state = Running (at_code (br 1 done) (5 ∷ 3 ∷ []) []); memory = [] }) }
-    ensures first { next (λ _. true) (at_code (if_else (Some I32) (br 0 done) (br 1 done) done) (2 ∷ 6 ∷ []) []) []
+    ensures first { next (λ _. true) (λ _. 0) (at_code (if_else (Some I32) (br 0 done) (br 1 done) done) (2 ∷ 6 ∷ []) []) []
         ≡ Some (record { event = Silent; state = Running (at_code (br 0 done) [] (label done 1 (6 ∷ []) done ∷ [])); memory = [] }) }
-    ensures other { next (λ _. true) (at_code (if_else (Some I32) (br 0 done) (br 1 done) done) (0 ∷ 6 ∷ []) []) []
+    ensures other { next (λ _. true) (λ _. 0) (at_code (if_else (Some I32) (br 0 done) (br 1 done) done) (0 ∷ 6 ∷ []) []) []
         ≡ Some (record { event = Silent; state = Running (at_code (br 1 done) [] (label done 1 (6 ∷ []) done ∷ [])); memory = [] }) }
-    ensures no_other { next (λ _. true) (at_code (if_then None (br 0 done) (br 1 done)) (0 ∷ 6 ∷ []) []) []
+    ensures no_other { next (λ _. true) (λ _. 0) (at_code (if_then None (br 0 done) (br 1 done)) (0 ∷ 6 ∷ []) []) []
         ≡ Some (record { event = Silent; state = Running (at_code (br 1 done) (6 ∷ []) []); memory = [] }) }
-    ensures chosen { next (λ _. true) (at_code (br_table (1 ∷ 0 ∷ []) 1 done) (1 ∷ 5 ∷ []) (label (br 1 done) 1 [] done ∷ label (br 2 done) 0 [] done ∷ [])) []
+    ensures chosen { next (λ _. true) (λ _. 0) (at_code (br_table (1 ∷ 0 ∷ []) 1 done) (1 ∷ 5 ∷ []) (label (br 1 done) 1 [] done ∷ label (br 2 done) 0 [] done ∷ [])) []
         ≡ Some (record { event = Silent; state = Running (at_code (br 1 done) (5 ∷ []) (label (br 2 done) 0 [] done ∷ [])); memory = [] }) }
-    ensures chosen_past { next (λ _. true) (at_code (br_table (1 ∷ 0 ∷ []) 0 done) (2 ∷ 5 ∷ []) (label (br 1 done) 1 [] done ∷ [])) []
+    ensures chosen_past { next (λ _. true) (λ _. 0) (at_code (br_table (1 ∷ 0 ∷ []) 0 done) (2 ∷ 5 ∷ []) (label (br 1 done) 1 [] done ∷ [])) []
         ≡ Some (record { event = Silent; state = Running (at_code (br 1 done) (5 ∷ []) []); memory = [] }) }
 {}
 
 /// Calls and returns (4.4.5, 4.4.7): the function's locals are its argument and zeros, its results come on the caller's operands,
 /// and `raise` ends all.
 pub fn call_steps()
-    ensures raised { next (λ _. true) (at_code (call 0 done) (3 ∷ 6 ∷ []) []) [] ≡ Some (record { event = Raises 3; state = Raised 3; memory = [] }) }
-    ensures called { next (λ _. true) (at_code (call 1 (br 0 done)) (3 ∷ 6 ∷ []) []) []
+    ensures raised { next (λ _. true) (λ _. 0) (at_code (call 0 done) (3 ∷ 6 ∷ []) []) [] ≡ Some (record { event = Raises 3; state = Raised 3; memory = [] }) }
+    ensures called { next (λ _. true) (λ _. 0) (at_code (call 1 (br 0 done)) (3 ∷ 6 ∷ []) []) []
         ≡ Some (record {
           event = Silent;
           state = Running (record {
@@ -180,7 +180,7 @@ pub fn call_steps()
           });
           memory = [];
         }) }
-    ensures returned { next (λ _. true) (record {
+    ensures returned { next (λ _. true) (λ _. 0) (record {
       store = store;
       code = return done;
       operands = 4 ∷ 5 ∷ [];
@@ -188,7 +188,7 @@ pub fn call_steps()
       contexts = label done 1 (7 ∷ []) done ∷ frame (8 ∷ []) 1 (6 ∷ []) (br 0 done) ∷ [];
     }) []
         ≡ Some (record { event = Silent; state = Running (at_code (br 0 done) (4 ∷ 6 ∷ []) []); memory = [] }) }
-    ensures left { next (λ _. true) (record {
+    ensures left { next (λ _. true) (λ _. 0) (record {
       store = store;
       code = op o.Nop done;
       operands = 4 ∷ [];
@@ -196,7 +196,7 @@ pub fn call_steps()
       contexts = label done 1 [] done ∷ frame (8 ∷ []) 1 (6 ∷ []) (br 0 done) ∷ [];
     }) []
         ≡ Some (record { event = Silent; state = Running (at_code (br 0 done) (4 ∷ 6 ∷ []) []); memory = [] }) }
-    ensures ended { next (λ _. true) (at_code (return done) [] (label done 0 [] done ∷ [])) [] ≡ Some (record { event = Silent; state = Returned; memory = [] }) }
+    ensures ended { next (λ _. true) (λ _. 0) (at_code (return done) [] (label done 0 [] done ∷ [])) [] ≡ Some (record { event = Silent; state = Returned; memory = [] }) }
 {}
 
 /// A memory's limits (3.2.1, 3.2.4) and a global's first value (3.4.4), on both sides of each.

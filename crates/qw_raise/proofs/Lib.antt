@@ -1,3 +1,4 @@
+pub mod Closing
 mod MagnitudeLemmas
 pub mod RaiseLemmas
 pub mod RangeLemmas

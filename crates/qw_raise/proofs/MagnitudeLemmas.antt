@@ -1,5 +1,5 @@
 -- Each value of an expression is within its magnitude, also where the expression can raise.
-use Rattle.std.proofs.Common.{ℕ, ◌+◌, ◌-◌, ◌*◌, ◌^◌, ◌≤◌, ◌==◌, max, Bool, true, false, ℤ, pos, ◌+ℤ◌, ◌-ℤ◌, ◌*ℤ◌, unsigned_abs, int_div, IfOk, if◌then◌else◌, List, Result, Ok, Err, arith}
+use Rattle.std.proofs.Common.{ℕ, ◌+◌, ◌-◌, ◌*◌, ◌^◌, ◌≤◌, ◌==◌, max, Bool, true, false, ℤ, pos, ◌+ℤ◌, ◌-ℤ◌, ◌*ℤ◌, unsigned_abs, int_div, IfOk, if◌then◌else◌, slice_get, List, Result, Ok, Err, arith}
 use Rattle.std.proofs.lemmas.Bool.Decides.{nat_tests}
 use Rattle.std.proofs.lemmas.Int.{unsigned_abs-mul}
 use Rattle.std.proofs.Math.Nat.{mul-le-mul, mul-le-mul_right}
@@ -13,13 +13,13 @@ use Rattle.qw_types.specs.declared.value.Val.TheVariants.{Null, Num, Date, Text}
 use Rattle.qw_scalar.specs.declared.expression.Operator.{Operator}
 use Rattle.qw_scalar.specs.declared.expression.Operator.TheVariants.{Add, Subtract, Multiply, Divide}
 use Rattle.qw_scalar.specs.Columns.{HasColumns}
-use Rattle.qw_scalar.specs.Typing.{IsTyped, IsValueOf, kind_of}
+use Rattle.qw_scalar.specs.Typing.{IsTyped, IsValueOf, IsWithin, kind_of}
 use Rattle.qw_scalar.proofs.TypingLemmas.{typed_value}
-use Rattle.qw_scalar.specs.Evaluation.{applied, as_number, at_row, chosen, combined, extracted, negated, raised, truth_of, value_of}
-use Rattle.qw_scalar.specs.Expression.{Expression, null, number, date, text, column, arithmetic, negative, extract, brought, choice, scale_of}
+use Rattle.qw_scalar.specs.Evaluation.{applied, as_number, at_row, bounded, cell_of, chosen, combined, extracted, negated, raised, truth_of, value_of}
+use Rattle.qw_scalar.specs.Expression.{Expression, null, number, date, text, column, arithmetic, negative, extract, brought, choice, given, cell, scale_of}
 use Rattle.qw_raise.specs.Raise.{capped, magnitude, raw_bring, raw_result, raw_sum}
-use Rattle.qw_raise.specs.Range.{IsInRange, IsWithin}
-use Rattle.qw_raise.proofs.RaiseLemmas.{difference_abs, extracted_within, holds_of, negated_within, number_within, quotient_abs, sum_abs, within_more}
+use Rattle.qw_raise.specs.Range.{IsInRange}
+use Rattle.qw_raise.proofs.RaiseLemmas.{bounded_within, capped_within, difference_abs, extracted_within, holds_of, negated_within, number_within, quotient_abs, sum_abs, within_more}
 
 -- a number of so many at most, or an exception
 abbrev IsAtMost : ℕ → Result ℤ Code → Type 0
@@ -115,3 +115,5 @@ within_magnitude row (brought a s) t h =
 within_magnitude row (choice c a b) t h =
     then_holds (truth_of c (at_row row)) (λ u. chosen u (value_of a (at_row row)) (value_of b (at_row row))) (λ u. Unit {0}) (IsWithin (max (magnitude a) (magnitude b))) (always (truth_of c (at_row row)))
     (λ u hu. chosen_within (magnitude a) (magnitude b) u (value_of a (at_row row)) (value_of b (at_row row)) (within_magnitude row a t.1.0.0 h.1.0) (within_magnitude row b t.1.0.1 h.1.1))
+within_magnitude row (given w k most v) t h = capped_within most v t.0.1 t.1.1
+within_magnitude row (cell i ty most) t h = capped_within most (bounded most (cell_of (slice_get row i))) t.1 (bounded_within most (cell_of (slice_get row i)))

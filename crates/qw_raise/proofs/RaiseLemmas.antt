@@ -1,5 +1,5 @@
 -- What can't raise, as told from magnitudes, raises at no row whose values are in their types' ranges.
-use Rattle.std.proofs.Common.{◌≡◌, ℕ, zero, suc, ◌+◌, ◌-◌, ◌*◌, ◌/◌, ◌^◌, ◌≤◌, ◌==◌, max, Bool, true, false, not, ◌||◌, ℤ, pos, negsuc, ◌+ℤ◌, ◌-ℤ◌, ◌*ℤ◌, neg_ℤ, unsigned_abs, int_div, IfOk, IsTrue, slice_get, List, Option, Some, None, Result, Ok, refl, subst, arith}
+use Rattle.std.proofs.Common.{if◌then◌else◌, nat_le, [], ◌∷◌, ◌≡◌, ℕ, zero, suc, ◌+◌, ◌-◌, ◌*◌, ◌/◌, ◌^◌, ◌≤◌, ◌==◌, max, Bool, true, false, not, ◌||◌, ℤ, pos, negsuc, ◌+ℤ◌, ◌-ℤ◌, ◌*ℤ◌, neg_ℤ, unsigned_abs, int_div, IfOk, IsTrue, slice_get, List, Option, Some, None, Result, Ok, refl, subst, arith}
 use Rattle.std.proofs.lemmas.Bool.Decides.{nat_tests}
 use Rattle.std.proofs.lemmas.Int.{ints, unsigned_abs-mul}
 use Rattle.std.proofs.Math.Nat.{div-le_self, mul-le-mul, mul-le-mul_right, one-le-pow, pow-le-pow_right}
@@ -18,14 +18,14 @@ use Rattle.qw_scalar.specs.declared.expression.Operator.{Operator}
 use Rattle.qw_scalar.specs.declared.expression.Operator.TheVariants.{Add, Subtract, Multiply, Divide}
 use Rattle.qw_scalar.specs.declared.expression.Field.{Field}
 use Rattle.qw_scalar.specs.declared.expression.Field.TheVariants.{Year, Month, Day}
-use Rattle.qw_scalar.specs.Columns.{HasColumns, HaveColumns, HoldsIn}
-use Rattle.qw_scalar.specs.Typing.{AreTyped, IsTyped, IsValueOf, is_date, kind_of}
+use Rattle.qw_scalar.specs.Columns.{HasColumns, HaveColumns, HoldsIn, OperandsHave}
+use Rattle.qw_scalar.specs.Typing.{AreTyped, IsTyped, IsValueOf, IsWithin, OperandsAreTyped, is_date, kind_of}
 use Rattle.qw_scalar.proofs.ColumnLemmas.{columns_more}
 use Rattle.qw_scalar.proofs.TypingLemmas.{typed_value}
-use Rattle.qw_scalar.specs.Evaluation.{and_then, applied, as_number, at_row, cell_of, chosen, combined, compared, extracted, field_of, negated, or_else, raised, same_truth, tested, truth_if, truth_of, value_of}
-use Rattle.qw_scalar.specs.Expression.{Expression, Condition, null, number, date, text, column, arithmetic, negative, extract, brought, choice, comparison, predicate, both, either, negation_of, is, scale_of}
-use Rattle.qw_raise.specs.Raise.{can_raise, capped, condition_can_raise, greatest, is_past, is_safe_divisor, magnitude, operator_raises, raw_bring, raw_result, raw_sum, sum_raises}
-use Rattle.qw_raise.specs.Range.{IsInRange, IsWithin}
+use Rattle.qw_scalar.specs.Evaluation.{Scaled, answered, bounded, values_of, and_then, applied, as_number, at_row, cell_of, chosen, combined, compared, extracted, field_of, negated, or_else, raised, same_truth, tested, truth_if, truth_of, value_of}
+use Rattle.qw_scalar.specs.Expression.{Expression, Condition, null, number, date, text, column, arithmetic, negative, extract, brought, choice, given, cell, comparison, predicate, both, either, negation_of, is, found, Operands, nil, operand, scale_of}
+use Rattle.qw_raise.specs.Raise.{operands_can_raise, can_raise, capped, condition_can_raise, greatest, is_past, is_safe_divisor, magnitude, operator_raises, raw_bring, raw_result, raw_sum, sum_raises}
+use Rattle.qw_raise.specs.Range.{IsInRange}
 
 -- ---- numbers
 
@@ -192,6 +192,8 @@ safe_divisor (negative a) row y e v q h = absurd cc
 safe_divisor (extract field a) row y e v q h = absurd cc
 safe_divisor (brought a s) row y e v q h = absurd cc
 safe_divisor (choice c a b) row y e v q h = absurd cc
+safe_divisor (given w k most u) row y e v q h = absurd cc
+safe_divisor (cell i ty most) row y e v q h = absurd cc
 
 -- ---- expressions
 
@@ -224,6 +226,26 @@ or_told : (t u : Truth) → TruthTold (or_else t (Ok u))
 or_told True u = record { truth = True; is = refl }
 or_told False u = record { truth = disjunction False u; is = refl }
 or_told Unknown u = record { truth = disjunction Unknown u; is = refl }
+
+bound_tested : (b : Bool) (most : ℕ) (v : ℤ) → nat_le (unsigned_abs v) most ≡ b → IsWithin most (if b then Num v else Null)
+bound_tested true most v h = grind (arith, nat_tests, h)
+bound_tested false most v h = tt
+
+pub bounded_within : (most : ℕ) (v : Val) → IsWithin most (bounded most v)
+bounded_within most Null = tt
+bounded_within most (Num v) = bound_tested (nat_le (unsigned_abs v) most) most v refl
+bounded_within most (Date d) = tt
+bounded_within most (Text t) = tt
+
+pub capped_within : (most : ℕ) (v : Val) → most ≤ 999999999999999999 → IsWithin most v → IsWithin (capped most) v
+capped_within most Null le h = tt
+capped_within most (Num v) le h = omega arith
+capped_within most (Date d) le h = tt
+capped_within most (Text t) le h = tt
+
+pub record ValuesTold (r : Result (List Scaled) Code) : Type 0 where
+  pub values : List Scaled
+  pub is : r ≡ Ok values
 
 pub holds_of : (row : List Val) (e : Expression) → HasColumns (IsInRange row) e → HasColumns (HoldsIn row) e
 holds_of row e h = columns_more (IsInRange row) (HoldsIn row) (λ i ty p. p.0) e h
@@ -264,6 +286,10 @@ mutual
       let g = chosen_gives (magnitude a) (magnitude b) u.truth (value_of a (at_row row)) (value_of b (at_row row))
       (quiet_value row a t.1.0.0 h.1.0 results.0) (quiet_value row b t.1.0.1 h.1.1 results.1) in
       record { value = g.value; is = rw u.is g.is; within = g.within }
+  quiet_value row (given w k most v) t h q = record { value = v; is = refl; within = capped_within most v t.0.1 t.1.1 }
+  quiet_value row (cell i ty most) t h q =
+      let v : Val = bounded most (cell_of (slice_get row i)) in
+      record { value = v; is = refl; within = capped_within most v t.1 (bounded_within most (cell_of (slice_get row i))) }
 
   -- and a condition a truth
   pub quiet_truth : (row : List Val) (c : Condition) → AreTyped c → HaveColumns (IsInRange row) c → condition_can_raise c ≡ false → TruthTold (truth_of c (at_row row))
@@ -287,3 +313,16 @@ mutual
       record { truth = g.truth; is = rw (u.is, w.is) g.is }
   quiet_truth row (negation_of c) t h q = let u = quiet_truth row c t h q in record { truth = negation u.truth; is = rw u.is refl }
   quiet_truth row (is c u) t h q = let w = quiet_truth row c t h q in record { truth = truth_if (same_truth w.truth u); is = rw w.is refl }
+  quiet_truth row (found n asked keys kinds rows) t h q =
+      let no = or_false (operands_can_raise asked) (operands_can_raise keys) q in
+      let xs = quiet_values row asked t.0.0 h.0 no.0 in
+      let ys = quiet_values row keys t.0.1 h.1 no.1 in
+      record { truth = answered xs.values ys.values kinds rows; is = rw (xs.is, ys.is) refl }
+
+  pub quiet_values : (row : List Val) (es : Operands) → OperandsAreTyped es → OperandsHave (IsInRange row) es → operands_can_raise es ≡ false → ValuesTold (values_of es (at_row row))
+  quiet_values row nil t h q = record { values = []; is = refl }
+  quiet_values row (operand e es) t h q =
+      let no = or_false (can_raise e) (operands_can_raise es) q in
+      let x = quiet_value row e t.0 h.0 no.0 in
+      let xs = quiet_values row es t.1 h.1 no.1 in
+      record { values = record { value = x.value; scale = scale_of e } ∷ xs.values; is = rw (x.is, xs.is) refl }

@@ -8,7 +8,8 @@ use Rattle.qw_types.specs.declared.value.Ty.TheVariants as ty
 use Rattle.qw_types.specs.declared.value.Val.{Val}
 use Rattle.qw_types.specs.declared.value.Val.TheVariants as val
 use Rattle.qw_raise.specs.Raise.{type_magnitude}
-use Rattle.qw_raise.specs.Range.{Fits, IsWithin}
+use Rattle.qw_raise.specs.Range.{Fits}
+use Rattle.qw_scalar.specs.Typing.{IsWithin}
 
 integer_within : (v : ℤ) → negsuc 2147483647 ≤ℤ v → v ≤ℤ pos 2147483647 → unsigned_abs v ≤ 2 ^ 31
 integer_within (pos m) least greatest = omega (arith, ints, greatest)

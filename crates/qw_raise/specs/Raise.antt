@@ -6,7 +6,7 @@ use Rattle.qw_types.specs.declared.value.Ty.{Ty}
 use Rattle.qw_types.specs.declared.value.Ty.TheVariants as type
 use Rattle.qw_scalar.specs.declared.expression.Operator.{Operator}
 use Rattle.qw_scalar.specs.declared.expression.Operator.TheVariants.{Add, Subtract, Multiply, Divide}
-use Rattle.qw_scalar.specs.Expression.{Expression, Condition, null, number, date, text, column, arithmetic, negative, extract, brought, choice, comparison, predicate, both, either, negation_of, is, scale_of}
+use Rattle.qw_scalar.specs.Expression.{Expression, Condition, null, number, date, text, column, arithmetic, negative, extract, brought, choice, given, cell, comparison, predicate, both, either, negation_of, is, found, Operands, nil, operand, scale_of}
 
 -- the greatest number of 18 digits
 abbrev pub greatest : ℕ
@@ -54,6 +54,8 @@ magnitude (negative a) = magnitude a
 magnitude (extract field a) = 9999
 magnitude (brought a s) = capped (raw_bring (magnitude a) (scale_of a) s)
 magnitude (choice c a b) = max (magnitude a) (magnitude b)
+magnitude (given w k most v) = capped most
+magnitude (cell i ty most) = capped most
 
 -- a divisor that is a literal other than 0; in `- 2` the sign is an operator over the literal (6.12), so it is none
 abbrev pub is_safe_divisor : Expression → Bool
@@ -67,6 +69,8 @@ is_safe_divisor (negative a) = false
 is_safe_divisor (extract field a) = false
 is_safe_divisor (brought a s) = false
 is_safe_divisor (choice c a b) = false
+is_safe_divisor (given w k most v) = false
+is_safe_divisor (cell i ty most) = false
 
 -- a sum or a difference: either operand where it is brought, or the result
 abbrev pub sum_raises : (m s n t : ℕ) → Bool
@@ -92,6 +96,8 @@ abbrev mutual
   can_raise (extract field a) = can_raise a
   can_raise (brought a s) = can_raise a || is_past (raw_bring (magnitude a) (scale_of a) s)
   can_raise (choice c a b) = condition_can_raise c || (can_raise a || can_raise b)
+  can_raise (given w k most v) = false
+  can_raise (cell i ty most) = false
 
   -- where an expression in it can
   pub condition_can_raise : Condition → Bool
@@ -101,3 +107,8 @@ abbrev mutual
   condition_can_raise (either c d) = condition_can_raise c || condition_can_raise d
   condition_can_raise (negation_of c) = condition_can_raise c
   condition_can_raise (is c t) = condition_can_raise c
+  condition_can_raise (found n asked keys kinds rows) = operands_can_raise asked || operands_can_raise keys
+
+  pub operands_can_raise : Operands → Bool
+  operands_can_raise nil = false
+  operands_can_raise (operand e es) = can_raise e || operands_can_raise es

@@ -1,19 +1,12 @@
 -- Values in the ranges of their columns' types, as far as magnitudes tell (ISO/IEC 9075:1992, 4.4).
-use Rattle.std.specs.Prelude.{ℕ, ◌≤◌, unsigned_abs, List, slice_get}
+use Rattle.std.specs.Prelude.{ℕ, List, slice_get}
 use Rattle.qw_types.specs.Kind.{IsOfKind, type_kind}
 use Rattle.qw_types.specs.Value.{IsSized}
 use Rattle.qw_types.specs.declared.value.Ty.{Ty}
 use Rattle.qw_types.specs.declared.value.Val.{Val}
-use Rattle.qw_types.specs.declared.value.Val.TheVariants.{Null, Num, Date, Text}
 use Rattle.qw_scalar.specs.Evaluation.{cell_of}
+use Rattle.qw_scalar.specs.Typing.{IsWithin}
 use Rattle.qw_raise.specs.Raise.{type_magnitude}
-
--- a number is no larger than this
-abbrev pub IsWithin : ℕ → Val → Type 0
-IsWithin m Null = Unit {0}
-IsWithin m (Num v) = unsigned_abs v ≤ m
-IsWithin m (Date d) = Unit {0}
-IsWithin m (Text t) = Unit {0}
 
 -- null, or a value of the type's kind and no larger than the type's numbers are
 abbrev pub Fits : Ty → Val → Type 0

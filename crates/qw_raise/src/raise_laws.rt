@@ -8,9 +8,9 @@ ghost use Rattle.qw_types.specs.declared.value.Val.{Val};
 ghost use Rattle.qw_scalar.specs.Columns.{HasColumns, HaveColumns};
 ghost use Rattle.qw_scalar.specs.Evaluation.{at_row, truth_of, value_of};
 ghost use Rattle.qw_scalar.specs.Expression.{Condition, Expression};
-ghost use Rattle.qw_scalar.specs.Typing.{AreTyped, IsTyped};
+ghost use Rattle.qw_scalar.specs.Typing.{AreTyped, IsTyped, IsWithin};
 ghost use Rattle.qw_raise.specs.Raise.{can_raise, condition_can_raise, magnitude};
-ghost use Rattle.qw_raise.specs.Range.{Fits, IsInRange, IsWithin};
+ghost use Rattle.qw_raise.specs.Range.{Fits, IsInRange};
 
 /// A typed expression that can't raise has a value at each row whose columns hold values in their types' ranges, which is no larger than the
 /// expression's magnitude; a condition that can't raise has a truth there (ISO/IEC 9075:1992, 6.12, 22.1).

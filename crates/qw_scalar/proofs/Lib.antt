@@ -1,4 +1,5 @@
 pub mod CaseLemmas
+pub mod Closing
 pub mod ColumnLemmas
 mod EvaluationLemmas
 pub mod TypingLemmas

@@ -1,5 +1,5 @@
 -- A typed expression's value is of its kind.
-use Rattle.std.proofs.Common.{ℕ, ℤ, neg_ℤ, IfOk, IsTrue, Option, Some, None, Result, Ok, Err, List, max, arith, refl, sym, subst}
+use Rattle.std.proofs.Common.{Bool, true, false, if◌then◌else◌, nat_le, unsigned_abs, slice_get, ℕ, ℤ, neg_ℤ, IfOk, IsTrue, Option, Some, None, Result, Ok, Err, List, max, arith, refl, sym, subst}
 use Rattle.std.proofs.lemmas.Bool.Decides.{nat_tests}
 use Rattle.std.proofs.lemmas.Grind.{common_steps}
 use Rattle.qw_types.specs.Arithmetic.{◌>>=◌, bring, fits}
@@ -14,12 +14,12 @@ use Rattle.qw_scalar.specs.declared.expression.Operator.{Operator}
 use Rattle.qw_scalar.specs.declared.expression.Operator.TheVariants as op
 use Rattle.qw_scalar.specs.declared.expression.Field.{Field}
 use Rattle.qw_scalar.specs.declared.expression.Field.TheVariants as fields
-use Rattle.qw_types.specs.Kind.{IsDateNumber, IsOfKind}
+use Rattle.qw_types.specs.Kind.{IsDateNumber, IsOfKind, type_kind}
 use Rattle.qw_types.specs.declared.kind.Kind.{Kind}
 use Rattle.qw_types.specs.declared.kind.Kind.TheVariants as kind
 use Rattle.qw_scalar.specs.Columns.{HasColumns, HoldsIn}
-use Rattle.qw_scalar.specs.Evaluation.{applied, as_number, chosen, combined, extracted, field_of, negated, raised, truth_of, value_of, at_row}
-use Rattle.qw_scalar.specs.Expression.{Expression, null, number, date, text, column, arithmetic, negative, extract, brought, choice, scale_after, scale_of}
+use Rattle.qw_scalar.specs.Evaluation.{applied, as_number, bounded, cell_of, chosen, combined, extracted, field_of, negated, raised, truth_of, value_of, at_row}
+use Rattle.qw_scalar.specs.Expression.{Expression, null, number, date, text, column, arithmetic, negative, extract, brought, choice, given, cell, scale_after, scale_of}
 use Rattle.qw_scalar.specs.Typing.{IsTyped, IsValueOf, agree, at_scale, is_date, is_number, joined, kind_of}
 
 -- a value of a kind, or an exception
@@ -136,6 +136,16 @@ chosen_given k other truth.True r q a hr hq = given_joined k (joined k other) r 
 chosen_given k other truth.False r q a hr hq = given_joined other (joined k other) q (λ v. second_joined k other v a) hq
 chosen_given k other truth.Unknown r q a hr hq = given_joined other (joined k other) q (λ v. second_joined k other v a) hq
 
+chosen_value : (k : Kind) (b : Bool) (v : Val) → IsOfKind k v → IsOfKind k (if b then v else val.Null)
+chosen_value k true v h = h
+chosen_value k false v h = tt
+
+bounded_given : (k : Kind) (most : ℕ) (v : Val) → IsOfKind k v → IsOfKind k (bounded most v)
+bounded_given k most val.Null h = h
+bounded_given k most (val.Num v) h = chosen_value k (nat_le (unsigned_abs v) most) (val.Num v) h
+bounded_given k most (val.Date d) h = h
+bounded_given k most (val.Text t) h = h
+
 pub typed_value : (e : Expression) (row : List Val) → IsTyped e → HasColumns (HoldsIn row) e → IfOk (value_of e (at_row row)) (λ v. IsValueOf (kind_of e) v)
 typed_value null row h c = refl
 typed_value (number v s) row h c = h.0
@@ -157,3 +167,5 @@ typed_value (choice d a b) row h c =
     then_gives (truth_of d (at_row row)) _ (λ t. Unit {0}) (kind_of (choice d a b)) (always (truth_of d (at_row row)))
     (λ t _. chosen_given (kind_of a) (kind_of b) t (value_of a (at_row row)) (value_of b (at_row row)) h.1.1
     (typed_value a row h.1.0.0 c.1.0) (typed_value b row h.1.0.1 c.1.1))
+typed_value (given n k most v) row h c = h.1.0
+typed_value (cell i ty most) row h c = bounded_given (type_kind ty) most (cell_of (slice_get row i)) c

@@ -1,6 +1,6 @@
 -- The value of an expression and the truth of a condition at a row, or the exception that they raise (ISO/IEC 9075:1992, 6.11, 6.12, 8.2,
 -- 8.5, 8.12, 22.1). Operands go from left to right, and the first exception is the result.
-use Rattle.std.specs.Prelude.{◌≡◌, ◌⊎◌, ℕ, ℤ, pos, neg_ℤ, int_div, int_rem, Bool, true, false, not, List, Option, Some, None, slice_get, Result, Ok, Err}
+use Rattle.std.specs.Prelude.{nat_le, unsigned_abs, ◌≡◌, ◌⊎◌, ℕ, ℤ, pos, neg_ℤ, int_div, int_rem, Bool, true, false, not, ◌&&◌, if◌then◌else◌, List, [], ◌∷◌, Option, Some, None, slice_get, Result, Ok, Err}
 use Rattle.std.specs.Ordering.{int_cmp, is_eq, is_lt, is_le, is_gt, is_ge}
 use Rattle.std.specs.declared.cmp.Ordering.{Ordering}
 use Rattle.qw_types.specs.Arithmetic.{◌>>=◌, bring, difference_of, fits, order_of, product_of, quotient_of, sum_of}
@@ -10,6 +10,7 @@ use Rattle.qw_types.specs.Truth.{conjunction, disjunction, negation}
 use Rattle.qw_types.specs.declared.code.Code.{Code}
 use Rattle.qw_types.specs.declared.truth.Truth.{Truth}
 use Rattle.qw_types.specs.declared.truth.Truth.TheVariants.{True, False, Unknown}
+use Rattle.qw_types.specs.declared.kind.Kind.{Kind}
 use Rattle.qw_types.specs.declared.value.Val.{Val}
 use Rattle.qw_types.specs.declared.value.Val.TheVariants.{Null, Num, Date, Text}
 use Rattle.qw_scalar.specs.declared.expression.Operator.{Operator}
@@ -20,7 +21,7 @@ use Rattle.qw_scalar.specs.declared.expression.Predicate.{Predicate}
 use Rattle.qw_scalar.specs.declared.expression.Predicate.TheVariants.{IsNull}
 use Rattle.qw_scalar.specs.declared.comparison.Comparison.{Comparison}
 use Rattle.qw_scalar.specs.declared.comparison.Comparison.TheVariants.{Equal, NotEqual, Less, LessOrEqual, Greater, GreaterOrEqual, Like, NotLike}
-use Rattle.qw_scalar.specs.Expression.{Expression, Condition, Expressions, last, more, null, number, date, text, column, arithmetic, negative, extract, brought, choice, comparison, predicate, both, either, negation_of, is, scale_of}
+use Rattle.qw_scalar.specs.Expression.{Expression, Condition, Expressions, last, more, null, number, date, text, column, arithmetic, negative, extract, brought, choice, given, cell, comparison, predicate, both, either, negation_of, is, found, Operands, nil, operand, kind_scale, scale_of}
 
 -- what an expression is evaluated in
 pub record Environment : Type 0 where
@@ -41,6 +42,13 @@ value_fits (Text t) = true
 abbrev pub cell_of : Option Val → Val
 cell_of None = Null
 cell_of (Some value) = value
+
+-- A value that is told to be no larger than this. It is; null for others only makes the meaning total.
+abbrev pub bounded : ℕ → Val → Val
+bounded most Null = Null
+bounded most (Num v) = if nat_le (unsigned_abs v) most then Num v else Null
+bounded most (Date d) = Date d
+bounded most (Text t) = Text t
 
 -- two numbers under an operator (6.12)
 abbrev pub applied : Operator → ℤ → ℕ → ℤ → ℕ → Result ℤ Code
@@ -170,6 +178,46 @@ chosen True first second = first
 chosen False first second = second
 chosen Unknown first second = second
 
+-- ---- what rows of a subquery answer (8.4, 8.10)
+abbrev pub holds_true : Truth → Bool
+holds_true True = true
+holds_true False = false
+holds_true Unknown = false
+
+-- a value and its scale
+pub record Scaled : Type 0 where
+  pub value : Val
+  pub scale : ℕ
+
+abbrev pub equal_to : Scaled → Kind → Val → Truth
+equal_to x k v = compared Equal x.value x.scale v (kind_scale k)
+
+-- the first cells of a row are equal to these
+abbrev pub meets : List Scaled → List Kind → List Val → Bool
+meets [] kinds row = true
+meets (x ∷ xs) [] row = false
+meets (x ∷ xs) (k ∷ kinds) [] = false
+meets (x ∷ xs) (k ∷ kinds) (v ∷ row) = holds_true (equal_to x k v) && meets xs kinds row
+
+-- whether the cell behind them is equal to x
+abbrev pub equal_behind : Scaled → List Scaled → List Kind → List Val → Truth
+equal_behind x [] [] row = Unknown
+equal_behind x [] (k ∷ kinds) [] = Unknown
+equal_behind x [] (k ∷ kinds) (v ∷ row) = equal_to x k v
+equal_behind x (y ∷ ys) [] row = Unknown
+equal_behind x (y ∷ ys) (k ∷ kinds) [] = Unknown
+equal_behind x (y ∷ ys) (k ∷ kinds) (v ∷ row) = equal_behind x ys kinds row
+
+abbrev pub one_asked : (asked keys : List Scaled) → List Kind → List Val → Truth
+one_asked [] keys kinds row = True
+one_asked (x ∷ others) keys kinds row = equal_behind x keys kinds row
+
+-- of the rows that the keys meet: true where one is, else unknown where one is, else false
+abbrev pub answered : (asked keys : List Scaled) → List Kind → List (List Val) → Truth
+answered asked keys kinds [] = False
+answered asked keys kinds (row ∷ rows) =
+    if meets keys kinds row then disjunction (one_asked asked keys kinds row) (answered asked keys kinds rows) else answered asked keys kinds rows
+
 abbrev mutual
   pub value_of : Expression → Environment → Result Val Code
   value_of null env = Ok Null
@@ -183,6 +231,8 @@ abbrev mutual
   value_of (extract field a) env = value_of a env >>= (λ x. Ok (extracted field x))
   value_of (brought a s) env = value_of a env >>= (λ x. raised x (scale_of a) s)
   value_of (choice c a b) env = truth_of c env >>= (λ t. chosen t (value_of a env) (value_of b env))
+  value_of (given n k most v) env = Ok v
+  value_of (cell i ty most) env = Ok (bounded most (cell_of (slice_get env.row i)))
 
   pub truth_of : Condition → Environment → Result Truth Code
   truth_of (comparison op a b) env =
@@ -192,6 +242,12 @@ abbrev mutual
   truth_of (either c d) env = truth_of c env >>= (λ t. or_else t (truth_of d env))
   truth_of (negation_of c) env = truth_of c env >>= (λ t. Ok (negation t))
   truth_of (is c u) env = truth_of c env >>= (λ t. Ok (truth_if (same_truth t u)))
+  truth_of (found n asked keys kinds rows) env =
+      values_of asked env >>= (λ xs. values_of keys env >>= (λ ys. Ok (answered xs ys kinds rows)))
+
+  pub values_of : Operands → Environment → Result (List Scaled) Code
+  values_of nil env = Ok []
+  values_of (operand e es) env = value_of e env >>= (λ x. values_of es env >>= (λ xs. Ok (record { value = x; scale = scale_of e } ∷ xs)))
 
 -- one of some expressions is null
 abbrev pub HasNull : Environment → Expressions → Type 0

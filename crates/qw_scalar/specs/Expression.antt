@@ -1,6 +1,9 @@
 -- Typed expressions and conditions (ISO/IEC 9075:1992, 6.11 and 8.12), apart from any tree of the code: no addresses, and nothing that
 -- abbreviates. What an abbreviation stands for is below.
 use Rattle.std.specs.Prelude.{ℕ, ℤ, ◌+◌, max, List}
+use Rattle.qw_types.specs.declared.kind.Kind.{Kind}
+use Rattle.qw_types.specs.declared.kind.Kind.TheVariants as kind
+use Rattle.qw_types.specs.declared.value.Val.{Val}
 use Rattle.qw_types.specs.declared.value.Ty.{Ty}
 use Rattle.qw_types.specs.Value.{type_scale}
 use Rattle.qw_types.specs.declared.truth.Truth.{Truth}
@@ -13,6 +16,11 @@ use Rattle.qw_scalar.specs.declared.expression.Predicate.{Predicate}
 use Rattle.qw_scalar.specs.declared.expression.Predicate.TheVariants.{IsNull}
 use Rattle.qw_scalar.specs.declared.comparison.Comparison.{Comparison}
 use Rattle.qw_scalar.specs.declared.comparison.Comparison.TheVariants.{Equal, LessOrEqual, GreaterOrEqual}
+
+-- whence a value is given: a parameter or a subquery of one row, by its number
+pub data Whence : Type 0 where
+  parameter : ℕ → Whence
+  single : ℕ → Whence
 
 mutual
   pub data Expression : Type 0 where
@@ -33,6 +41,10 @@ mutual
     brought : Expression → ℕ → Expression
     -- the first where the condition is true, else the second
     choice : Condition → Expression → Expression → Expression
+    -- what a parameter or a subquery gives: its number, its kind, the greatest magnitude of it, and the value
+    given : Whence → Kind → (most : ℕ) → Val → Expression
+    -- a column whose numbers are known to be no larger than this
+    cell : ℕ → Ty → (most : ℕ) → Expression
 
   pub data Condition : Type 0 where
     comparison : Comparison → Expression → Expression → Condition
@@ -42,6 +54,13 @@ mutual
     either : Condition → Condition → Condition
     negation_of : Condition → Condition
     is : Condition → Truth → Condition
+    -- EXISTS where nothing is asked, else IN: the number of the subquery, what is asked, the keys, of which kinds its rows are, and the rows: the
+    -- cells that are compared with the keys, and then the value
+    found : ℕ → (asked keys : Operands) → List Kind → List (List Val) → Condition
+
+  pub data Operands : Type 0 where
+    nil : Operands
+    operand : Expression → Operands → Operands
 
 -- the scale of a result (6.12): the larger one; for a product the sum, for a quotient the dividend's
 abbrev pub scale_after : Operator → ℕ → ℕ → ℕ
@@ -49,6 +68,11 @@ scale_after Add sa sb = max sa sb
 scale_after Subtract sa sb = max sa sb
 scale_after Multiply sa sb = sa + sb
 scale_after Divide sa sb = sa
+
+abbrev pub kind_scale : Kind → ℕ
+kind_scale (kind.Number s) = s
+kind_scale kind.Date = 0
+kind_scale kind.Text = 0
 
 -- the scale of an expression, 0 where it is no number; results of a choice are brought to one scale (6.9, 9.3)
 abbrev pub scale_of : Expression → ℕ
@@ -62,6 +86,8 @@ scale_of (negative a) = scale_of a
 scale_of (extract field a) = 0
 scale_of (brought a s) = s
 scale_of (choice c a b) = max (scale_of a) (scale_of b)
+scale_of (given n k most v) = kind_scale k
+scale_of (cell i ty most) = type_scale ty
 
 -- x BETWEEN a AND b is x >= a AND x <= b (8.3)
 abbrev pub between : Expression → Expression → Expression → Condition

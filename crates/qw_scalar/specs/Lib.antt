@@ -1,3 +1,4 @@
+pub mod Closed
 pub mod Columns
 pub mod Conjuncts
 pub mod Evaluation

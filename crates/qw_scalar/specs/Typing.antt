@@ -1,5 +1,6 @@
 -- The kinds of expressions (ISO/IEC 9075:1992, 4.1, 6.11, 6.12), and which expressions and conditions are typed.
-use Rattle.std.specs.Prelude.{◌≡◌, ℕ, ◌+◌, ◌≤◌, max, Bool, true, false, IsTrue, Option, Some, None}
+use Rattle.std.specs.Prelude.{List, [], ◌∷◌, unsigned_abs, ◌≡◌, ℕ, ◌+◌, ◌≤◌, max, Bool, true, false, IsTrue, Option, Some, None}
+use Rattle.std.specs.List.{AllByRecursion}
 use Rattle.qw_types.specs.Arithmetic.{fits}
 use Rattle.qw_types.specs.Kind.{IsOfKind, type_kind}
 use Rattle.qw_types.specs.Value.{IsDay, type_scale}
@@ -9,7 +10,7 @@ use Rattle.qw_types.specs.declared.value.Val.{Val}
 use Rattle.qw_types.specs.declared.value.Val.TheVariants as val
 use Rattle.qw_scalar.specs.declared.expression.Operator.{Operator}
 use Rattle.qw_scalar.specs.declared.expression.Operator.TheVariants.{Add, Subtract, Multiply, Divide}
-use Rattle.qw_scalar.specs.Expression.{Expression, Condition, Choices, null, number, date, text, column, arithmetic, negative, extract, brought, choice, comparison, predicate, both, either, negation_of, is, otherwise, when, scale_after, scale_of}
+use Rattle.qw_scalar.specs.Expression.{Expression, Condition, Choices, null, number, date, text, column, arithmetic, negative, extract, brought, choice, given, cell, comparison, predicate, both, either, negation_of, is, found, Operands, nil, operand, otherwise, when, kind_scale, scale_after, scale_of}
 
 -- a value of an expression's kind: null alone where it has none
 abbrev pub IsValueOf : Option Kind → Val → Type 0
@@ -45,6 +46,8 @@ kind_of (negative a) = Some (kind.Number (scale_of a))
 kind_of (extract field a) = Some (kind.Number 0)
 kind_of (brought a s) = at_scale (kind_of a) s
 kind_of (choice c a b) = joined (kind_of a) (kind_of b)
+kind_of (given n k most v) = Some k
+kind_of (cell i ty most) = Some (type_kind ty)
 
 -- numbers compare with numbers of any scale, dates with dates, texts with texts (8.2)
 abbrev pub are_comparable : Option Kind → Option Kind → Bool
@@ -78,6 +81,20 @@ ScalesAllowed Subtract sa sb = Unit {0}
 ScalesAllowed Multiply sa sb = sa + sb ≤ 18
 ScalesAllowed Divide sa sb = sa + sb ≤ 18
 
+-- a number is no larger than this
+abbrev pub IsWithin : ℕ → Val → Type 0
+IsWithin m val.Null = Unit {0}
+IsWithin m (val.Num v) = unsigned_abs v ≤ m
+IsWithin m (val.Date d) = Unit {0}
+IsWithin m (val.Text t) = Unit {0}
+
+-- cells of a row are of these kinds
+abbrev pub AreCells : List Kind → List Val → Type 0
+AreCells [] [] = Unit {0}
+AreCells [] (v ∷ vs) = ⊥
+AreCells (k ∷ ks) [] = ⊥
+AreCells (k ∷ ks) (v ∷ vs) = IsOfKind k v × AreCells ks vs
+
 -- Typed: literals fit, no scale is above 18, operands are of the kinds that their operator takes, and results agree.
 abbrev mutual
   pub IsTyped : Expression → Type 0
@@ -92,6 +109,8 @@ abbrev mutual
   IsTyped (extract field a) = IsTyped a × IsTrue (is_date (kind_of a))
   IsTyped (brought a s) = IsTyped a × ((scale_of a ≤ s) × (s ≤ 18))
   IsTyped (choice c a b) = AreTyped c × ((IsTyped a × IsTyped b) × IsTrue (agree (kind_of a) (kind_of b)))
+  IsTyped (given n k most v) = ((kind_scale k ≤ 18) × (most ≤ 999999999999999999)) × (IsOfKind k v × IsWithin most v)
+  IsTyped (cell i ty most) = (type_scale ty ≤ 18) × (most ≤ 999999999999999999)
 
   pub AreTyped : Condition → Type 0
   AreTyped (comparison op a b) = (IsTyped a × IsTyped b) × IsTrue (are_comparable (kind_of a) (kind_of b))
@@ -100,6 +119,11 @@ abbrev mutual
   AreTyped (either c d) = AreTyped c × AreTyped d
   AreTyped (negation_of c) = AreTyped c
   AreTyped (is c t) = AreTyped c
+  AreTyped (found n asked keys kinds rows) = (OperandsAreTyped asked × OperandsAreTyped keys) × AllByRecursion (AreCells kinds) rows
+
+  pub OperandsAreTyped : Operands → Type 0
+  OperandsAreTyped nil = Unit {0}
+  OperandsAreTyped (operand e es) = IsTyped e × OperandsAreTyped es
 
 -- not null alone
 abbrev pub has_kind : Option Kind → Bool

@@ -8,7 +8,7 @@ use Rattle.qw_types.specs.declared.value.Val.{Val}
 use Rattle.qw_types.specs.declared.value.Val.TheVariants as val
 use Rattle.qw_scalar.specs.declared.comparison.Comparison.{Comparison}
 use Rattle.qw_scalar.specs.declared.comparison.Comparison.TheVariants.{Like, NotLike}
-use Rattle.qw_scalar.specs.Expression.{Expression, Condition, null, number, date, text, column, arithmetic, negative, extract, brought, choice, comparison, predicate, both, either, negation_of, is}
+use Rattle.qw_scalar.specs.Expression.{Expression, Condition, null, number, date, text, column, arithmetic, negative, extract, brought, choice, given, cell, comparison, predicate, both, either, negation_of, is, found, Operands, nil, operand}
 use Rattle.qw_scalar.specs.Evaluation.{Environment, value_of}
 
 -- what two texts take: their octets; under LIKE, each place of the text, its end too, may be tried with each of the pattern
@@ -38,6 +38,8 @@ abbrev mutual
   units (extract field a) env = units a env
   units (brought a s) env = units a env
   units (choice c a b) env = max (units_of c env) (max (units a env) (units b env))
+  units (given n k most v) env = 0
+  units (cell i ty most) env = 0
 
   pub units_of : Condition → Environment → ℕ
   units_of (comparison op a b) env = max (max (units a env) (units b env)) (octets_of op (value_of a env) (value_of b env))
@@ -46,6 +48,11 @@ abbrev mutual
   units_of (either c d) env = max (units_of c env) (units_of d env)
   units_of (negation_of c) env = units_of c env
   units_of (is c t) env = units_of c env
+  units_of (found n asked keys kinds rows) env = max (operands_units asked env) (operands_units keys env)
+
+  pub operands_units : Operands → Environment → ℕ
+  operands_units nil env = 0
+  operands_units (operand e es) env = max (units e env) (operands_units es env)
 
 -- the greatest of what elements have, 0 of none
 abbrev pub most_by : {A : Type 0} → (A → ℕ) → List A → ℕ

@@ -7,6 +7,7 @@
 //! - [`typing_laws`], [`evaluation_laws`], [`units_laws`]: what holds of every expression and condition, and worked cases.
 #![tactic(auto)]
 
+pub mod closed_laws;
 pub mod comparison;
 pub mod conjuncts;
 pub mod copy;

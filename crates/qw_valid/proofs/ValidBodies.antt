@@ -24,6 +24,7 @@ types_there m [] [] valid bodies = tt
 types_there m [] (f ∷ functions) valid bodies = (bodies.0.0, types_there m [] functions tt bodies.1)
 types_there m (import.Memory limits ∷ imports) functions valid bodies = types_there m imports functions valid.1 bodies
 types_there m (import.Raise type ∷ imports) functions valid bodies = (valid.0, types_there m imports functions valid.1 bodies)
+types_there m (import.Pages type ∷ imports) functions valid bodies = (valid.0, types_there m imports functions valid.1 bodies)
 
 pub have_types : (m : Module) → All (IsValidImport m) m.imports.items → All (HasBody m) m.functions.items → All (λ type. type < length m.types.items) (functions_of m)
 have_types m imports functions = All-from_recursion (λ type. type < length m.types.items) (functions_of m)

@@ -11,7 +11,7 @@ pub fn imported_functions(imports: &[Import]) -> usize
     ensures few { result ≤ length imports.now }
 {
     let types = imports.iter().filter_map(|import| match import {
-        Import::Raise(ty) => Some(*ty),
+        Import::Raise(ty) | Import::Pages(ty) => Some(*ty),
         Import::Memory(_) => None,
     });
     types.count()
@@ -23,7 +23,7 @@ pub fn imported_function(imports: &[Import], index: usize) -> Option<u32>
 {
     let mut before = index;
     for import in imports {
-        if let Import::Raise(ty) = import {
+        if let Import::Raise(ty) | Import::Pages(ty) = import {
             if before == 0 {
                 return Some(*ty);
             }
@@ -51,7 +51,7 @@ pub fn imported_memories(imports: &[Import]) -> usize
 {
     let memories = imports.iter().filter_map(|import| match import {
         Import::Memory(limits) => Some(*limits),
-        Import::Raise(_) => None,
+        Import::Raise(_) | Import::Pages(_) => None,
     });
     memories.count()
 }

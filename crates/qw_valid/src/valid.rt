@@ -118,7 +118,7 @@ fn is_import(module: &Module, import: Import) -> bool
 {
     match import {
         Import::Memory(limits) => is_memory(limits),
-        Import::Raise(ty) => (ty as usize) < module.types.len(),
+        Import::Raise(ty) | Import::Pages(ty) => (ty as usize) < module.types.len(),
     }
 }
 

@@ -76,6 +76,6 @@ plain_code (load x l offset a) k = expression_code a (op (o.Load l (unaligned of
 plain_code (store st offset a e) k = expression_code a (expression_code e (op (o.Store st (unaligned offset)) k))
 plain_code (conditional e a b) k = expression_code e (if_else None (plain_code a done) (plain_code b done) k)
 plain_code (while e a) k = expression_code e (if_then None (loop None (plain_code a (expression_code e (br_if 0 done))) done) k)
-plain_code (request e x) k = expression_code e (op o.MemoryGrow (plain_answer x k))
+plain_code (request e x) k = expression_code e (call 1 (plain_answer x k))
 plain_code (raise code) k = raising code k
 plain_code exit k = return k

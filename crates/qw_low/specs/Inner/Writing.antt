@@ -61,6 +61,7 @@ written push step.Else w = turned w.finished w.current w.waiting
 written push step.Loop w = opens opened.Loop w
 written push step.Again w = adds push (i.BrIf 0) w
 written push step.End w = closed w.finished w.current w.waiting
+written push step.Ask w = adds push (i.Call 1) w
 written push (step.Raise code) w = adds push (i.Call 0) (adds push (i.Op (o.Const (const.I32 code))) w)
 written push step.Exit w = adds push i.Return w
 

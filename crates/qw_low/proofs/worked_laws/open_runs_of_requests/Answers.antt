@@ -6,13 +6,13 @@ use Rattle.qw_map.specs.Seen.{Seen, seen}
 use Rattle.qw_map.specs.Turns.{Done, Pages}
 use Rattle.qw_low.specs.Syntax.{request}
 use Rattle.qw_low.specs.Meaning.{meaning}
-use Rattle.qw_low.specs.Places.{AreMeant, StandsFor, HasRaise, IsDone, beginning}
+use Rattle.qw_low.specs.Places.{AreMeant, StandsFor, HasHosts, IsDone, beginning}
 use Rattle.qw_low.specs.Worked.{i32, nearly_full}
 use Rattle.qw_low.proofs.KeepStep.{course, keeps_step}
 use Rattle.qw_low.proofs.worked_laws.open_runs_of_requests.Goals as goal
 
 -- the course of a request for so many pages, after so many instructions
-kept : (asked k : ℕ) (store : Store) (imported : HasRaise store) (so : Seen) → IsDone (meaning 200 0 (request (i32 asked) 2) nearly_full) → course 200 0 (request (i32 asked) 2) nearly_full store imported k ≡ so →
+kept : (asked k : ℕ) (store : Store) (imported : HasHosts store) (so : Seen) → IsDone (meaning 200 0 (request (i32 asked) 2) nearly_full) → course 200 0 (request (i32 asked) 2) nearly_full store imported k ≡ so →
     (w : World) (memory locals : List ℕ) (b : Moment) → StandsFor w nearly_full memory → AreMeant w nearly_full.locals locals →
     OpenRun k (beginning store w (request (i32 asked) 2) locals memory) b → seen b ≡ so
 kept asked k store imported so comes is w memory locals b stands are run = keeps_step 200 0 (request (i32 asked) 2) nearly_full store imported comes w memory locals stands are k b run ∙ is

@@ -26,13 +26,13 @@ any-left-within most pages left other a h = record {
 }
 
 pub returns-clause-behaves : goal.returns-clause-behaves
-returns-clause-behaves c = λ s ts left safe k i later found found_later behaves.
+returns-clause-behaves c = λ behind s ts left safe k i later found found_later has behaves.
     let n = later.ran - i.ran in
-    any-left (n + left - n) (left - n) _ (behaves-turns s ts safe k i later found found_later (n + left) (λ b. Unit {0}) (λ b after others h. tt) (omega arith)
+    any-left (n + left - n) (left - n) _ (behaves-turns behind s ts safe k i later found found_later has (n + left) (λ b. Unit {0}) (λ b after others h. tt) (omega arith)
     (any-left left (n + left) _ behaves))
 
 pub returns-clause-within : goal.returns-clause-within
-returns-clause-within c = λ s ts most pages left safe k i later found found_later behaves.
+returns-clause-within c = λ behind s ts most pages left safe k i later found found_later has behaves.
     let n = later.ran - i.ran in
-    any-left-within (most - n) pages (n + left - n) (left - n) _ (within-turns s ts safe k i later found found_later most pages (n + left) (λ b. Unit {0}) (λ b after others h. tt) (omega arith)
+    any-left-within (most - n) pages (n + left - n) (left - n) _ (within-turns behind s ts safe k i later found found_later has most pages (n + left) (λ b. Unit {0}) (λ b after others h. tt) (omega arith)
     (any-left-within most pages left (n + left) _ behaves))
