@@ -12,7 +12,7 @@ ghost use Rattle.qw_module.specs.Syntax.{done, op, unreachable, block, loop, if_
 ghost use Rattle.qw_module.specs.Places.{Typing, tokens_of, plain, block_begins, if_begins, else_begins, ends, branches};
 ghost use Rattle.qw_module.specs.Validity.{IsValidMemory, IsInitial, declared_types};
 ghost use Rattle.qw_module.specs.Start.{initial_value};
-ghost use Rattle.qw_module.specs.Form.{HasNoSize, NestIn};
+ghost use Rattle.qw_module.specs.Form.{HasNoSize, HasNoGrowth, NestIn};
 ghost use Rattle.qw_module.specs.Worked.{scope, outside, nothing, store, at_code, asking, alone, plain_function};
 ghost use Rattle.qw_linear.specs.Memory.{cleared, pages_of};
 ghost use Rattle.qw_module.specs.Execution.{host_raise, own};
@@ -248,6 +248,9 @@ pub fn forms()
     ensures size { HasNoSize (op o.MemorySize done) → ⊥ }
     ensures nested_size { HasNoSize (op o.Nop (block None (op o.Nop (op o.MemorySize done)) done)) → ⊥ }
     ensures size_in_else { HasNoSize (loop None (if_else None done (op o.MemorySize done) done) done) → ⊥ }
+    ensures no_growth { HasNoGrowth (block None (op o.MemorySize (if_else None done (call 1 done) done)) (loop None (op o.Nop done) done)) }
+    ensures growth { HasNoGrowth (op o.MemoryGrow done) → ⊥ }
+    ensures nested_growth { HasNoGrowth (op o.Nop (block None (if_then None (op o.MemoryGrow done) done) done)) → ⊥ }
     ensures raised { NestIn (host_raise ∷ []) 0 0 }
     ensures called { NestIn (host_raise ∷ plain_function (call 0 done) ∷ plain_function (block None (call 1 done) (call 0 done)) ∷ []) 2 2 }
     ensures of_its_own { NestIn (host_raise ∷ plain_function done ∷ []) 0 1 → ⊥ }
