@@ -115,6 +115,13 @@ pub fn what_may_be_given()
     ensures fills_no_other { Fills (record { inner = []; values = val.Date (pos 19980902) ∷ [] }) (given (parameter 0) (kind.Number 2) 99 val.Null) → ⊥ }
 {}
 
+/// A text that is given is UTF-8, as 'pen' is; the octet 255 alone is none, neither for a parameter nor in a row of a subquery.
+pub fn texts_that_may_be_given()
+    ensures typed { IsTyped (given (parameter 0) kind.Text 0 (val.Text pen)) }
+    ensures no_text { IsTyped (given (parameter 0) kind.Text 0 (val.Text (255 ∷ []))) → ⊥ }
+    ensures no_cell { AreTyped (found 0 (operand (column 3 (type.Varchar 20)) nil) nil (kind.Text ∷ []) ((val.Text (255 ∷ []) ∷ []) ∷ [])) → ⊥ }
+{}
+
 /// `ID IN (SELECT PRICE ..)` is typed over rows of one number each, and `EXISTS` by the key ID over rows of more cells, whichever the others are;
 /// not IN over texts, nor over rows without a value, nor a row with a text where its kind is a number, nor one of two cells
 /// (ISO/IEC 9075:1992, 8.2, 8.4, 8.8). What is filled in has rows of these kinds.
