@@ -1,7 +1,8 @@
 //! What a step comes to, and how a run ends.
 
-ghost use Rattle.std.specs.Prelude.{◌≡◌};
-ghost use Rattle.qw_machine.specs.Inner.Ended.{run_end_of};
+ghost use Rattle.std.specs.Prelude.{◌≡◌, ◌||◌, is_some};
+ghost use Rattle.qw_machine.specs.Instance.{asked_by};
+ghost use Rattle.qw_machine.specs.Inner.Ended.{is_over, run_end_of};
 
 use crate::operators::Operated;
 use qw_module::trap::Trap;
@@ -14,6 +15,9 @@ pub enum Stepped {
     Grew { at: u32, pages: u32 },
     /// A request for so many pages was refused.
     Refused { pages: u32 },
+    /// The host is asked for so many pages, and the step is made when it has answered
+    /// ([`Instance::give`](crate::machine::Instance::give)).
+    Asked { pages: u32 },
     /// This step left `run`, whatever its instruction.
     Returned,
     /// `raise` was called with this code.
@@ -28,11 +32,34 @@ impl Stepped {
         ensures { result ≡ run_end_of self }
     {
         match self {
-            Stepped::Ran | Stepped::Grew { .. } | Stepped::Refused { .. } => None,
+            Stepped::Ran
+            | Stepped::Grew { .. }
+            | Stepped::Refused { .. }
+            | Stepped::Asked { .. } => None,
             Stepped::Returned => Some(RunEnd::Returned),
             Stepped::Raised(code) => Some(RunEnd::Raised(code)),
             Stepped::Trapped(why) => Some(RunEnd::Trapped(why)),
         }
+    }
+
+    /// For how many pages the host is asked, if it is.
+    pub(crate) fn asked(self) -> Option<u32>
+        ensures { result ≡ asked_by self }
+    {
+        match self {
+            Stepped::Asked { pages } => Some(pages),
+            _ => None,
+        }
+    }
+
+    /// Whether an instruction that came to this finishes nothing: the run has ended, or the host is asked.
+    pub(crate) fn halts(self) -> bool
+        ensures { result ≡ (is_over self || is_some (asked_by self)) }
+    {
+        !matches!(
+            self,
+            Stepped::Ran | Stepped::Grew { .. } | Stepped::Refused { .. }
+        )
     }
 }
 
