@@ -181,7 +181,7 @@ impl Instance {
             .run(self.valid.module(), self.imported, memory, spare, most);
         self.ended = run.last.end();
         self.asked = run.last.asked();
-        run
+        run.made()
     }
 
     /// Tells what the host gives where it was asked for pages: the number of the first of them, or `None` where it gives none. It ends

@@ -1,8 +1,8 @@
 //! What a step comes to, and how a run ends.
 
-ghost use Rattle.std.specs.Prelude.{◌≡◌, ◌||◌, is_some};
+ghost use Rattle.std.specs.Prelude.{◌≡◌, ◌≤◌, ◌||◌, is_some, IfSome};
 ghost use Rattle.qw_machine.specs.Instance.{asked_by};
-ghost use Rattle.qw_machine.specs.Inner.Ended.{is_over, run_end_of};
+ghost use Rattle.qw_machine.specs.Inner.Ended.{is_over, made_of, run_end_of};
 
 use crate::operators::Operated;
 use qw_module::trap::Trap;
@@ -78,6 +78,18 @@ impl Run {
         Run {
             steps,
             last: Stepped::Ran,
+        }
+    }
+
+    /// The steps that were made, of those counted: where the last one asks the host, it isn't made yet.
+    pub(crate) fn made(self) -> Self
+        requires { IfSome (asked_by self.last) (λ pages. 1 ≤ self.steps) }
+        ensures { result ≡ record { steps = made_of self; last = self.last } }
+    {
+        let waits = u64::from(self.last.asked().is_some());
+        Run {
+            steps: self.steps - waits,
+            last: self.last,
         }
     }
 }
