@@ -11,7 +11,6 @@ use Rattle.qw_valid.specs.declared.heights.Heights.{Heights}
 use Rattle.qw_valid.specs.ModuleHeights.{HaveHeights}
 use Rattle.qw_machine.specs.declared.room.Rooms.{Rooms}
 use Rattle.qw_machine.specs.declared.stepped.RunEnd.{RunEnd}
-use Rattle.qw_machine.specs.declared.stepped.RunEnd.TheVariants as end
 use Rattle.qw_module.specs.Typing.{Signature}
 use Rattle.qw_module.specs.Soundness.{AreOf, raise_signature, IsClosureOf}
 use Rattle.qw_module.specs.Start.{closure_of, body_of, begun, initial_value}

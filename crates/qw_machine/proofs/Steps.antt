@@ -149,9 +149,9 @@ module _ (m : Module) (rooms : Rooms) (spare : ℕ) (p q : Point) (memory after 
       (λ over. stepped-over over executed)
       (λ asks. asked (asked_by answer) refl asks)
       (or_cases (is_over answer) (is_some (asked_by answer)) halts) where
-    asked : (o : Option ℕ) → asked_by answer ≡ o → is_some (asked_by answer) ≡ true → IsStepped m rooms spare p memory answer q after
-    asked None none some = absurd (false≢true (ap is_some (sym none) ∙ some))
-    asked (Some pages) asks some = stepped-asked pages asks executed
+        asked : (o : Option ℕ) → asked_by answer ≡ o → is_some (asked_by answer) ≡ true → IsStepped m rooms spare p memory answer q after
+        asked None none some = absurd (false≢true (ap is_some (sym none) ∙ some))
+        asked (Some pages) asks some = stepped-asked pages asks executed
 
 -- one that doesn't halt
 pub not-halted : (answer : Stepped) → (is_over answer || is_some (asked_by answer)) ≡ false → (is_over answer ≡ false) × (asked_by answer ≡ None)

@@ -32,10 +32,8 @@ impl Stepped {
         ensures { result ≡ run_end_of self }
     {
         match self {
-            Stepped::Ran
-            | Stepped::Grew { .. }
-            | Stepped::Refused { .. }
-            | Stepped::Asked { .. } => None,
+            Stepped::Ran | Stepped::Grew { .. } | Stepped::Refused { .. } | Stepped::Asked { .. } =>
+                None,
             Stepped::Returned => Some(RunEnd::Returned),
             Stepped::Raised(code) => Some(RunEnd::Raised(code)),
             Stepped::Trapped(why) => Some(RunEnd::Trapped(why)),

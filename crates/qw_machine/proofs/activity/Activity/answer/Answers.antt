@@ -1,4 +1,4 @@
-use Rattle.std.proofs.Common.{◌≡◌, ◌+◌, ◌<◌, length, drop, ap, arith}
+use Rattle.std.proofs.Common.{◌≡◌, length, drop, ap, arith}
 use Rattle.qw_machine.specs.Inner.Points.{point_of}
 use Rattle.qw_machine.proofs.Around.{operand-room}
 use Rattle.qw_machine.proofs.Calls.{told-point}

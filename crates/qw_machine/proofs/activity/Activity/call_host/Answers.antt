@@ -1,4 +1,4 @@
-use Rattle.std.proofs.Common.{◌<◌, ◌^◌, drop, Some, refl, sym, ap, ◌∙◌, arith}
+use Rattle.std.proofs.Common.{drop, Some, refl, ap, ◌∙◌, arith}
 use Rattle.qw_machine.specs.declared.hosts.Host.{Host}
 use Rattle.qw_machine.specs.declared.hosts.Host.TheVariants as host
 use Rattle.qw_machine.specs.Inner.Points.{point_of}

@@ -1,4 +1,4 @@
-use Rattle.std.proofs.Common.{◌≡◌, ◌∙◌, None, sym, ap}
+use Rattle.std.proofs.Common.{◌≡◌, ◌∙◌, None, ap}
 use Rattle.qw_module.specs.Execution.{State}
 use Rattle.qw_module.specs.Validity.{IsShaped}
 use Rattle.qw_module.specs.Start.{begun}

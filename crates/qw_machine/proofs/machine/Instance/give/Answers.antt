@@ -1,6 +1,6 @@
-use Rattle.std.proofs.Common.{◌≡◌, ◌<◌, ◌^◌, Some, sym, ap, ◌∙◌, arith}
+use Rattle.std.proofs.Common.{ap, ◌∙◌, arith}
 use Rattle.qw_machine.specs.Instance.{Called}
-use Rattle.qw_machine.proofs.Instances.{owed-asking, owed-point, owed-asks, given-held, given-state, given-goes}
+use Rattle.qw_machine.proofs.Instances.{owed-asks, given-state, given-goes}
 use Rattle.qw_machine.proofs.machine.Instance.give.Goals as goal
 
 pub returns-clause-asks : goal.returns-clause-asks
