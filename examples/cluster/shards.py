@@ -44,7 +44,9 @@ def statements(text):
 def refusals(recipe):
     """Why a statement of `partial` can't be run shard by shard."""
     for number, text in enumerate(statements(recipe.partial.read_text()), 1):
-        words = re.findall(r"\w+|[^\w\s]", re.sub(r"'[^']*'", "''", text).upper())
+        # without strings, and without the FROM within EXTRACT
+        bare = re.sub(r"\bEXTRACT\s*\(\s*\w+\s+FROM\b", "EXTRACT(", re.sub(r"'[^']*'", "''", text).upper())
+        words = re.findall(r"\w+|[^\w\s]", bare)
         sources = words[words.index("FROM") :]
         for end in ("WHERE", "GROUP", "HAVING", "ORDER"):
             sources = sources[: sources.index(end)] if end in sources else sources
