@@ -54,7 +54,8 @@ class Tree:
                     for head in heads:
                         self.code.setdefault(head, set()).update(items | {name})
         self.words |= {os.path.basename(p).partition(".")[0] for p in self.paths}
-        self.words |= {w for p in self.paths if p.startswith((".ci/", "examples/")) for w in re.findall(r"\w+", read(p))}
+        scripts = (p for p in self.paths if p.startswith((".ci/", "examples/", "package/")) and os.path.isfile(os.path.join(TOP, p)))
+        self.words |= {w for p in scripts for w in re.findall(r"\w+", read(p))}
 
     def has_definition(self, name):
         """`File.name`, or a record's field as `Record.field`."""
