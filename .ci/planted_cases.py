@@ -166,6 +166,9 @@ class SmallProver:
     def __init__(self, folder, source):
         self.folder, self.source = folder, source
 
+    def begin(self, room):
+        pass
+
     def check(self, room, names):
         source = self.source(room)
         constants = {it[0]: int(re.search(r"= (\d+);", it[4]).group(1)) for it in source.constants}
