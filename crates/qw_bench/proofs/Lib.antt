@@ -1,10 +1,14 @@
+mod Answering
 mod BenchStart
 mod BenchTurns
 mod FirstPages
 mod FirstSeatLemmas
+mod FreeLemmas
+mod GivingBack
 mod LayoutLemmas
 mod LimitLemmas
 mod MapLemmas
+mod PoolLemmas
 mod Rounds
 mod SeatRuns
 mod SeatSteps

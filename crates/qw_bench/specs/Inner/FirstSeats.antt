@@ -1,5 +1,5 @@
 -- What the seats of a bench are as they begin: mirrors `first_seats`, `first_seat` and `placed_columns`.
-use Rattle.std.specs.Prelude.{◌≡◌, ℕ, ◌+◌, ◌*◌, ◌≤◌, List, [], length, Option, Some, None, IsSome, slice_get}
+use Rattle.std.specs.Prelude.{◌≡◌, ℕ, ◌+◌, ◌*◌, ◌≤◌, false, List, [], length, Option, Some, None, IsSome, slice_get}
 use Rattle.std.specs.List.{AllByRecursion}
 use Rattle.std.specs.Vec.{vec_capacity}
 use Rattle.qw_columns.specs.Mapped.{at_indices}
@@ -46,6 +46,8 @@ pub record IsFirstSeat (map : List (List Placed)) (memory : List ℕ) (descripto
   pub refused : seat.refused ≡ None
   pub ran : seat.ran ≡ 0
   pub end : IsEndOf seat (state_in seat) seat.ended
+  pub released : seat.released ≡ false
+  pub unasked : seat.instance.asked ≡ None
 
 -- the seats of programs under limits, in order, whose first pages follow one another from an address of the memory on
 pub record AreFirstSeats (map : List (List Placed)) (memory : List ℕ) (at : ℕ) (programs : List Program) (limits : List Limits) (seats : List Seat) : Type 0 where

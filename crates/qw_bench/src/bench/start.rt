@@ -1,6 +1,6 @@
 //! What a bench begins with: the memory of tables, and the seats of its instances.
 
-ghost use Rattle.std.specs.Prelude.{◌≡◌, ◌+◌, ◌*◌, ◌<◌, ◌≤◌, ◌^◌, ℕ, List, length, map, IfOk};
+ghost use Rattle.std.specs.Prelude.{◌≡◌, ◌+◌, ◌*◌, ◌<◌, ◌≤◌, ◌^◌, ℕ, List, None, length, map, IfOk};
 ghost use Rattle.std.specs.List.{AllByRecursion};
 ghost use Rattle.qw_types.specs.Contents.{AreLoaded};
 ghost use Rattle.qw_linear.specs.Memory.{AreOctets, page, SameBelow};
@@ -127,6 +127,7 @@ fn first_seat(
         refused: None,
         ran: 0,
         ended,
+        released: false,
     })
 }
 
@@ -156,7 +157,7 @@ fn first_instance(alloc: Global, valid: ValidModule, descriptor: u32) -> Result<
     requires shaped { (number : ℕ) × IsShaped valid number }
     requires descends { IsDescending valid }
     ensures { (number : ℕ) → IsShaped valid number
-        → IfOk result (λ instance. instance ≡ record { program = valid; state = begun valid number descriptor }) }
+        → IfOk result (λ instance. instance ≡ record { program = valid; state = begun valid number descriptor; asked = None }) }
 {
     match Instance::new(alloc, valid, descriptor) {
         Ok(instance) => Ok(instance),

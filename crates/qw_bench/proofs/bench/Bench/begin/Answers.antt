@@ -11,7 +11,6 @@ use Rattle.qw_bench.proofs.BenchStart.{begins}
 use Rattle.qw_bench.proofs.LimitLemmas.{limit_pages-each}
 use Rattle.qw_bench.proofs.MapLemmas.{addressable, all-in-map}
 use Rattle.qw_bench.proofs.bench.Bench.begin.Goals as goal
-use Rattle.qw_bench.proofs.bench.Bench.begin.Goals.{In_ok-seats}
 
 pub first_seats-requires-clause-columns : goal.first_seats-requires-clause-columns
 first_seats-requires-clause-columns c =
@@ -29,31 +28,36 @@ first_seats-requires-clause-room c =
     omega (arith, c.in_ok-map.ensures.len, c.place_all.ensures.reserved, reserved, c.requires.pages.0, c.requires.many, limit_pages-each c.args.limits.now c.requires.limits)
 
 -- ---- the bench
-first : (c : goal.In_ok-seats) →
+-- its memory
+memory-is : (c : goal.In_ok-pool) → c.in_ok-pool.pool.memory ≡ c.first_seats.new.memory
+memory-is c = c.in_ok-pool.ensures.memory
+
+first : (c : goal.In_ok-pool) →
     AreFirstSeats (map_of c.args.loaded.items) c.first_seats.new.memory.octets (length c.place_all.new.memory.octets) c.args.jobs.items c.args.limits.now c.in_ok-seats.seats.items
 first c = subst (λ (map : List (List Placed)). AreFirstSeats map c.first_seats.new.memory.octets (length c.place_all.new.memory.octets) c.args.jobs.items
     c.args.limits.now c.in_ok-seats.seats.items) c.in_ok-map.ensures.placed c.in_ok-seats.ensures.seats
 
-fits : (c : goal.In_ok-seats) → total_pages c.args.loaded.items c.args.limits.now ≤ 65535
+fits : (c : goal.In_ok-pool) → total_pages c.args.loaded.items c.args.limits.now ≤ 65535
 fits c = omega (arith, c.requires.pages.0, c.requires.pages.1)
 
-reserved : (c : goal.In_ok-seats) → c.first_seats.new.memory.reserved ≡ total_pages c.args.loaded.items c.args.limits.now
+reserved : (c : goal.In_ok-pool) → c.first_seats.new.memory.reserved ≡ total_pages c.args.loaded.items c.args.limits.now
 reserved c =
     c.first_seats.ensures.reserved ∙ c.place_all.ensures.reserved ∙ ap (λ (m : Octets). m.reserved) c.in_ok-memory.ensures ∙ c.requires.pages.0
 
-whole : (c : goal.In_ok-seats) →
+whole : (c : goal.In_ok-pool) →
     AreTasksOf c.args.jobs.items c.args.limits.now (map task_of c.in_ok-seats.seats.items)
-    × IsStart c.args.loaded.items (map task_of c.in_ok-seats.seats.items) (standing_of c.first_seats.new.memory c.in_ok-seats.seats.items).shared
-    × AreSeats c.first_seats.new.memory c.in_ok-seats.seats.items
-whole c = begins c.args.loaded.items c.args.jobs.items c.args.limits.now c.place_all.new.memory c.first_seats.new.memory c.in_ok-seats.seats.items
+    × IsStart c.args.loaded.items (map task_of c.in_ok-seats.seats.items) (standing_of c.in_ok-pool.pool c.in_ok-seats.seats.items).shared
+    × AreSeats c.in_ok-pool.pool c.in_ok-seats.seats.items
+whole c = begins c.args.loaded.items c.args.jobs.items c.args.limits.now c.place_all.new.memory c.in_ok-pool.pool c.in_ok-seats.seats.items
     c.in_ok-map.ensures.loaded c.requires.columns c.requires.limits c.requires.many c.in_ok-map.ensures.holds c.in_ok-map.ensures.octets c.in_ok-map.ensures.len
-    (first c) c.in_ok-seats.ensures.below c.in_ok-seats.ensures.octets c.in_ok-seats.ensures.len (fits c) (reserved c)
+    (rw (memory-is c) (first c)) (rw (memory-is c) c.in_ok-seats.ensures.below) (rw (memory-is c) c.in_ok-seats.ensures.octets) (rw (memory-is c) c.in_ok-seats.ensures.len)
+    (fits c) (rw (memory-is c) (reserved c)) (rw (memory-is c) c.in_ok-pool.ensures.free) c.in_ok-pool.ensures.kept
 
 pub invariant_of-result : goal.invariant_of-result
 invariant_of-result c = (whole c).2
 
 pub returns-clause-tasks : goal.returns-clause-tasks
-returns-clause-tasks c = (whole (goal.at.returns-clause-tasks c).In_ok-seats).0
+returns-clause-tasks c = (whole c).0
 
 pub returns-clause-start : goal.returns-clause-start
-returns-clause-start c = (whole (goal.at.returns-clause-start c).In_ok-seats).1
+returns-clause-start c = (whole c).1
