@@ -15,3 +15,4 @@ mod SeatSteps
 pub mod Serving
 pub mod Starting
 mod SteadyTurns
+pub mod Unreleased

@@ -14,7 +14,7 @@ use Rattle.qw_map.specs.Behaving.{BehavesWith, HasRows}
 use Rattle.qw_map.specs.Columns.{Holds, column_pages, map_of}
 use Rattle.qw_map.specs.Layout.{Layout, IsReady, column_areas, first_world}
 use Rattle.qw_map.specs.Runs.{Behaves, most_run}
-use Rattle.qw_map.specs.Turns.{End, Instance, Shared, Act, turn, end_at, turns, may_ask, is_back, IsWhole, AreSafe, moment_of}
+use Rattle.qw_map.specs.Turns.{End, Instance, Shared, Act, turn, release, end_at, turns, may_ask, is_back, IsWhole, AreSafe, moment_of}
 use Rattle.qw_map.specs.declared.layout.Placed.{Placed}
 use Rattle.qw_map.specs.declared.layout.Used.{Used}
 use Rattle.qw_promise.specs.Compiled.{Answers, bound}
@@ -144,6 +144,12 @@ unended_below s (suc n) = unended_below s n ++ (if is_some (end_in s n) then [] 
 -- a round: a turn for each instance that hasn't ended, in order
 abbrev pub round : (quantum : ℕ) → Shared → List Act
 round quantum s = map (λ i. turn i quantum) (unended_below s (length s.instances))
+
+-- these acts are turns, and no releases
+abbrev pub AreTurns : List Act → Type 0
+AreTurns [] = Unit {0}
+AreTurns (turn i quantum ∷ acts) = AreTurns acts
+AreTurns (release i ∷ acts) = ⊥
 
 -- These acts are rounds, one after another, until no instance is left that hasn't ended.
 pub data AreRounds (quantum : ℕ) : List Act → Shared → Type 0 where

@@ -456,10 +456,11 @@ impl Bench {
         ensures start { IfOk result (λ bench. IsStart loaded.items bench.tasks bench.shared) }
         ensures reserved { IfOk result (λ bench. bench.reserved ≡ pages) }
     {
+        let flags = Vec::with_capacity(alloc, pages as usize)?;
         let mut memory = Linear::new(alloc, pages)?;
         let map = place_all(alloc, loaded, &mut memory)?;
         let seats = first_seats(alloc, jobs, limits, &map, &mut memory)?;
-        let pool = Pool::new(alloc, memory)?;
+        let pool = Pool::new(memory, flags);
         Ok(Bench { pool, seats })
     }
 

@@ -1,6 +1,6 @@
 //! The memory that instances share, whose pages are given to them and taken back.
 
-ghost use Rattle.std.specs.Prelude.{◌≡◌, ℕ, ◌+◌, ◌*◌, ◌<◌, ◌≤◌, ◌++◌, Some, false, true, IfOk, IfSome, length, replicate, unwrap_or};
+ghost use Rattle.std.specs.Prelude.{◌≡◌, ℕ, ◌+◌, ◌*◌, ◌<◌, ◌≤◌, ◌++◌, [], Some, false, true, IfSome, length, replicate, unwrap_or};
 ghost use Rattle.std.specs.Vec.{vec_capacity};
 ghost use Rattle.qw_linear.specs.Memory.{cleared, most_pages, page, pages_of};
 ghost use Rattle.qw_module.specs.Execution.{AsksHost};
@@ -11,8 +11,6 @@ ghost use Rattle.qw_bench.specs.Inner.Pools.{IsPool, common_of};
 
 use crate::free::{add_taken, lowest_free, mark};
 use qw_linear::linear::Linear;
-use qw_types::NoMemory;
-use std::alloc::Global;
 
 /// A linear memory, and which of its pages are free.
 #[derive(Drop)]
@@ -23,19 +21,18 @@ pub(crate) struct Pool {
 }
 
 impl Pool {
-    /// A memory of which no page is free.
-    ///
-    /// # Errors
-    ///
-    /// [`NoMemory`] where the flags do not fit memory.
-    pub(crate) fn new(alloc: Global, memory: Linear) -> Result<Self, NoMemory>
-        ensures memory { IfOk result (λ pool. pool.memory ≡ memory) }
-        ensures free { IfOk result (λ pool. pool.free.items ≡ replicate (pages_of memory.octets) false) }
-        ensures kept { IfOk result (λ pool. IsPool pool) }
+    /// A memory of which no page is free, with room for the flags of all pages that it may have.
+    pub(crate) fn new(memory: Linear, room: Vec<bool>) -> Self
+        requires empty { room.items ≡ [] }
+        requires room { memory.reserved ≤ vec_capacity room }
+        ensures memory { result.memory ≡ memory }
+        ensures free { result.free.items ≡ replicate (pages_of memory.octets) false }
+        ensures kept { IsPool result }
     {
-        let mut free = Vec::with_capacity(alloc, memory.reserved() as usize)?;
+        let mut free = room;
+        let _limit = memory.reserved();
         add_taken(&mut free, memory.size());
-        Ok(Pool { memory, free })
+        Pool { memory, free }
     }
 
     /// Notes that the memory grew by so many pages, which are taken.

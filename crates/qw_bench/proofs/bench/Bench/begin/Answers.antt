@@ -29,35 +29,35 @@ first_seats-requires-clause-room c =
 
 -- ---- the bench
 -- its memory
-memory-is : (c : goal.In_ok-pool) → c.in_ok-pool.pool.memory ≡ c.first_seats.new.memory
-memory-is c = c.in_ok-pool.ensures.memory
+memory-is : (c : goal.After-new-pool) → c.new-pool.result.memory ≡ c.first_seats.new.memory
+memory-is c = c.new-pool.ensures.memory
 
-first : (c : goal.In_ok-pool) →
+first : (c : goal.After-new-pool) →
     AreFirstSeats (map_of c.args.loaded.items) c.first_seats.new.memory.octets (length c.place_all.new.memory.octets) c.args.jobs.items c.args.limits.now c.in_ok-seats.seats.items
 first c = subst (λ (map : List (List Placed)). AreFirstSeats map c.first_seats.new.memory.octets (length c.place_all.new.memory.octets) c.args.jobs.items
     c.args.limits.now c.in_ok-seats.seats.items) c.in_ok-map.ensures.placed c.in_ok-seats.ensures.seats
 
-fits : (c : goal.In_ok-pool) → total_pages c.args.loaded.items c.args.limits.now ≤ 65535
+fits : (c : goal.After-new-pool) → total_pages c.args.loaded.items c.args.limits.now ≤ 65535
 fits c = omega (arith, c.requires.pages.0, c.requires.pages.1)
 
-reserved : (c : goal.In_ok-pool) → c.first_seats.new.memory.reserved ≡ total_pages c.args.loaded.items c.args.limits.now
+reserved : (c : goal.After-new-pool) → c.first_seats.new.memory.reserved ≡ total_pages c.args.loaded.items c.args.limits.now
 reserved c =
     c.first_seats.ensures.reserved ∙ c.place_all.ensures.reserved ∙ ap (λ (m : Octets). m.reserved) c.in_ok-memory.ensures ∙ c.requires.pages.0
 
-whole : (c : goal.In_ok-pool) →
+whole : (c : goal.After-new-pool) →
     AreTasksOf c.args.jobs.items c.args.limits.now (map task_of c.in_ok-seats.seats.items)
-    × IsStart c.args.loaded.items (map task_of c.in_ok-seats.seats.items) (standing_of c.in_ok-pool.pool c.in_ok-seats.seats.items).shared
-    × AreSeats c.in_ok-pool.pool c.in_ok-seats.seats.items
-whole c = begins c.args.loaded.items c.args.jobs.items c.args.limits.now c.place_all.new.memory c.in_ok-pool.pool c.in_ok-seats.seats.items
+    × IsStart c.args.loaded.items (map task_of c.in_ok-seats.seats.items) (standing_of c.new-pool.result c.in_ok-seats.seats.items).shared
+    × AreSeats c.new-pool.result c.in_ok-seats.seats.items
+whole c = begins c.args.loaded.items c.args.jobs.items c.args.limits.now c.place_all.new.memory c.new-pool.result c.in_ok-seats.seats.items
     c.in_ok-map.ensures.loaded c.requires.columns c.requires.limits c.requires.many c.in_ok-map.ensures.holds c.in_ok-map.ensures.octets c.in_ok-map.ensures.len
     (rw (memory-is c) (first c)) (rw (memory-is c) c.in_ok-seats.ensures.below) (rw (memory-is c) c.in_ok-seats.ensures.octets) (rw (memory-is c) c.in_ok-seats.ensures.len)
-    (fits c) (rw (memory-is c) (reserved c)) (rw (memory-is c) c.in_ok-pool.ensures.free) c.in_ok-pool.ensures.kept
+    (fits c) (rw (memory-is c) (reserved c)) (rw (memory-is c) c.new-pool.ensures.free) c.new-pool.ensures.kept
 
 pub invariant_of-result : goal.invariant_of-result
 invariant_of-result c = (whole c).2
 
 pub returns-clause-tasks : goal.returns-clause-tasks
-returns-clause-tasks c = (whole c).0
+returns-clause-tasks c = (whole (goal.at.returns-clause-tasks c).After-new-pool).0
 
 pub returns-clause-start : goal.returns-clause-start
-returns-clause-start c = (whole c).1
+returns-clause-start c = (whole (goal.at.returns-clause-start c).After-new-pool).1
