@@ -67,11 +67,13 @@ from_elsewhere before from text e = not_chosen (equal from (codes "q")) _ other 
     not_chosen true x y e = absurd cc
     not_chosen false x y e = refl
 
-pub of_no_name : (before : List Import) (from text : List ℕ) → equal text (codes "memory") ≡ false → equal text (codes "raise") ≡ false → named_by before from text ≡ other
-of_no_name before from text e f = neither (equal from (codes "q")) (equal text (codes "memory")) (equal text (codes "raise")) _ _ e f
+pub of_no_name : (before : List Import) (from text : List ℕ) → equal text (codes "memory") ≡ false → equal text (codes "raise") ≡ false → equal text (codes "pages") ≡ false
+    → named_by before from text ≡ other
+of_no_name before from text e f g = none (equal from (codes "q")) (equal text (codes "memory")) (equal text (codes "raise")) (equal text (codes "pages")) _ _ _ e f g
   where
-    neither : (a b c : Bool) (x y : Result Imported BinaryFault) → b ≡ false → c ≡ false → cond a (cond b x (cond c y other)) other ≡ other
-    neither true true c x y e f = absurd cc
-    neither true false true x y e f = absurd cc
-    neither true false false x y e f = refl
-    neither false b c x y e f = refl
+    none : (a b c d : Bool) (x y z : Result Imported BinaryFault) → b ≡ false → c ≡ false → d ≡ false → cond a (cond b x (cond c y (cond d z other))) other ≡ other
+    none true true c d x y z e f g = absurd cc
+    none true false true d x y z e f g = absurd cc
+    none true false false true x y z e f g = absurd cc
+    none true false false false x y z e f g = refl
+    none false b c d x y z e f g = refl

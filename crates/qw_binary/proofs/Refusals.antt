@@ -15,7 +15,7 @@ use Rattle.qw_module.specs.declared.module.Locals.{Locals}
 use Rattle.qw_binary.specs.Types.{val_type, func_type, limits, mutability}
 use Rattle.qw_binary.specs.Instructions.{expression}
 use Rattle.qw_binary.specs.Contents.{FunctionContents, GlobalContents, Contents}
-use Rattle.qw_binary.specs.Sections.{Imported, memory, raise, imported, is_among, once, equal, named_by, names, other_kind, described, import_behind, next_import, imports, global_from, global, export, locals_run, locals_count, locals, code, next_function, functions, Sections, no_sections, with_types, with_imports, with_indices, with_memories, with_globals, with_exports, with_functions, content, section_by, section}
+use Rattle.qw_binary.specs.Sections.{Imported, memory, raise, pages, imported, is_among, once, equal, named_by, names, other_kind, function_import, described, import_behind, next_import, imports, global_from, global, export, locals_run, locals_count, locals, code, next_function, functions, Sections, no_sections, with_types, with_imports, with_indices, with_memories, with_globals, with_exports, with_functions, content, section_by, section}
 use Rattle.qw_binary.specs.Modules.{IsSpelled}
 use Rattle.qw_binary.specs.Inner.Parts.{IsInitSpelled}
 use Rattle.qw_binary.proofs.Apart.{ok_is, by_cond, by_pick, by_after, it_is, nothing, settled, joined, vector_each}
@@ -98,7 +98,8 @@ named_free : (before : List Import) (from text : List ℕ) (found : Imported) �
 named_free before from text found =
     by_cond (is_among found before ≡ false) (equal from (codes "q")) _ (Err (OutOfProfile what.Import)) (Ok found)
     (by_cond (is_among found before ≡ false) (equal text (codes "memory")) (once memory before) _ (Ok found) (once_free memory found before)
-    (by_cond (is_among found before ≡ false) (equal text (codes "raise")) (once raise before) (Err (OutOfProfile what.Import)) (Ok found) (once_free raise found before) (λ e. absurd cc)))
+    (by_cond (is_among found before ≡ false) (equal text (codes "raise")) (once raise before) _ (Ok found) (once_free raise found before)
+    (by_cond (is_among found before ≡ false) (equal text (codes "pages")) (once pages before) (Err (OutOfProfile what.Import)) (Ok found) (once_free pages found before) (λ e. absurd cc))))
     (λ e. absurd cc)
 
 names_free : (before : List Import) (found : Imported) (text : List ℕ) → Spells (names before) found text → is_among found before ≡ false
@@ -106,19 +107,28 @@ names_free before found text =
     by_after (is_among found before ≡ false) name _ found text (λ from front rest s. by_after (is_among found before ≡ false) name _ found rest
     (λ own here none t u. named_free before from own found (settled (named_by before from own) found none u)))
 
+function_is : (one : Imported) (make : ℕ → Import) → ((type : ℕ) → imported (make type) ≡ one) → (x : Import) (text : List ℕ) → Spells (function_import make) x text → imported x ≡ one
+function_is one make same x text =
+    by_octet (imported x ≡ one) _ x text (λ b rest. by_pick (imported x ≡ one) (b == 0x00) _ _ x rest
+    (by_after (imported x ≡ one) u32 _ x rest (λ type front none s t. ap imported (sym (it_is (make type) x none t)) ∙ same type)) (λ s. absurd (nothing x rest (other_kind b) s)))
+
 described_is : (one : Imported) (x : Import) (text : List ℕ) → Spells (described one) x text → imported x ≡ one
 described_is memory x text =
     by_octet (imported x ≡ memory) _ x text (λ b rest. by_pick (imported x ≡ memory) (b == 0x02) _ _ x rest
     (by_after (imported x ≡ memory) limits _ x rest (λ l front none s t. ap imported (sym (it_is (import.Memory l) x none t)))) (λ s. absurd (nothing x rest (other_kind b) s)))
-described_is raise x text =
-    by_octet (imported x ≡ raise) _ x text (λ b rest. by_pick (imported x ≡ raise) (b == 0x00) _ _ x rest
-    (by_after (imported x ≡ raise) u32 _ x rest (λ type front none s t. ap imported (sym (it_is (import.Raise type) x none t)))) (λ s. absurd (nothing x rest (other_kind b) s)))
+described_is raise x text = function_is raise (λ type. import.Raise type) (λ type. refl) x text
+described_is pages x text = function_is pages (λ type. import.Pages type) (λ type. refl) x text
 
 -- an import is not among those before it
 pub import_free : (before : List Import) (x : Import) (text : List ℕ) → Spells (import_behind before) x text → is_among (imported x) before ≡ false
 import_free before x text =
     by_after (is_among (imported x) before ≡ false) (names before) described x text
     (λ one front rest s t. subst (λ (w : Imported). is_among w before ≡ false) (sym (described_is one x rest t)) (names_free before one front s))
+
+pub import_among : (before : List Import) (one : Imported) (x : Import) → one ≡ imported x → is_among one before ≡ true → (text : List ℕ) → Spells (import_behind before) x text → ⊥
+import_among before one x named among text s =
+    let both : true ≡ false = sym among ∙ ap (λ (w : Imported). is_among w before) named ∙ import_free before x text s in
+    absurd cc
 
 -- each of these is spelled behind those before it
 abbrev pub EachBehind : (before xs : List Import) → Type 0

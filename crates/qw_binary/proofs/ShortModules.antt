@@ -46,6 +46,7 @@ elevens {A} (x ∷ xs) = omega (arith, sum_by-cons (λ (_ : A). 11) x xs, eleven
 import_some : (one : Import) → 1 ≤ import_octets one
 import_some (import.Memory l) = omega arith
 import_some (import.Raise type) = omega arith
+import_some (import.Pages type) = omega arith
 
 each_type : (types : List Signature) → Fits (sum_by type_octets types) → AllByRecursion (λ t. IsShort func_type t (type_octets t)) types
 each_type [] h = tt

@@ -26,7 +26,7 @@ use Rattle.qw_binary.specs.Types.{val_type, func_type, limits, limits_from, muta
 use Rattle.qw_binary.specs.Instructions.{expression}
 use Rattle.qw_binary.specs.Contents.{FunctionContents, GlobalContents, ExportContents}
 use Rattle.qw_module.specs.Numbering.{IsInOrder}
-use Rattle.qw_binary.specs.Sections.{Imported, memory, raise, imported, is_among, named_by, names, described, import_behind, imports, global_from, global, kind_by, export_kind, export, locals_from, locals_run, locals_count, locals, code, next_function, functions}
+use Rattle.qw_binary.specs.Sections.{Imported, memory, raise, pages, imported, is_among, named_by, names, function_import, described, import_behind, imports, global_from, global, kind_by, export_kind, export, locals_from, locals_run, locals_count, locals, code, next_function, functions}
 use Rattle.qw_binary.specs.Sizes.{Fits, FitsCode, code_octets, type_octets, FitsLimits, import_octets, FitsImport, AreOnce, run_octets, inner_octets, function_octets, FitsFunction, global_octets, FitsGlobal, index_of, export_octets, FitsExport}
 use Rattle.qw_binary.specs.Inner.Short.{IsShort, AreShort}
 use Rattle.qw_binary.proofs.Short.{short_is, short_octet, short_after, short_made, short_first, short_settled, short_u32, short_small, short_within, short_counted, short_items, short_vector, short_name, longer}
@@ -77,12 +77,18 @@ memory_utf8 = IsUtf8-from_ascii (codes "memory") (all_ascii (codes "memory") (om
 raise_utf8 : IsUtf8 (codes "raise")
 raise_utf8 = IsUtf8-from_ascii (codes "raise") (all_ascii (codes "raise") (omega arith, (omega arith, (omega arith, (omega arith, (omega arith, tt))))))
 
+pages_utf8 : IsUtf8 (codes "pages")
+pages_utf8 = IsUtf8-from_ascii (codes "pages") (all_ascii (codes "pages") (omega arith, (omega arith, (omega arith, (omega arith, (omega arith, tt))))))
+
 short_names : (before : List Import) (one : Imported) (text : List ℕ) → IsUtf8 text → length text < 100 → named_by before (codes "q") text ≡ Ok one → IsShort (names before) one (11 + length text)
 short_names before one text utf8 few e =
     longer (names before) one (6 + ((5 + length text) + 0)) (11 + length text) (omega arith)
     (short_after name (λ from. after name (λ text. settle (named_by before from text))) (codes "q") one 6 ((5 + length text) + 0)
     (short_name (codes "q") (omega arith) q_utf8)
     (short_after name (λ text. settle (named_by before (codes "q") text)) text one (5 + length text) 0 (short_name text (omega (arith, few)) utf8) (short_settled (named_by before (codes "q") text) one e)))
+
+short_function_import : (make : ℕ → Import) (type : ℕ) → Fits type → IsShort (function_import make) (make type) 6
+short_function_import make type fits = short_octet _ 0x00 (make type) 5 (short_made u32 make type 5 (short_u32 type fits))
 
 pub short_import : (before : List Import) (one : Import) → is_among (imported one) before ≡ false → FitsImport one → IsShort (import_behind before) one (import_octets one)
 short_import before (import.Memory l) absent fits =
@@ -92,7 +98,11 @@ short_import before (import.Memory l) absent fits =
 short_import before (import.Raise type) absent fits =
     let named : named_by before (codes "q") (codes "raise") ≡ Ok raise = rw absent refl in
     short_after (names before) described raise (import.Raise type) 16 6 (short_names before raise (codes "raise") raise_utf8 (omega arith) named)
-    (short_octet _ 0x00 (import.Raise type) 5 (short_made u32 (λ type. import.Raise type) type 5 (short_u32 type fits)))
+    (short_function_import (λ type. import.Raise type) type fits)
+short_import before (import.Pages type) absent fits =
+    let named : named_by before (codes "q") (codes "pages") ≡ Ok pages = rw absent refl in
+    short_after (names before) described pages (import.Pages type) 16 6 (short_names before pages (codes "pages") pages_utf8 (omega arith) named)
+    (short_function_import (λ type. import.Pages type) type fits)
 
 pub short_imports : (all : List Import) → Fits (length all) → AreOnce [] all → AllByRecursion FitsImport all → IsShort imports all (5 + sum_by import_octets all)
 short_imports all many once fits = short_items import_behind import_octets all many (each [] all once fits)

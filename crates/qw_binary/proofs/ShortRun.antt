@@ -94,7 +94,7 @@ module _ (m : Module) (function : Function) (valid : IsValid m) (is : IsRunAlone
       let type : FuncType = typed_function.0 in
       let scope : Scope = function_scope (outside_of m) (signature_of type) (declared_types function.locals.items) in
       let params : length (signature_of type).params ≡ 1 = ap (λ (s : Signature). length s.params) signature_is in
-      let imported : length (imported_functions m) ≡ 1 = ap (λ imports. length (filter_map imported_function imports)) is.imports in
+      let imported : length (imported_functions m) ≡ 2 = ap (λ imports. length (filter_map imported_function imports)) is.imports in
       let narrow : IsNarrow scope = record {
         locals = omega (arith, length-append (signature_of type).params (declared_types function.locals.items), params, few);
         functions = omega (
@@ -119,8 +119,8 @@ module _ (m : Module) (function : Function) (valid : IsValid m) (is : IsRunAlone
 
   contents_fit : FitsContents (contents_of m)
   contents_fit = record {
-    imports = subst (AllByRecursion FitsImport) (sym is.imports) ((omega arith, tt), (omega arith, tt));
-    once = subst (AreOnce []) (sym is.imports) (refl, (refl, tt));
+    imports = subst (AllByRecursion FitsImport) (sym is.imports) ((omega arith, tt), (omega arith, (omega arith, tt)));
+    once = subst (AreOnce []) (sym is.imports) (refl, (refl, (refl, tt)));
     functions = subst (AllByRecursion FitsFunction) (sym (ap (map function_contents) is.functions)) (function_fits, tt);
     memories = subst (AllByRecursion FitsLimits) (sym is.memories) tt;
     globals = subst (AllByRecursion FitsGlobal) (sym (ap (map global_contents) is.globals)) tt;
@@ -129,8 +129,8 @@ module _ (m : Module) (function : Function) (valid : IsValid m) (is : IsRunAlone
 
   within_64_mib : module_octets (contents_of m) ≤ 2 ^ 26
   within_64_mib =
-      let types : sum_by type_octets (contents_of m).types ≡ 12 = ap (sum_by type_octets) is.types in
-      let imports : sum_by import_octets (contents_of m).imports ≡ 51 = ap (sum_by import_octets) is.imports in
+      let types : sum_by type_octets (contents_of m).types ≡ 25 = ap (sum_by type_octets) is.types in
+      let imports : sum_by import_octets (contents_of m).imports ≡ 73 = ap (sum_by import_octets) is.imports in
       let count : length (contents_of m).functions ≡ 1 = length-map m.functions.items function_contents ∙ ap length is.functions in
       let memories : length (contents_of m).memories ≡ 0 = ap length is.memories in
       let globals : sum_by global_octets (contents_of m).globals ≡ 0 = ap (λ globals. sum_by global_octets (map global_contents globals)) is.globals in

@@ -1,5 +1,5 @@
 -- What is put by grammars of a few parts.
-use Rattle.std.proofs.Common.{◌≡◌, ℕ, ◌==◌, ◌+◌, ◌-◌, ◌^◌, ◌<◌, ◌≤◌, Bool, true, false, nat_lt, List, [], ◌∷◌, ◌++◌, length, get_or, map, take, codes, Some, None, Result, Ok, Err, refl, sym, ap, subst, ◌∙◌, arith, add-one}
+use Rattle.std.proofs.Common.{◌≡◌, ℕ, ◌==◌, ◌+◌, ◌-◌, ◌^◌, ◌<◌, ◌≤◌, Bool, true, nat_lt, List, [], ◌∷◌, ◌++◌, length, get_or, map, take, codes, Some, None, Result, Ok, Err, refl, sym, ap, subst, ◌∙◌, arith, add-one}
 use Rattle.std.proofs.lemmas.Bool.{eq-eqb}
 use Rattle.std.proofs.lemmas.List.{length-map, length-take-le, get_or-map, take_all}
 use Rattle.std.proofs.Math.Seq.{take-suc}
@@ -23,7 +23,7 @@ use Rattle.qw_module.specs.Syntax.{Sequences}
 use Rattle.qw_binary.specs.Types.{val_type, func_type, limits, limits_from, mutability}
 use Rattle.qw_binary.specs.Instructions.{mem_arg, mem_arg_from, expression}
 use Rattle.qw_binary.specs.Contents.{FunctionContents, function_contents}
-use Rattle.qw_binary.specs.Sections.{memory, raise, is_among, named_by, names, described, import_behind, next_import, imports, global_from, kind_by, export_kind, export, locals_from, locals_run, locals_count, locals, code, next_function, functions}
+use Rattle.qw_binary.specs.Sections.{Imported, memory, named_by, names, function_import, described, import_behind, next_import, imports, global_from, kind_by, export_kind, export, locals_from, locals_run, locals_count, locals, code, next_function, functions}
 use Rattle.qw_binary.specs.Sections.{global as global_grammar}
 use Rattle.qw_binary.specs.Inner.Parts.{MakesKind, type_index_of}
 use Rattle.qw_binary.proofs.WriteCodes.{puts_by}
@@ -123,23 +123,19 @@ pub ruleset codes_put = (codes_begin, codes_next, codes_end)
 
 -- ---- imports
 
-pub puts_memory_import : (before : List Import) (l : Limits) (old a b new : List ℕ) → is_among memory before ≡ false → Puts name (codes "q") old a → Puts name (codes "memory") a b → Puts limits l (b ++ 0x02 ∷ []) new
-    → Puts (import_behind before) (import.Memory l) old new
-puts_memory_import before l old a b new absent p q s =
-    let once_here : named_by before (codes "q") (codes "memory") ≡ Ok memory = rw absent refl in
-    puts_after (names before) described memory (import.Memory l) old b new
-    (puts_after name _ (codes "q") memory old a b p
-    (puts_after name (λ text. settle (named_by before (codes "q") text)) (codes "memory") memory a b b q (subst (λ r. Puts (settle r) memory b b) (sym once_here) (puts_is memory b))))
-    (puts_octet _ 0x02 (import.Memory l) b new (puts_made limits (λ l. import.Memory l) l (b ++ 0x02 ∷ []) new s))
+pub puts_names : (before : List Import) (one : Imported) (text old a new : List ℕ) → named_by before (codes "q") text ≡ Ok one → Puts name (codes "q") old a → Puts name text a new → Puts (names before) one old new
+puts_names before one text old a new named p q =
+    puts_after name _ (codes "q") one old a new p
+    (puts_after name (λ text. settle (named_by before (codes "q") text)) text one a new new q (subst (λ r. Puts (settle r) one new new) (sym named) (puts_is one new)))
 
-pub puts_raise_import : (before : List Import) (type : ℕ) (old a b new : List ℕ) → is_among raise before ≡ false → Puts name (codes "q") old a → Puts name (codes "raise") a b → Puts u32 type (b ++ 0x00 ∷ []) new
-    → Puts (import_behind before) (import.Raise type) old new
-puts_raise_import before type old a b new absent p q s =
-    let once_here : named_by before (codes "q") (codes "raise") ≡ Ok raise = rw absent refl in
-    puts_after (names before) described raise (import.Raise type) old b new
-    (puts_after name _ (codes "q") raise old a b p
-    (puts_after name (λ text. settle (named_by before (codes "q") text)) (codes "raise") raise a b b q (subst (λ r. Puts (settle r) raise b b) (sym once_here) (puts_is raise b))))
-    (puts_octet _ 0x00 (import.Raise type) b new (puts_made u32 (λ type. import.Raise type) type (b ++ 0x00 ∷ []) new s))
+pub puts_function_import : (make : ℕ → Import) (type : ℕ) (old new : List ℕ) → Puts u32 type (old ++ 0x00 ∷ []) new → Puts (function_import make) (make type) old new
+puts_function_import make type old new p = puts_octet _ 0x00 (make type) old new (puts_made u32 make type (old ++ 0x00 ∷ []) new p)
+
+pub puts_memory_import : (l : Limits) (old new : List ℕ) → Puts limits l (old ++ 0x02 ∷ []) new → Puts (described memory) (import.Memory l) old new
+puts_memory_import l old new p = puts_octet _ 0x02 (import.Memory l) old new (puts_made limits (λ l. import.Memory l) l (old ++ 0x02 ∷ []) new p)
+
+pub puts_import : (before : List Import) (one : Imported) (x : Import) (old mid new : List ℕ) → Puts (names before) one old mid → Puts (described one) x mid new → Puts (import_behind before) x old new
+puts_import before one x old mid new p q = puts_after (names before) described one x old mid new p q
 
 pub imports_begin : (all : List Import) (old new : List ℕ) → Puts u32 (length all) old new → Awaits imports (counted (length all - 0) next_import (take 0 all)) old new
 imports_begin all old new p =

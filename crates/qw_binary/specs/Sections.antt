@@ -21,28 +21,30 @@ use Rattle.qw_binary.specs.Contents.{FunctionContents, GlobalContents, ExportCon
 
 -- ---- imports (5.5.5)
 
--- the two that the profile has
+-- the three that the profile has
 pub data Imported : Type 0 where
   memory : Imported
   raise : Imported
+  pages : Imported
 
--- which of the two an import is
+-- which of the three an import is
 abbrev pub imported : Import → Imported
 imported (import.Memory _) = memory
 imported (import.Raise _) = raise
+imported (import.Pages _) = pages
 
 abbrev pub is_same : Imported → Imported → Bool
 is_same memory memory = true
-is_same memory raise = false
-is_same raise memory = false
 is_same raise raise = true
+is_same pages pages = true
+is_same _ _ = false
 
 -- whether it is among these
 abbrev pub is_among : Imported → List Import → Bool
 is_among one [] = false
 is_among one (other ∷ others) = if is_same one (imported other) then true else is_among one others
 
--- one of the two may stand once
+-- each of the three may stand once
 abbrev pub once : Imported → List Import → Result Imported BinaryFault
 once one before = if is_among one before then Err (OutOfProfile what.Import) else Ok one
 
@@ -53,12 +55,13 @@ equal [] (y ∷ ys) = false
 equal (x ∷ xs) [] = false
 equal (x ∷ xs) (y ∷ ys) = if x == y then equal xs ys else false
 
--- the two names of an import, which are one construct: `q` and `memory`, or `q` and `raise`, each once
+-- the two names of an import, which are one construct: `q`, and `memory`, `raise` or `pages`, each once
 abbrev pub named_by : List Import → (from text : List ℕ) → Result Imported BinaryFault
 named_by before from text =
     if equal from (codes "q") then
     (if equal text (codes "memory") then once memory before
     else if equal text (codes "raise") then once raise before
+    else if equal text (codes "pages") then once pages before
     else Err (OutOfProfile what.Import))
     else Err (OutOfProfile what.Import)
 
@@ -69,10 +72,15 @@ names before = after name (λ from. after name (λ text. settle (named_by before
 abbrev pub other_kind : ℕ → BinaryFault
 other_kind b = if b == 0x01 then OutOfProfile what.Table else if nat_lt b 4 then OutOfProfile what.Import else NotModule
 
--- the kind, and what is imported: 02 and limits at the memory, 00 and the index of a type at the function
+-- a function's kind and the index of its type
+abbrev pub function_import : (ℕ → Import) → Grammar Import
+function_import make = octet (λ b. pick (b == 0x00) (after u32 (λ type. is (make type))) (refuse (other_kind b)))
+
+-- the kind, and what is imported: 02 and limits at the memory, 00 and the index of a type at the functions
 abbrev pub described : Imported → Grammar Import
 described memory = octet (λ b. pick (b == 0x02) (after limits (λ l. is (import.Memory l))) (refuse (other_kind b)))
-described raise = octet (λ b. pick (b == 0x00) (after u32 (λ type. is (import.Raise type))) (refuse (other_kind b)))
+described raise = function_import (λ type. import.Raise type)
+described pages = function_import (λ type. import.Pages type)
 
 -- an import, which no other one before it names
 abbrev pub import_behind : List Import → Grammar Import

@@ -17,7 +17,7 @@ use Rattle.qw_module.specs.declared.module.ExportKind.TheVariants as kind
 use Rattle.qw_module.specs.Numbers.{values_of, constant, type_of_constant}
 use Rattle.qw_module.specs.Syntax.{Code, done, op, unreachable, block, loop, if_then, if_else, br, br_if, br_table, return, call, code_of}
 use Rattle.qw_module.specs.Typing.{Signature}
-use Rattle.qw_module.specs.Soundness.{raise_signature}
+use Rattle.qw_module.specs.Soundness.{raise_signature, pages_signature}
 use Rattle.qw_module.specs.Start.{weight}
 use Rattle.qw_module.specs.Validity.{signature_of, sequences_of, code_of_body, IsValid, declared_types}
 use Rattle.qw_binary.specs.Contents.{FunctionContents, GlobalContents, ExportContents, Contents, contents_of}
@@ -92,12 +92,14 @@ FitsLimits limits = Fits limits.min × IfSome limits.max Fits
 abbrev pub import_octets : Import → ℕ
 import_octets (import.Memory limits) = 29
 import_octets (import.Raise type) = 22
+import_octets (import.Pages type) = 22
 
 abbrev pub FitsImport : Import → Type 0
 FitsImport (import.Memory limits) = FitsLimits limits
 FitsImport (import.Raise type) = Fits type
+FitsImport (import.Pages type) = Fits type
 
--- the memory and the function are imported once each at most
+-- the memory and each of the functions are imported once at most
 abbrev pub AreOnce : (before imports : List Import) → Type 0
 AreOnce before [] = Unit {0}
 AreOnce before (one ∷ others) = (is_among (imported one) before ≡ false) × AreOnce (before ++ one ∷ []) others
@@ -162,11 +164,12 @@ module_octets c =
 abbrev pub named_export : Export → List ℕ × ExportKind
 named_export export = (string_bytes export.name, export.kind)
 
--- A module with one function alone, `run`, which takes one i32 and leaves nothing: it imports the memory and `raise`, and has nothing
--- else. Each run of its locals has one; its sequences stand in order; no br_table of it has labels.
+-- A module with one function alone, `run`, which takes one i32 and leaves nothing: it imports the memory, `raise`, which is of the same
+-- type, and `pages`, from i32 to i32, and has nothing else. Each run of its locals has one; its sequences stand in order; no br_table of
+-- it has labels.
 pub record IsRunAlone (function : Function) (m : Module) : Type 0 where
-  pub types : map signature_of m.types.items ≡ raise_signature ∷ []
-  pub imports : m.imports.items ≡ import.Memory (record { min = 1; max = None }) ∷ import.Raise 0 ∷ []
+  pub types : map signature_of m.types.items ≡ raise_signature ∷ pages_signature ∷ []
+  pub imports : m.imports.items ≡ import.Memory (record { min = 1; max = None }) ∷ import.Raise 0 ∷ import.Pages 1 ∷ []
   pub functions : m.functions.items ≡ function ∷ []
   pub index : function.type_index ≡ 0
   pub locals : AllByRecursion (λ (run : Locals). 1 ≤ run.count) function.locals.items
@@ -174,7 +177,7 @@ pub record IsRunAlone (function : Function) (m : Module) : Type 0 where
   pub labels : function.body.labels.items ≡ []
   pub memories : m.memories.items ≡ []
   pub globals : m.globals.items ≡ []
-  pub exports : map named_export m.exports.items ≡ (codes "run", kind.Function 1) ∷ []
+  pub exports : map named_export m.exports.items ≡ (codes "run", kind.Function 2) ∷ []
 
 -- Such a module of at most 2^22 instructions and 2^22 + 2^20 locals has a spelling of at most 2^26 octets.
 abbrev pub SpelledIn64MiB : Type 0

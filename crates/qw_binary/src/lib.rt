@@ -1,5 +1,5 @@
 //! Modules in the binary format (WebAssembly Core Specification 1.0, 5), as far as the profile goes: no floating point, tables,
-//! indirect calls, start, elements, data; of imports only the memory and the function `raise` of `q`.
+//! indirect calls, start, elements, data; of imports only the memory and the functions `raise` and `pages` of `q`.
 //!
 //! - [`decode::decode`]: the module that octets spell, or the first construct from the left that no rule allows.
 //! - [`encode::encode`]: octets that spell a module.

@@ -30,10 +30,11 @@ pub fn fitting_numbers()
     ensures wide { FitsCode (op (o.Const (const.I64 (2 ^ 64 - 1))) done) }
 {}
 
-/// `raise` doesn't stand twice among imports; it and the memory do.
+/// Neither `raise` nor `pages` stands twice among imports; they and the memory do, in any order.
 pub fn imports_once()
     ensures twice { AreOnce [] (import.Raise 0 ∷ import.Raise 1 ∷ []) → ⊥ }
-    ensures both { AreOnce [] (import.Raise 0 ∷ import.Memory (record { min = 1; max = None }) ∷ []) }
+    ensures again { AreOnce [] (import.Pages 0 ∷ import.Memory (record { min = 1; max = None }) ∷ import.Pages 0 ∷ []) → ⊥ }
+    ensures all { AreOnce [] (import.Pages 1 ∷ import.Raise 0 ∷ import.Memory (record { min = 1; max = None }) ∷ []) }
 {}
 
 /// An `if` with a constant in its first sequence, and none in its second; runs of locals of a count of one octet, and of more; the

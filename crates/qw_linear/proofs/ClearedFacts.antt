@@ -1,5 +1,5 @@
 -- A memory of which pages were cleared: what it keeps, and what the octets of these pages are.
-use Rattle.std.proofs.Common.{◌≡◌, ℕ, zero, suc, ◌+◌, ◌-◌, ◌*◌, ◌<◌, ◌≤◌, List, [], ◌++◌, length, get_or, take, drop, replicate, ◌⊎◌, inl, inr, refl, sym, ap, ◌∙◌, arith}
+use Rattle.std.proofs.Common.{◌≡◌, ℕ, zero, suc, ◌+◌, ◌-◌, ◌*◌, ◌<◌, ◌≤◌, List, [], ◌++◌, length, get_or, take, drop, replicate, ◌⊎◌, inl, inr, refl, ap, ◌∙◌, arith}
 use Rattle.std.proofs.lemmas.List.{get_or-append_right, get_or-replicate, get_or_append_left, get_or-take, get_or-drop, length-append, length-replicate, length-take-le, length-drop, take_all, drop_all, append-nil}
 use Rattle.std.proofs.lemmas.List.Elements.{All-append, All-replicate, All-take, All-drop}
 use Rattle.qw_linear.specs.Memory.{page, number_at, grown_by, cleared, AreOctets}

@@ -1,7 +1,7 @@
 //! Worked cases of the definitions, with numbers, stated as contracts. No function here computes anything.
 
 ghost use Rattle.std.specs.Prelude.{◌≡◌, ℕ, List, [], ◌∷◌, length, slice_index, Some, None};
-ghost use Rattle.qw_linear.specs.Memory.{number_at, with_number, loaded, stored, grown_by, pages_of};
+ghost use Rattle.qw_linear.specs.Memory.{number_at, with_number, loaded, stored, grown_by, cleared, pages_of};
 
 /// Numbers are little endian: the octets 2, 3, 4, 5 stand for 2 + 3 * 256 + 4 * 65536 + 5 * 16777216.
 #[tactic(auto, unfolding(crate::specs::Memory::number_at))]
@@ -37,4 +37,13 @@ pub fn memory_of_two_more_pages()
     ensures kept { (octets : List ℕ) → length octets ≡ 65536 → slice_index (grown_by 2 octets) 65535 ≡ slice_index octets 65535 }
     ensures first { (octets : List ℕ) → length octets ≡ 65536 → slice_index (grown_by 2 octets) 65536 ≡ 0 }
     ensures last { (octets : List ℕ) → length octets ≡ 65536 → slice_index (grown_by 2 octets) 196607 ≡ 0 }
+{}
+
+/// Of a memory of three pages of which the middle one was cleared, the 65,536 octets of that page are 0, and the others are as they were.
+pub fn memory_of_a_cleared_page()
+    ensures length { (octets : List ℕ) → length octets ≡ 196608 → length (cleared 1 1 octets) ≡ 196608 }
+    ensures before { (octets : List ℕ) → length octets ≡ 196608 → slice_index (cleared 1 1 octets) 65535 ≡ slice_index octets 65535 }
+    ensures first { (octets : List ℕ) → length octets ≡ 196608 → slice_index (cleared 1 1 octets) 65536 ≡ 0 }
+    ensures last { (octets : List ℕ) → length octets ≡ 196608 → slice_index (cleared 1 1 octets) 131071 ≡ 0 }
+    ensures behind { (octets : List ℕ) → length octets ≡ 196608 → slice_index (cleared 1 1 octets) 131072 ≡ slice_index octets 131072 }
 {}

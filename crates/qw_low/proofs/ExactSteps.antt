@@ -1,8 +1,8 @@
 -- Rules for code that takes exactly so many steps, over any memory of which M holds, where M speaks only of what others keep.
-use Rattle.std.proofs.Common.{◌≡◌, ℕ, zero, suc, ◌+◌, ◌-◌, ◌*◌, ◌/◌, ◌≤◌, true, false, nat_le, List, ◌++◌, length, Some, None, refl, subst, arith}
+use Rattle.std.proofs.Common.{◌≡◌, ℕ, zero, suc, ◌+◌, ◌*◌, ◌≤◌, true, false, nat_le, List, ◌++◌, length, Some, None, refl, subst}
 use Rattle.std.proofs.lemmas.Bool.{le-leb, and_from, and_left}
 use Rattle.qw_module.specs.Execution.{Config, State, Running, Raised, IsOver, AsksHost, IsPlaceIn, Raises, refusal}
-use Rattle.qw_linear.specs.Memory.{page, most_pages, number_at, with_number, cleared}
+use Rattle.qw_linear.specs.Memory.{page, number_at, with_number, cleared}
 use Rattle.qw_module.specs.Step.{Goes, Asks, Puts, AsksPlace, Signals, wants, can_place}
 use Rattle.qw_module.proofs.Outcomes.{placed-true}
 use Rattle.qw_map.specs.Areas.{World, are_covered, IsFine, GoesOn, IsPlaced, grants}

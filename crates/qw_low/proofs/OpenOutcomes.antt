@@ -91,8 +91,7 @@ module _ (pages : ℕ) (Q : Moment → Type 0) (ended : (b : Moment) → Q b →
       )
   one_more zero (asks asked granted n r) held refused b c before event state after step h =
       let made = asked-made pages asked granted (Exactly (Then pages Q r) n) b.world before (next (grants b.world) (place_at before event) c before) event state after
-      (open-next b c before event state after step) ((rw (step.running) at h.takes) before step.others (place_at before event) (place-at b.world before event step.placed)) in
-      (
+      (open-next b c before event state after step) ((rw (step.running) at h.takes) before step.others (place_at before event) (place-at b.world before event step.placed)) in (
         subst (λ (g : Bool). IsOn pages Q (record { quiet = n; rest = r }) (held_then zero (asks asked g n r) held) (refused_then zero (asks asked g n r) refused) (moment_after b.world before event state after))
             made.2 (by_answer made.0 made.1 made.3),
         omega arith,

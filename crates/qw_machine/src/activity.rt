@@ -361,12 +361,14 @@ impl Activity {
         requires point { IsPoint program.now (rooms_of self.now) (point_of self.now) }
         requires calls { slice_get (instructions_at program.now self.now.function self.now.sequence) self.now.index ≡ Some (Instr.Call index) }
         requires imported { index < length (imported_functions program.now) }
+        requires index { self.now.index < 2 ^ 64 - 1 }
         ensures { (spare : ℕ) (memory : List ℕ) → IsDoneAt program.now (rooms_of self.now) spare (point_of self.now) memory result (point_of self.now) memory }
     {
+        let host = linked_host(&program.imports, index).unwrap();
         let argument = self.operands.top() as u32;
-        match linked_host(&program.imports, index) {
-            Some(Host::Pages) => Stepped::Asked { pages: argument },
-            _ => Stepped::Raised(argument),
+        match host {
+            Host::Raise => Stepped::Raised(argument),
+            Host::Pages => Stepped::Asked { pages: argument },
         }
     }
 

@@ -80,6 +80,7 @@ impl Instance {
     pub fn new(alloc: Global, valid: ValidModule, argument: u32) -> Result<Self, InstanceFault>
         ensures begun { (number : ℕ) → IsShaped valid number → IsDescending valid
             → IfOk result (λ instance. instance ≡ record { program = valid; state = begun valid number argument; asked = None }) }
+        ensures owes_none { IfOk result (λ instance. instance.asked ≡ None) }
         ensures not_shaped { (result ≡ Err InstanceFault.NotShaped) ↔ ((number : ℕ) → IsShaped valid number → ⊥) }
         ensures not_descending { (func : ℕ) → (result ≡ Err (InstanceFault.NotDescending func)) ↔ (((number : ℕ) × IsShaped valid number) × IsFirstAscending valid func) }
     {
@@ -110,7 +111,7 @@ impl Instance {
         Ok(Instance {
             valid,
             imported,
-            ended: if runs { None } else { Some(RunEnd::Returned) },
+            ended: RunEnd::after_leaving(runs),
             asked: None,
             activity,
         })
@@ -195,11 +196,11 @@ impl Instance {
         ensures answered { self.new.asked ≡ None }
         ensures program { self.new.program ≡ self.old.program }
     {
-        let goes = self.activity.answer(self.valid.module(), first.unwrap_or(REFUSAL));
+        let goes = self
+            .activity
+            .answer(self.valid.module(), first.unwrap_or(REFUSAL));
+        self.ended = RunEnd::after_leaving(goes);
         self.asked = None;
-        if !goes {
-            self.ended = Some(RunEnd::Returned);
-        }
         goes
     }
 }

@@ -2,7 +2,7 @@
 
 ghost use Rattle.std.specs.Prelude.{◌≡◌, ◌≤◌, ◌||◌, is_some, IfSome};
 ghost use Rattle.qw_machine.specs.Instance.{asked_by};
-ghost use Rattle.qw_machine.specs.Inner.Ended.{is_over, made_of, run_end_of};
+ghost use Rattle.qw_machine.specs.Inner.Ended.{end_by, is_over, made_of, run_end_of};
 
 use crate::operators::Operated;
 use qw_module::trap::Trap;
@@ -32,10 +32,8 @@ impl Stepped {
         ensures { result ≡ run_end_of self }
     {
         match self {
-            Stepped::Ran
-            | Stepped::Grew { .. }
-            | Stepped::Refused { .. }
-            | Stepped::Asked { .. } => None,
+            Stepped::Ran | Stepped::Grew { .. } | Stepped::Refused { .. } | Stepped::Asked { .. } =>
+                None,
             Stepped::Returned => Some(RunEnd::Returned),
             Stepped::Raised(code) => Some(RunEnd::Raised(code)),
             Stepped::Trapped(why) => Some(RunEnd::Trapped(why)),
@@ -100,6 +98,15 @@ pub(crate) enum RunEnd {
     Returned,
     Raised(u32),
     Trapped(Trap),
+}
+
+impl RunEnd {
+    /// How the run has ended after what was finished was left: not where it goes on, else by its return.
+    pub(crate) fn after_leaving(goes: bool) -> Option<Self>
+        ensures { result ≡ end_by goes }
+    {
+        if goes { None } else { Some(RunEnd::Returned) }
+    }
 }
 
 ghost use Rattle.qw_machine.specs.Inner.Ended.{answer_of};

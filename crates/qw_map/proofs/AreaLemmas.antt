@@ -1,14 +1,12 @@
 -- Areas of a memory: which are apart, and which a step leaves as they were.
-use Rattle.std.proofs.Common.{◌≡◌, ℕ, zero, suc, ◌+◌, ◌-◌, ◌*◌, ◌/◌, ◌<◌, ◌≤◌, ◌⊎◌, ⊎_elim, Bool, true, false, List, [], ◌∷◌, ◌++◌, length, inl, inr, Option, Some, refl, sym, ◌∙◌, arith, append_assoc}
+use Rattle.std.proofs.Common.{◌≡◌, ℕ, zero, suc, ◌+◌, ◌*◌, ◌<◌, ◌≤◌, ⊎_elim, Bool, true, false, List, [], ◌∷◌, ◌++◌, length, inl, inr, refl, sym, ◌∙◌, arith}
 use Rattle.std.specs.Prelude.{slice_index}
 use Rattle.std.specs.List.{AllByRecursion}
-use Rattle.std.proofs.lemmas.List.{append-nil}
-use Rattle.qw_linear.specs.Memory.{page, pages_of, with_number, grown_by, cleared}
+use Rattle.qw_linear.specs.Memory.{page, with_number, grown_by, cleared}
 use Rattle.qw_linear.proofs.ClearedFacts.{cleared-before, cleared-behind}
 use Rattle.std.proofs.lemmas.Bool.{cases_Bool, cases_lt, false≢true}
 use Rattle.qw_module.specs.Execution.{IsPlaceIn}
-use Rattle.qw_linear.proofs.GrowthFacts.{length-grown_by, grown_by-below}
-use Rattle.qw_linear.proofs.MemoryFacts.{length-with_number}
+use Rattle.qw_linear.proofs.GrowthFacts.{grown_by-below}
 use Rattle.qw_module.specs.Step.{Want, Next}
 use Rattle.qw_map.proofs.AccessLemmas.{lies-first, lies-after, lies-apart, with_number-outside}
 use Rattle.qw_map.specs.Areas.{Area, World, SameIn, lies_in_one, are_covered, IsFine, granted_area, LiesBeside, world_after}

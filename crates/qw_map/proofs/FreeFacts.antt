@@ -1,12 +1,12 @@
 -- What becomes of flags that are marked or added, and which areas are apart by them.
-use Rattle.std.proofs.Common.{◌≡◌, ◌≢◌, ℕ, zero, suc, ◌+◌, ◌-◌, ◌*◌, ◌/◌, ◌<◌, ◌≤◌, ◌&&◌, Bool, true, false, List, [], ◌∷◌, ◌++◌, length, replicate, Option, Some, None, slice_get, slice_set, ◌⊎◌, inl, inr, refl, sym, ap, ◌∙◌, subst, ⊎_elim, arith, length-set}
+use Rattle.std.proofs.Common.{◌≡◌, ◌≢◌, ℕ, zero, suc, ◌+◌, ◌-◌, ◌*◌, ◌/◌, ◌<◌, ◌≤◌, Bool, true, false, List, [], ◌∷◌, ◌++◌, length, replicate, Option, Some, None, slice_get, slice_set, ◌⊎◌, inl, inr, refl, sym, ap, ◌∙◌, subst, ⊎_elim, arith, length-set}
 use Rattle.std.specs.List.{AllByRecursion}
 use Rattle.std.proofs.lemmas.Bool.{cases_Bool, cases_lt, and_parts, or_parts, or_from, false≢true}
 use Rattle.std.proofs.lemmas.Option.{same_Some, none-some, slice_get_within}
 use Rattle.qw_linear.specs.Memory.{page}
 use Rattle.qw_map.specs.Areas.{Area, lies_in, lies_in_one}
 use Rattle.qw_map.proofs.AccessLemmas.{lies-in, lies-in-bounds}
-use Rattle.qw_map.specs.Turns.{AreApart, AllApart}
+use Rattle.qw_map.specs.Turns.{AreApart}
 use Rattle.qw_map.proofs.TurnFacts.{slice_get-set_same, slice_get-set_other, found-in}
 use Rattle.qw_map.specs.Free.{begins_run, lowest_run, marked, given_back, IsTaken}
 

@@ -1,16 +1,16 @@
 -- What a step makes of free pages, and what lies apart after it.
-use Rattle.std.proofs.Common.{◌≡◌, ◌≢◌, ℕ, zero, suc, ◌+◌, ◌-◌, ◌*◌, ◌/◌, ◌<◌, ◌≤◌, ◌==◌, Bool, true, false, List, [], ◌∷◌, ◌++◌, length, replicate, Option, Some, None, slice_get, slice_set, ◌⊎◌, inl, inr, refl, sym, ap, ◌∙◌, subst, ⊎_elim, arith, length-set, if◌then◌else◌, length-append}
+use Rattle.std.proofs.Common.{◌≡◌, ◌≢◌, ℕ, zero, suc, ◌+◌, ◌-◌, ◌*◌, ◌<◌, ◌≤◌, Bool, true, false, List, [], ◌∷◌, ◌++◌, length, replicate, Option, Some, slice_get, slice_set, ◌⊎◌, inl, inr, refl, sym, ap, ◌∙◌, subst, ⊎_elim, arith, length-append}
 use Rattle.std.specs.List.{AllByRecursion}
 use Rattle.std.proofs.lemmas.List.{append-nil, length-replicate}
-use Rattle.std.proofs.lemmas.Bool.{cases_Bool, cases_eq, cases_lt, false≢true}
+use Rattle.std.proofs.lemmas.Bool.{cases_eq, cases_lt, false≢true}
 use Rattle.std.proofs.lemmas.Option.{same_Some, none-some, slice_get_within}
 use Rattle.qw_linear.specs.Memory.{page, most_pages, pages_of, AreOctets}
-use Rattle.qw_map.specs.Areas.{Area, World, SameIn, Others, granted_area}
-use Rattle.qw_map.proofs.AreaLemmas.{all-append, all-front, all-back, all-weaker, all-same}
+use Rattle.qw_map.specs.Areas.{Area, World, granted_area}
+use Rattle.qw_map.proofs.AreaLemmas.{all-append, all-weaker}
 use Rattle.qw_map.proofs.TurnFacts.{slice_get-set_same, slice_get-set_other}
-use Rattle.qw_map.specs.Free.{lowest_run, place_among, marked, given_back, IsTaken}
-use Rattle.qw_map.specs.Turns.{AreApart, AllApart, Instance, Common, Shared, is_back, own_of, with_instance, EachInstance, may_ask, AreSeparate}
-use Rattle.qw_map.proofs.FreeFacts.{none-true, new-false, get-kept, true-before, added-false, length-marked, marked-there, false-marked-true, false-marked-false, place-free, IsNew, new-apart, taken-kept, back-behind, taken-back, length-back}
+use Rattle.qw_map.specs.Free.{marked, given_back, IsTaken}
+use Rattle.qw_map.specs.Turns.{AreApart, AllApart, Instance, Common, Shared, own_of, with_instance, EachInstance, may_ask, AreSeparate}
+use Rattle.qw_map.proofs.FreeFacts.{none-true, new-false, get-kept, true-before, added-false, length-marked, marked-there, false-marked-true, false-marked-false, IsNew, new-apart, taken-kept, back-behind, taken-back, length-back}
 
 -- What a step makes of what is common and of what an instance has: own areas were added, whole pages of which none was taken, and none
 -- of them is free then; the memory is no shorter, and the instance may ask for fewer pages by what it grew, or more.
@@ -106,10 +106,10 @@ module _ (behind : ℕ) (common : Common) (w : World) (whole : length common.mem
     run-new zero is = tt
     run-new (suc m) is = (
       (λ p from to h.
-      let k : ℕ = p - first in
-      let there : first + k ≡ p = omega (arith, from) in
-      let one : slice_get common.free p ≡ Some true = subst (λ (q : ℕ). slice_get common.free q ≡ Some true) there (free k (omega (arith, to, is))) in
-      false≢true (same_Some false true (sym h ∙ one))),
+          let k : ℕ = p - first in
+          let there : first + k ≡ p = omega (arith, from) in
+          let one : slice_get common.free p ≡ Some true = subst (λ (q : ℕ). slice_get common.free q ≡ Some true) there (free k (omega (arith, to, is))) in
+          false≢true (same_Some false true (sym h ∙ one))),
       tt,
     )
 

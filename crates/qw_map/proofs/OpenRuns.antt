@@ -4,7 +4,7 @@ use Rattle.std.proofs.lemmas.Bool.{cases_Bool, le-leb, leb-true, and_from, eq-eq
 use Rattle.qw_module.specs.Execution.{Config, State, Running, Returned, Raised, Trapped, IsPlaceIn, Event, Silent, Loads, Stores, Grows, AsksHost, Raises, Traps, IsOver}
 use Rattle.qw_linear.specs.Memory.{page, most_pages, pages_of}
 use Rattle.qw_module.specs.Step.{Want, wants, can_place, answered, Next, next, Agrees}
-use Rattle.qw_map.specs.Areas.{World, Others, IsFine, AsksWithin, IsAnswered, LieFree, IsPlaced, IsPlace, grants}
+use Rattle.qw_map.specs.Areas.{World, Others, IsFine, AsksWithin, IsAnswered, IsPlaced, IsPlace, grants}
 use Rattle.qw_map.specs.Inner.Steps.{IsAllowed}
 use Rattle.qw_map.specs.Runs.{Moment, moment_after, OpenStep, OpenRun, begins, goes_on, BehavesWithin}
 use Rattle.qw_map.specs.Inner.Steps.{OnStep, OnRunning, Within}

@@ -1,5 +1,5 @@
 -- Instances that share a memory: a step of one is what others may do to the rest, so turns are open runs.
-use Rattle.std.proofs.Common.{◌≡◌, ◌≢◌, ℕ, zero, suc, ◌+◌, ◌-◌, ◌*◌, ◌/◌, ◌<◌, ◌≤◌, ◌==◌, Bool, true, false, List, [], ◌∷◌, ◌++◌, length, Option, Some, None, is_some, slice_get, slice_set, ◌⊎◌, inl, inr, refl, sym, ap, ◌∙◌, subst, ⊎_elim, arith, length-set, unwrap_or, if◌then◌else◌}
+use Rattle.std.proofs.Common.{◌≡◌, ◌≢◌, ℕ, zero, suc, ◌+◌, ◌-◌, ◌*◌, ◌/◌, ◌<◌, ◌≤◌, ◌==◌, Bool, true, false, List, length, Option, Some, None, is_some, slice_get, ◌⊎◌, inl, inr, refl, sym, ap, ◌∙◌, subst, ⊎_elim, arith, length-set, unwrap_or}
 use Rattle.std.specs.Prelude.{slice_index}
 use Rattle.std.specs.List.{AllByRecursion}
 use Rattle.std.proofs.lemmas.Bool.{leb-true, cases_Bool, eqb-true, eq-eqb, false≢true}
@@ -13,7 +13,7 @@ use Rattle.qw_module.specs.Step.{Want, wants, Next, next}
 use Rattle.qw_map.specs.Areas.{Area, World, SameIn, Others, lies_in_one, IsFine, AsksOn, grants, LiesBeside, LieFree, IsPlace, world_after}
 use Rattle.qw_map.specs.Free.{lowest_run, place_among, IsTaken}
 use Rattle.qw_map.specs.Runs.{Moment, moment_after, OpenStep, OpenRun, begins, goes_on, Behaves, BehavesWithin}
-use Rattle.qw_map.specs.Turns.{End, Done, Instance, Common, Shared, gives_back, is_back, own_of, flags_after, moved_by, common_after, placing, given, with_instance, Act, turns, EachInstance, EachAfter, AreApart, AllApart, LiesWithin, AreSeparate, moment_of, StaysFine, AreSafe, LeadsTo}
+use Rattle.qw_map.specs.Turns.{End, Done, Instance, Common, Shared, gives_back, is_back, own_of, flags_after, moved_by, common_after, placing, given, with_instance, Act, turns, EachInstance, EachAfter, AllApart, LiesWithin, AreSeparate, moment_of, StaysFine, AreSafe, LeadsTo}
 use Rattle.qw_map.proofs.AreaLemmas.{all-weaker, all-same, all-then, outcome-kept, outcome-octet}
 use Rattle.qw_map.proofs.AccessLemmas.{lies-ahead, lies-in-none}
 use Rattle.qw_map.proofs.FreeFacts.{place-free, run-beside, taken-within, gained-out, back-outside}

@@ -1,5 +1,5 @@
 -- What memory answers, as one case for each answer.
-use Rattle.std.proofs.Common.{◌≡◌, ℕ, ◌+◌, ◌<◌, ◌≤◌, ◌==◌, nat_le, Bool, true, false, ◌&&◌, ◌||◌, inl, inr, refl, List, length, Some, None, subst, ⊎_elim}
+use Rattle.std.proofs.Common.{◌≡◌, ℕ, ◌+◌, ◌<◌, ◌≤◌, ◌==◌, nat_le, Bool, true, false, ◌&&◌, ◌||◌, inl, inr, List, length, Some, None, subst, ⊎_elim}
 use Rattle.std.proofs.lemmas.Bool.{leb-true, leb-false, le-leb, and_parts, and_from, or_left, or_right, or_cases, eqb-true, eq-eqb, cases_Bool}
 use Rattle.std.proofs.lemmas.Option.{same_Some, none-some}
 use Rattle.qw_linear.specs.Memory.{most_pages, number_at, with_number, grown_by, cleared, pages_of}

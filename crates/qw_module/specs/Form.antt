@@ -1,4 +1,5 @@
--- Forms of a code that the standard has no word for: it never asks for the memory's size, and its calls nest only so deep.
+-- Forms of a code that the standard has no word for: it never asks for the memory's size, it never lets the memory grow, and its calls
+-- nest only so deep.
 use Rattle.std.specs.Prelude.{ℕ, zero, suc, ◌+◌, List, length, All, Option, Some, None, slice_get}
 use Rattle.qw_module.specs.declared.instruction.Op.{Op}
 use Rattle.qw_module.specs.declared.instruction.Op.TheVariants as o
@@ -14,24 +15,38 @@ abbrev pub IsNoSize : Op → Type 0
 IsNoSize o.MemorySize = ⊥
 IsNoSize _ = Unit {0}
 
--- there is no `memory.size` in a code, nor in what is nested in it
+-- and no `memory.grow`
+abbrev pub IsNoGrowth : Op → Type 0
+IsNoGrowth o.MemoryGrow = ⊥
+IsNoGrowth _ = Unit {0}
+
+-- each operator of a code, and of what is nested in it, is one of these
+abbrev pub OperatorsAre : (Op → Type 0) → Code → Type 0
+OperatorsAre These done = Unit {0}
+OperatorsAre These (op o rest) = These o × OperatorsAre These rest
+OperatorsAre These (unreachable rest) = OperatorsAre These rest
+OperatorsAre These (block result inner rest) = OperatorsAre These inner × OperatorsAre These rest
+OperatorsAre These (loop result inner rest) = OperatorsAre These inner × OperatorsAre These rest
+OperatorsAre These (if_then result inner rest) = OperatorsAre These inner × OperatorsAre These rest
+OperatorsAre These (if_else result inner other rest) = OperatorsAre These inner × OperatorsAre These other × OperatorsAre These rest
+OperatorsAre These (br label rest) = OperatorsAre These rest
+OperatorsAre These (br_if label rest) = OperatorsAre These rest
+OperatorsAre These (br_table labels default rest) = OperatorsAre These rest
+OperatorsAre These (return rest) = OperatorsAre These rest
+OperatorsAre These (call index rest) = OperatorsAre These rest
+
 abbrev pub HasNoSize : Code → Type 0
-HasNoSize done = Unit {0}
-HasNoSize (op o rest) = IsNoSize o × HasNoSize rest
-HasNoSize (unreachable rest) = HasNoSize rest
-HasNoSize (block result inner rest) = HasNoSize inner × HasNoSize rest
-HasNoSize (loop result inner rest) = HasNoSize inner × HasNoSize rest
-HasNoSize (if_then result inner rest) = HasNoSize inner × HasNoSize rest
-HasNoSize (if_else result inner other rest) = HasNoSize inner × HasNoSize other × HasNoSize rest
-HasNoSize (br label rest) = HasNoSize rest
-HasNoSize (br_if label rest) = HasNoSize rest
-HasNoSize (br_table labels default rest) = HasNoSize rest
-HasNoSize (return rest) = HasNoSize rest
-HasNoSize (call index rest) = HasNoSize rest
+HasNoSize code = OperatorsAre IsNoSize code
+
+abbrev pub HasNoGrowth : Code → Type 0
+HasNoGrowth code = OperatorsAre IsNoGrowth code
 
 -- the same of a module: of each function of its own
 abbrev pub NeverAsksSize : Module → Type 0
 NeverAsksSize m = All (λ (function : Function). HasNoSize (code_of_body function.body)) m.functions.items
+
+abbrev pub NeverGrows : Module → Type 0
+NeverGrows m = All (λ (function : Function). HasNoGrowth (code_of_body function.body)) m.functions.items
 
 -- each function that a code calls is one of these
 abbrev pub CallsOnly : (ℕ → Type 0) → Code → Type 0

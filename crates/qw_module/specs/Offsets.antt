@@ -1,5 +1,5 @@
 -- The offsets of a code's accesses have 32 bits (2.4.4, 5.4.4), which typing leaves open.
-use Rattle.std.specs.Prelude.{◌^◌, ◌<◌, ℕ}
+use Rattle.std.specs.Prelude.{◌^◌, ◌<◌}
 use Rattle.qw_module.specs.declared.instruction.Op.{Op}
 use Rattle.qw_module.specs.declared.instruction.Op.TheVariants as o
 use Rattle.qw_module.specs.Syntax.{Code, done, op, unreachable, block, loop, if_then, if_else, br, br_if, br_table, return, call}

@@ -3,7 +3,7 @@ use Rattle.std.specs.Prelude.{ℕ, true, false, List, [], ◌∷◌}
 use Rattle.qw_module.specs.declared.instruction.Instr.{Instr}
 use Rattle.qw_module.specs.declared.instruction.ValType.TheVariants.{I32, I64}
 use Rattle.qw_module.specs.Syntax.{Code, done, return, Sequences}
-use Rattle.qw_module.specs.Execution.{Closure, Callee, Store, host_raise, own, Config, Context}
+use Rattle.qw_module.specs.Execution.{Closure, Callee, Store, host_raise, host_pages, own, Config, Context}
 use Rattle.qw_module.specs.Typing.{Outside, Scope, scope_of}
 
 -- A module with a memory, a function from an i32 and an i64 to an i64, a global that may be set and one that may not; and one with nothing.
@@ -31,6 +31,11 @@ store = record { functions = host_raise ∷ own function ∷ []; globals = 9 ∷
 -- an instance that runs a code
 abbrev pub at_code : Code → (operands : List ℕ) → List Context → Config
 at_code code operands contexts = record { store = store; code = code; operands = operands; locals = 8 ∷ []; contexts = contexts }
+
+-- an instance of a module that imports `pages` alone, which runs a code
+abbrev pub asking : Code → (operands : List ℕ) → Config
+asking code operands =
+    record { store = record { functions = host_pages ∷ []; globals = [] }; code = code; operands = operands; locals = 8 ∷ []; contexts = [] }
 
 -- a body of one sequence
 abbrev pub alone : List Instr → Sequences

@@ -4,7 +4,7 @@
 ghost use Rattle.std.specs.Prelude.{◌≡◌, ℕ, [], ◌∷◌, List, Some, None, Ok, Err, true, false};
 ghost use Rattle.qw_module.specs.Numbers.{unary, binary, division, relation, converted, loaded_value, load_width, store_width, constant, values_of};
 ghost use Rattle.qw_module.specs.Numbers.{converts_from, converts_to, type_of_load, type_of_store, type_of_constant};
-ghost use Rattle.qw_module.specs.Execution.{effective, refusal, label, frame, Running, Returned, Raised, Trapped, Silent, Grows, Raises, Traps};
+ghost use Rattle.qw_module.specs.Execution.{effective, refusal, label, frame, Running, Returned, Raised, Trapped, Silent, Grows, AsksHost, Raises, Traps};
 ghost use Rattle.qw_module.specs.Step.{op_wants, Leaves, Sets, Fails', next};
 ghost use Rattle.qw_module.specs.Start.{weight, weights_below};
 ghost use Rattle.qw_module.specs.Typing.{OpTyped, Typed, within};
@@ -12,8 +12,9 @@ ghost use Rattle.qw_module.specs.Syntax.{done, op, unreachable, block, loop, if_
 ghost use Rattle.qw_module.specs.Places.{Typing, tokens_of, plain, block_begins, if_begins, else_begins, ends, branches};
 ghost use Rattle.qw_module.specs.Validity.{IsValidMemory, IsInitial, declared_types};
 ghost use Rattle.qw_module.specs.Start.{initial_value};
-ghost use Rattle.qw_module.specs.Form.{HasNoSize, NestIn};
-ghost use Rattle.qw_module.specs.Worked.{scope, outside, nothing, store, at_code, alone, plain_function};
+ghost use Rattle.qw_module.specs.Form.{HasNoSize, HasNoGrowth, NestIn};
+ghost use Rattle.qw_module.specs.Worked.{scope, outside, nothing, store, at_code, asking, alone, plain_function};
+ghost use Rattle.qw_linear.specs.Memory.{cleared, pages_of};
 ghost use Rattle.qw_module.specs.Execution.{host_raise, own};
 ghost use Rattle.qw_module.specs.declared.trap.Trap.TheVariants.{DivideByZero, Overflow, OutOfBounds, Unreachable};
 ghost use Rattle.qw_module.specs.declared.instruction.Sign.TheVariants.{Signed, Unsigned};
@@ -199,6 +200,22 @@ pub fn call_steps()
     ensures ended { next (λ _. true) (λ _. 0) (at_code (return done) [] (label done 0 [] done ∷ [])) [] ≡ Some (record { event = Silent; state = Returned; memory = [] }) }
 {}
 
+/// Calls of `pages` (4.4.7, "Host Functions"). A request for two is granted at the memory's next pages, or at two neighbouring ones that it
+/// has, which are cleared, and leaves the number of the first. It is refused, which leaves -1, where the host grants none, where the second
+/// page is one that the memory hasn't, and where the first lies past its next one.
+pub fn pages_steps()
+    ensures next_pages { next (λ _. true) (λ _. 0) (asking (call 0 (br 0 done)) (2 ∷ 6 ∷ [])) []
+        ≡ Some (record { event = AsksHost 2 (Some 0); state = Running (asking (br 0 done) (0 ∷ 6 ∷ [])); memory = cleared 0 2 [] }) }
+    ensures neighbours { (m : List ℕ) → pages_of m ≡ 3 → next (λ _. true) (λ _. 1) (asking (call 0 (br 0 done)) (2 ∷ 6 ∷ [])) m
+        ≡ Some (record { event = AsksHost 2 (Some 1); state = Running (asking (br 0 done) (1 ∷ 6 ∷ [])); memory = cleared 1 2 m }) }
+    ensures refused { next (λ _. false) (λ _. 0) (asking (call 0 (br 0 done)) (2 ∷ 6 ∷ [])) []
+        ≡ Some (record { event = AsksHost 2 None; state = Running (asking (br 0 done) (4294967295 ∷ 6 ∷ [])); memory = [] }) }
+    ensures past_the_last { (m : List ℕ) → pages_of m ≡ 3 → next (λ _. true) (λ _. 2) (asking (call 0 (br 0 done)) (2 ∷ 6 ∷ [])) m
+        ≡ Some (record { event = AsksHost 2 None; state = Running (asking (br 0 done) (4294967295 ∷ 6 ∷ [])); memory = m }) }
+    ensures past_the_next { next (λ _. true) (λ _. 1) (asking (call 0 (br 0 done)) (2 ∷ 6 ∷ [])) []
+        ≡ Some (record { event = AsksHost 2 None; state = Running (asking (br 0 done) (4294967295 ∷ 6 ∷ [])); memory = [] }) }
+{}
+
 /// A memory's limits (3.2.1, 3.2.4) and a global's first value (3.4.4), on both sides of each.
 pub fn limits_and_globals()
     ensures memory { IsValidMemory (record { min = 65536; max = None }) × IsValidMemory (record { min = 3; max = Some 65536 }) × IsValidMemory (record { min = 3; max = Some 3 }) }
@@ -231,6 +248,9 @@ pub fn forms()
     ensures size { HasNoSize (op o.MemorySize done) → ⊥ }
     ensures nested_size { HasNoSize (op o.Nop (block None (op o.Nop (op o.MemorySize done)) done)) → ⊥ }
     ensures size_in_else { HasNoSize (loop None (if_else None done (op o.MemorySize done) done) done) → ⊥ }
+    ensures no_growth { HasNoGrowth (block None (op o.MemorySize (if_else None done (call 1 done) done)) (loop None (op o.Nop done) done)) }
+    ensures growth { HasNoGrowth (op o.MemoryGrow done) → ⊥ }
+    ensures nested_growth { HasNoGrowth (op o.Nop (block None (if_then None (op o.MemoryGrow done) done) done)) → ⊥ }
     ensures raised { NestIn (host_raise ∷ []) 0 0 }
     ensures called { NestIn (host_raise ∷ plain_function (call 0 done) ∷ plain_function (block None (call 1 done) (call 0 done)) ∷ []) 2 2 }
     ensures of_its_own { NestIn (host_raise ∷ plain_function done ∷ []) 0 1 → ⊥ }

@@ -1,8 +1,8 @@
 -- Filling in changes no magnitude, and nothing can raise that couldn't.
-use Rattle.std.proofs.Common.{◌≡◌, Bool, ◌||◌, max, refl, ap, ap₂}
+use Rattle.std.proofs.Common.{◌≡◌, refl}
 use Rattle.qw_scalar.specs.Closed.{Given, closed, closed_all, closed_in}
 use Rattle.qw_scalar.proofs.Closing.{closed_scale}
-use Rattle.qw_scalar.specs.Expression.{Expression, Condition, Operands, null, number, date, text, column, arithmetic, negative, extract, brought, choice, given, cell, comparison, predicate, both, either, negation_of, is, found, nil, operand, scale_of}
+use Rattle.qw_scalar.specs.Expression.{Expression, Condition, Operands, null, number, date, text, column, arithmetic, negative, extract, brought, choice, given, cell, comparison, predicate, both, either, negation_of, is, found, nil, operand}
 use Rattle.qw_raise.specs.Raise.{can_raise, condition_can_raise, is_safe_divisor, magnitude, operands_can_raise}
 
 pub closed_magnitude : (g : Given) (e : Expression) → magnitude (closed g e) ≡ magnitude e

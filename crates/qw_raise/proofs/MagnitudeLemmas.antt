@@ -115,5 +115,5 @@ within_magnitude row (brought a s) t h =
 within_magnitude row (choice c a b) t h =
     then_holds (truth_of c (at_row row)) (λ u. chosen u (value_of a (at_row row)) (value_of b (at_row row))) (λ u. Unit {0}) (IsWithin (max (magnitude a) (magnitude b))) (always (truth_of c (at_row row)))
     (λ u hu. chosen_within (magnitude a) (magnitude b) u (value_of a (at_row row)) (value_of b (at_row row)) (within_magnitude row a t.1.0.0 h.1.0) (within_magnitude row b t.1.0.1 h.1.1))
-within_magnitude row (given w k most v) t h = capped_within most v t.0.1 t.1.1
+within_magnitude row (given w k most v) t h = capped_within most v t.0.1 t.1.0.1
 within_magnitude row (cell i ty most) t h = capped_within most (bounded most (cell_of (slice_get row i))) t.1 (bounded_within most (cell_of (slice_get row i)))

@@ -286,7 +286,7 @@ mutual
       let g = chosen_gives (magnitude a) (magnitude b) u.truth (value_of a (at_row row)) (value_of b (at_row row))
       (quiet_value row a t.1.0.0 h.1.0 results.0) (quiet_value row b t.1.0.1 h.1.1 results.1) in
       record { value = g.value; is = rw u.is g.is; within = g.within }
-  quiet_value row (given w k most v) t h q = record { value = v; is = refl; within = capped_within most v t.0.1 t.1.1 }
+  quiet_value row (given w k most v) t h q = record { value = v; is = refl; within = capped_within most v t.0.1 t.1.0.1 }
   quiet_value row (cell i ty most) t h q =
       let v : Val = bounded most (cell_of (slice_get row i)) in
       record { value = v; is = refl; within = capped_within most v t.1 (bounded_within most (cell_of (slice_get row i))) }

@@ -1,13 +1,14 @@
 //! Worked cases of the definitions. No function here computes anything. ID is an INTEGER, PRICE a DECIMAL(9, 2).
 
-ghost use Rattle.std.specs.Prelude.{◌≡◌, pos, negsuc, false, true};
+ghost use Rattle.std.specs.Prelude.{◌≡◌, [], ◌∷◌, pos, negsuc, false, true};
+ghost use Rattle.qw_types.specs.declared.kind.Kind.TheVariants as kind;
 ghost use Rattle.qw_types.specs.declared.value.Ty.TheVariants as type;
 ghost use Rattle.qw_types.specs.declared.value.Val.TheVariants.{Null, Num, Date};
 ghost use Rattle.qw_scalar.specs.declared.comparison.Comparison.TheVariants.{Equal, Greater};
 ghost use Rattle.qw_scalar.specs.declared.expression.Field.TheVariants.{Year};
 ghost use Rattle.qw_scalar.specs.declared.expression.Operator.TheVariants.{Add, Subtract, Multiply, Divide};
 ghost use Rattle.qw_scalar.specs.declared.expression.Predicate.TheVariants.{IsNull};
-ghost use Rattle.qw_scalar.specs.Expression.{among, arithmetic, between, case, coalesced, column, comparison, date, extract, last, more, negation_of, negative, null, number, otherwise, predicate, unless_among, when};
+ghost use Rattle.qw_scalar.specs.Expression.{among, arithmetic, between, case, cell, coalesced, column, comparison, date, extract, found, given, last, more, negation_of, negative, nil, null, number, operand, otherwise, parameter, predicate, single, unless_among, when};
 ghost use Rattle.qw_raise.specs.Raise.{can_raise, condition_can_raise, magnitude};
 ghost use Rattle.qw_raise.specs.Range.{Fits};
 
@@ -72,6 +73,21 @@ pub fn constructs()
         × (can_raise (unless_among (more (column 0 type.Integer) (last (column 0 type.Integer)))) ≡ false) }
     ensures branch { (can_raise (case (when (comparison Equal (arithmetic Divide (number (pos 1) 0) (column 0 type.Integer)) (number (pos 1) 0)) (number (pos 1) 0) (otherwise (number (pos 2) 0)))) ≡ true)
         × (can_raise (case (when (comparison Equal (column 0 type.Integer) (number (pos 1) 0)) null (otherwise (number (pos 2) 0)))) ≡ false) }
+{}
+
+/// Of a value that is filled in, and of a column that is told to have so much at most, that is the magnitude, and neither raises; told past 18
+/// digits it is 999999999999999999. A quotient by a value that is filled in can raise, also by 2, which any other value may take the place of.
+/// IN over the rows of a subquery can raise where what is asked or a key can, and not otherwise (ISO/IEC 9075:1992, 6.2, 6.5, 7.11).
+pub fn what_is_filled_in()
+    ensures magnitudes { (magnitude (given (parameter 0) (kind.Number 2) 99 Null) ≡ 99) × ((magnitude (given (single 0) (kind.Number 2) 1000000000000000000 (Num (pos 1))) ≡ 999999999999999999)
+        × ((magnitude (cell 0 (type.Decimal 18 2) 500) ≡ 500) × (magnitude (cell 0 (type.Decimal 18 2) 1000000000000000000) ≡ 999999999999999999))) }
+    ensures quiet { (can_raise (given (parameter 0) (kind.Number 2) 99 Null) ≡ false) × ((can_raise (cell 0 (type.Decimal 18 2) 500) ≡ false)
+        × (can_raise (arithmetic Multiply (cell 0 (type.Decimal 18 2) 500) (given (parameter 0) (kind.Number 2) 99 Null)) ≡ false)) }
+    ensures divided { (can_raise (arithmetic Divide (column 0 type.Integer) (given (parameter 0) (kind.Number 0) 9 (Num (pos 2)))) ≡ true)
+        × (can_raise (arithmetic Divide (column 0 type.Integer) (cell 1 type.Integer 9)) ≡ true) }
+    ensures asked { (condition_can_raise (found 0 (operand (arithmetic Divide (number (pos 1) 0) (column 0 type.Integer)) nil) nil (kind.Number 0 ∷ []) []) ≡ true)
+        × ((condition_can_raise (found 0 (operand (column 0 type.Integer) nil) (operand (column 0 type.Integer) (operand (arithmetic Divide (number (pos 1) 0) (column 0 type.Integer)) nil)) (kind.Number 0 ∷ []) []) ≡ true)
+        × (condition_can_raise (found 0 (operand (column 0 type.Integer) nil) (operand (column 0 type.Integer) nil) (kind.Number 0 ∷ kind.Number 0 ∷ []) []) ≡ false)) }
 {}
 
 /// In the range of an INTEGER: null, -2147483648; not 3000000000, nor a date. Of a DECIMAL(9, 2): 9999999.99, not 10000000.00.

@@ -1,14 +1,11 @@
 -- Filling in changes neither kinds nor scales nor columns, and what is typed stays so.
-use Rattle.std.proofs.Common.{◌≡◌, ℕ, ◌≤◌, ◌+◌, IsTrue, Option, refl, sym, subst, ap, ap₂}
+use Rattle.std.proofs.Common.{◌≡◌, ℕ, List, [], ◌∷◌, refl}
 use Rattle.qw_types.specs.declared.kind.Kind.{Kind}
-use Rattle.qw_types.specs.declared.kind.Kind.TheVariants as kind
 use Rattle.qw_types.specs.declared.value.Ty.{Ty}
-use Rattle.qw_scalar.specs.declared.expression.Operator.{Operator}
-use Rattle.qw_scalar.specs.declared.expression.Operator.TheVariants.{Add, Subtract, Multiply, Divide}
 use Rattle.qw_scalar.specs.Closed.{Fills, FillsAll, FillsIn, Given, closed, closed_all, closed_in}
 use Rattle.qw_scalar.specs.Columns.{HasColumns, HaveColumns, OperandsHave}
-use Rattle.qw_scalar.specs.Expression.{Expression, Condition, Operands, null, number, date, text, column, arithmetic, negative, extract, brought, choice, given, cell, comparison, predicate, both, either, negation_of, is, found, nil, operand, scale_after, scale_of}
-use Rattle.qw_scalar.specs.Typing.{AreTyped, IsTyped, OperandsAreTyped, ScalesAllowed, agree, are_comparable, is_date, is_number, kind_of}
+use Rattle.qw_scalar.specs.Expression.{Expression, Condition, Operands, null, number, date, text, column, arithmetic, negative, extract, brought, choice, given, cell, comparison, predicate, both, either, negation_of, is, found, nil, operand, scale_of}
+use Rattle.qw_scalar.specs.Typing.{AreTyped, IsTyped, OperandsAreTyped, kind_of, meet_cells}
 
 pub closed_scale : (g : Given) (e : Expression) → scale_of (closed g e) ≡ scale_of e
 closed_scale g null = refl
@@ -38,6 +35,13 @@ closed_kind g (choice c a b) = rw (closed_kind g a, closed_kind g b) refl
 closed_kind g (given w k most v) = refl
 closed_kind g (cell i ty most) = refl
 
+closed_meet : (g : Given) (keys asked : Operands) (kinds : List Kind) → meet_cells (closed_all g keys) (closed_all g asked) kinds ≡ meet_cells keys asked kinds
+closed_meet g nil nil kinds = refl
+closed_meet g nil (operand e es) [] = refl
+closed_meet g nil (operand e es) (k ∷ kinds) = rw (closed_kind g e, closed_meet g nil es kinds) refl
+closed_meet g (operand e es) asked [] = refl
+closed_meet g (operand e es) asked (k ∷ kinds) = rw (closed_kind g e, closed_meet g es asked kinds) refl
+
 mutual
   pub closed_typed : (g : Given) (e : Expression) → IsTyped e → Fills g e → IsTyped (closed g e)
   closed_typed g null h f = h
@@ -62,7 +66,7 @@ mutual
   closed_typed_in g (either c d) h f = (closed_typed_in g c h.0 f.0, closed_typed_in g d h.1 f.1)
   closed_typed_in g (negation_of c) h f = closed_typed_in g c h f
   closed_typed_in g (is c t) h f = closed_typed_in g c h f
-  closed_typed_in g (found n asked keys kinds rows) h f = ((closed_typed_all g asked h.0.0 f.0.0, closed_typed_all g keys h.0.1 f.0.1), f.1)
+  closed_typed_in g (found n asked keys kinds rows) h f = ((closed_typed_all g asked h.0.0 f.0.0, closed_typed_all g keys h.0.1 f.0.1), (f.1, rw (closed_meet g keys asked kinds) h.1.1))
 
   pub closed_typed_all : (g : Given) (es : Operands) → OperandsAreTyped es → FillsAll g es → OperandsAreTyped (closed_all g es)
   closed_typed_all g nil h f = h

@@ -18,7 +18,7 @@ mutual
   columns_more Holds More more (brought a s) h = columns_more Holds More more a h
   columns_more Holds More more (choice c a b) h =
       (conditions_more Holds More more c h.0, (columns_more Holds More more a h.1.0, columns_more Holds More more b h.1.1))
-  columns_more Holds More more (given n k most v) h = h
+  columns_more Holds More more (given w k most v) h = h
   columns_more Holds More more (cell i ty most) h = more i ty h
 
   pub conditions_more : (Holds More : ℕ → Ty → Type 0) → ((i : ℕ) (ty : Ty) → Holds i ty → More i ty) → (c : Condition) → HaveColumns Holds c → HaveColumns More c

@@ -167,5 +167,5 @@ typed_value (choice d a b) row h c =
     then_gives (truth_of d (at_row row)) _ (λ t. Unit {0}) (kind_of (choice d a b)) (always (truth_of d (at_row row)))
     (λ t _. chosen_given (kind_of a) (kind_of b) t (value_of a (at_row row)) (value_of b (at_row row)) h.1.1
     (typed_value a row h.1.0.0 c.1.0) (typed_value b row h.1.0.1 c.1.1))
-typed_value (given n k most v) row h c = h.1.0
+typed_value (given w k most v) row h c = h.1.0.0
 typed_value (cell i ty most) row h c = bounded_given (type_kind ty) most (cell_of (slice_get row i)) c

@@ -1,18 +1,19 @@
--- What subqueries and parameters give, filled into expressions before they are evaluated.
+-- What dynamic parameters and subqueries give (ISO/IEC 9075:1992, 6.2, 7.11), filled into expressions and conditions before these are evaluated: each
+-- gives the same at every row, so a row and an expression that is filled in are all that evaluation needs.
 use Rattle.std.specs.Prelude.{ℕ, List, [], ◌∷◌, Option, Some, None, slice_get}
 use Rattle.std.specs.List.{AllByRecursion}
-use Rattle.qw_types.specs.Kind.{IsOfKind}
 use Rattle.qw_types.specs.declared.value.Val.{Val}
 use Rattle.qw_types.specs.declared.value.Val.TheVariants as val
 use Rattle.qw_scalar.specs.Expression.{Expression, Condition, Operands, Whence, parameter, single, null, number, date, text, column, arithmetic, negative, extract, brought, choice, given, cell, comparison, predicate, both, either, negation_of, is, found, nil, operand}
 use Rattle.qw_scalar.specs.Evaluation.{cell_of}
-use Rattle.qw_scalar.specs.Typing.{AreCells, IsWithin}
+use Rattle.qw_scalar.specs.Typing.{AreCells, MayBeGiven}
 
--- the rows of each subquery, and the value of each parameter
+-- the rows of each subquery, and the value of each parameter, by their numbers
 pub record Given : Type 0 where
   pub inner : List (List (List Val))
   pub values : List Val
 
+-- none of what isn't there only makes this total
 abbrev pub rows_at : Option (List (List Val)) → List (List Val)
 rows_at None = []
 rows_at (Some rows) = rows
@@ -20,16 +21,19 @@ rows_at (Some rows) = rows
 abbrev pub inner_rows : Given → ℕ → List (List Val)
 inner_rows g n = rows_at (slice_get g.inner n)
 
--- the value of a subquery's row, null over none
+-- the value of a scalar subquery (7.11): of its one row, and null over no row. More rows are an exception of the query round it, so that what is
+-- said of them here only makes this total.
 abbrev pub first_value : List (List Val) → Val
 first_value [] = val.Null
 first_value ([] ∷ rows) = val.Null
 first_value ((v ∷ vs) ∷ rows) = v
 
+-- what a parameter or a scalar subquery gives
 abbrev pub filled : Given → Whence → Val
 filled g (parameter n) = cell_of (slice_get g.values n)
 filled g (single n) = first_value (inner_rows g n)
 
+-- expressions and conditions with what is given filled in; nothing else of them changes
 abbrev mutual
   pub closed : Given → Expression → Expression
   closed g null = null
@@ -58,7 +62,7 @@ abbrev mutual
   closed_all g nil = nil
   closed_all g (operand e es) = operand (closed g e) (closed_all g es)
 
--- what is filled in is of the kinds and magnitudes that an expression tells
+-- what is given may be filled in: of the kinds and magnitudes that an expression tells
 abbrev mutual
   pub Fills : Given → Expression → Type 0
   Fills g null = Unit {0}
@@ -71,7 +75,7 @@ abbrev mutual
   Fills g (extract field a) = Fills g a
   Fills g (brought a s) = Fills g a
   Fills g (choice c a b) = FillsIn g c × (Fills g a × Fills g b)
-  Fills g (given w k most v) = IsOfKind k (filled g w) × IsWithin most (filled g w)
+  Fills g (given w k most v) = MayBeGiven k most (filled g w)
   Fills g (cell i ty most) = Unit {0}
 
   pub FillsIn : Given → Condition → Type 0

@@ -19,7 +19,7 @@ abbrev mutual
   HasColumns Holds (extract field a) = HasColumns Holds a
   HasColumns Holds (brought a s) = HasColumns Holds a
   HasColumns Holds (choice c a b) = HaveColumns Holds c × (HasColumns Holds a × HasColumns Holds b)
-  HasColumns Holds (given n k most v) = Unit {0}
+  HasColumns Holds (given w k most v) = Unit {0}
   HasColumns Holds (cell i ty most) = Holds i ty
 
   pub HaveColumns : (ℕ → Ty → Type 0) → Condition → Type 0

@@ -43,7 +43,7 @@ abbrev pub cell_of : Option Val → Val
 cell_of None = Null
 cell_of (Some value) = value
 
--- A value that is told to be no larger than this. It is; null for others only makes the meaning total.
+-- A number that is no larger than its column's are told to be (6.5), and what is no number. Null for a larger one only makes the meaning total.
 abbrev pub bounded : ℕ → Val → Val
 bounded most Null = Null
 bounded most (Num v) = if nat_le (unsigned_abs v) most then Num v else Null
@@ -178,7 +178,7 @@ chosen True first second = first
 chosen False first second = second
 chosen Unknown first second = second
 
--- ---- what rows of a subquery answer (8.4, 8.10)
+-- ---- what the rows of a table subquery answer (8.4, 8.8)
 abbrev pub holds_true : Truth → Bool
 holds_true True = true
 holds_true False = false
@@ -189,17 +189,18 @@ pub record Scaled : Type 0 where
   pub value : Val
   pub scale : ℕ
 
+-- whether it equals a cell of this kind (8.2)
 abbrev pub equal_to : Scaled → Kind → Val → Truth
 equal_to x k v = compared Equal x.value x.scale v (kind_scale k)
 
--- the first cells of a row are equal to these
+-- the first cells of a row equal the keys, one by one: a correlated subquery has the row where its equalities are true (7.6, 7.11)
 abbrev pub meets : List Scaled → List Kind → List Val → Bool
 meets [] kinds row = true
 meets (x ∷ xs) [] row = false
 meets (x ∷ xs) (k ∷ kinds) [] = false
 meets (x ∷ xs) (k ∷ kinds) (v ∷ row) = holds_true (equal_to x k v) && meets xs kinds row
 
--- whether the cell behind them is equal to x
+-- whether x equals the cell behind the keys'; unknown where there is none only makes the meaning total
 abbrev pub equal_behind : Scaled → List Scaled → List Kind → List Val → Truth
 equal_behind x [] [] row = Unknown
 equal_behind x [] (k ∷ kinds) [] = Unknown
@@ -208,11 +209,13 @@ equal_behind x (y ∷ ys) [] row = Unknown
 equal_behind x (y ∷ ys) (k ∷ kinds) [] = Unknown
 equal_behind x (y ∷ ys) (k ∷ kinds) (v ∷ row) = equal_behind x ys kinds row
 
+-- what one row answers: EXISTS is true of any, IN asks whether its value is equal (8.4, 8.8)
 abbrev pub one_asked : (asked keys : List Scaled) → List Kind → List Val → Truth
 one_asked [] keys kinds row = True
 one_asked (x ∷ others) keys kinds row = equal_behind x keys kinds row
 
--- of the rows that the keys meet: true where one is, else unknown where one is, else false
+-- What the rows answer whose first cells equal the keys: true where one of them does, else unknown where one is unknown, else false, so false over none
+-- (8.4, 8.8)
 abbrev pub answered : (asked keys : List Scaled) → List Kind → List (List Val) → Truth
 answered asked keys kinds [] = False
 answered asked keys kinds (row ∷ rows) =
@@ -231,7 +234,7 @@ abbrev mutual
   value_of (extract field a) env = value_of a env >>= (λ x. Ok (extracted field x))
   value_of (brought a s) env = value_of a env >>= (λ x. raised x (scale_of a) s)
   value_of (choice c a b) env = truth_of c env >>= (λ t. chosen t (value_of a env) (value_of b env))
-  value_of (given n k most v) env = Ok v
+  value_of (given w k most v) env = Ok v
   value_of (cell i ty most) env = Ok (bounded most (cell_of (slice_get env.row i)))
 
   pub truth_of : Condition → Environment → Result Truth Code

@@ -17,7 +17,7 @@ use Rattle.qw_scalar.specs.declared.expression.Predicate.TheVariants.{IsNull}
 use Rattle.qw_scalar.specs.declared.comparison.Comparison.{Comparison}
 use Rattle.qw_scalar.specs.declared.comparison.Comparison.TheVariants.{Equal, LessOrEqual, GreaterOrEqual}
 
--- whence a value is given: a parameter or a subquery of one row, by its number
+-- where a value that is filled in comes from: a dynamic parameter (6.2) or a scalar subquery (7.11), by its number from 0 among those of the query
 pub data Whence : Type 0 where
   parameter : ℕ → Whence
   single : ℕ → Whence
@@ -41,9 +41,10 @@ mutual
     brought : Expression → ℕ → Expression
     -- the first where the condition is true, else the second
     choice : Condition → Expression → Expression → Expression
-    -- what a parameter or a subquery gives: its number, its kind, the greatest magnitude of it, and the value
+    -- a value that is filled in before the expression is evaluated, the same at each row (6.2, 7.11): where it comes from, its kind, the magnitude
+    -- that a number of it has at most, and the value, which is null as long as nothing is filled in
     given : Whence → Kind → (most : ℕ) → Val → Expression
-    -- a column whose numbers are known to be no larger than this
+    -- a column of the row, counted from 0, its type, and the magnitude that its numbers have at most, as MIN and MAX have their argument's (6.5)
     cell : ℕ → Ty → (most : ℕ) → Expression
 
   pub data Condition : Type 0 where
@@ -54,10 +55,12 @@ mutual
     either : Condition → Condition → Condition
     negation_of : Condition → Condition
     is : Condition → Truth → Condition
-    -- EXISTS where nothing is asked, else IN: the number of the subquery, what is asked, the keys, of which kinds its rows are, and the rows: the
-    -- cells that are compared with the keys, and then the value
+    -- EXISTS (8.8) where nothing is asked, else IN (8.4), over those rows of a table subquery whose first cells equal the keys: the subquery's
+    -- number from 0, what is asked, the keys, the kinds of a row's cells, and the rows, none as long as nothing is filled in. What is asked is
+    -- compared with the cell behind the keys'.
     found : ℕ → (asked keys : Operands) → List Kind → List (List Val) → Condition
 
+  -- a list of expressions
   pub data Operands : Type 0 where
     nil : Operands
     operand : Expression → Operands → Operands
@@ -69,6 +72,7 @@ scale_after Subtract sa sb = max sa sb
 scale_after Multiply sa sb = sa + sb
 scale_after Divide sa sb = sa
 
+-- the scale of a kind's numbers (4.4), 0 of other kinds
 abbrev pub kind_scale : Kind → ℕ
 kind_scale (kind.Number s) = s
 kind_scale kind.Date = 0
@@ -86,7 +90,7 @@ scale_of (negative a) = scale_of a
 scale_of (extract field a) = 0
 scale_of (brought a s) = s
 scale_of (choice c a b) = max (scale_of a) (scale_of b)
-scale_of (given n k most v) = kind_scale k
+scale_of (given w k most v) = kind_scale k
 scale_of (cell i ty most) = type_scale ty
 
 -- x BETWEEN a AND b is x >= a AND x <= b (8.3)

@@ -1,5 +1,5 @@
 -- The kinds of expressions (ISO/IEC 9075:1992, 4.1, 6.11, 6.12), and which expressions and conditions are typed.
-use Rattle.std.specs.Prelude.{List, [], ◌∷◌, unsigned_abs, ◌≡◌, ℕ, ◌+◌, ◌≤◌, max, Bool, true, false, IsTrue, Option, Some, None}
+use Rattle.std.specs.Prelude.{◌&&◌, IsUtf8, List, [], ◌∷◌, unsigned_abs, ◌≡◌, ℕ, ◌+◌, ◌≤◌, max, Bool, true, false, IsTrue, Option, Some, None}
 use Rattle.std.specs.List.{AllByRecursion}
 use Rattle.qw_types.specs.Arithmetic.{fits}
 use Rattle.qw_types.specs.Kind.{IsOfKind, type_kind}
@@ -46,7 +46,7 @@ kind_of (negative a) = Some (kind.Number (scale_of a))
 kind_of (extract field a) = Some (kind.Number 0)
 kind_of (brought a s) = at_scale (kind_of a) s
 kind_of (choice c a b) = joined (kind_of a) (kind_of b)
-kind_of (given n k most v) = Some k
+kind_of (given w k most v) = Some k
 kind_of (cell i ty most) = Some (type_kind ty)
 
 -- numbers compare with numbers of any scale, dates with dates, texts with texts (8.2)
@@ -81,19 +81,38 @@ ScalesAllowed Subtract sa sb = Unit {0}
 ScalesAllowed Multiply sa sb = sa + sb ≤ 18
 ScalesAllowed Divide sa sb = sa + sb ≤ 18
 
--- a number is no larger than this
+-- keys, and what is asked behind them, each comparable with the cell of a row that it meets (8.2, 8.4); a cell that nothing meets may be of any kind
+abbrev pub meet_cells : (keys asked : Operands) → List Kind → Bool
+meet_cells nil nil kinds = true
+meet_cells nil (operand e es) [] = false
+meet_cells nil (operand e es) (k ∷ kinds) = are_comparable (kind_of e) (Some k) && meet_cells nil es kinds
+meet_cells (operand e es) asked [] = false
+meet_cells (operand e es) asked (k ∷ kinds) = are_comparable (kind_of e) (Some k) && meet_cells es asked kinds
+
+-- a number is no larger than this, whichever its sign
 abbrev pub IsWithin : ℕ → Val → Type 0
 IsWithin m val.Null = Unit {0}
 IsWithin m (val.Num v) = unsigned_abs v ≤ m
 IsWithin m (val.Date d) = Unit {0}
 IsWithin m (val.Text t) = Unit {0}
 
--- cells of a row are of these kinds
+-- the octets of a text are UTF-8
+abbrev pub IsUtf8Value : Val → Type 0
+IsUtf8Value val.Null = Unit {0}
+IsUtf8Value (val.Num v) = Unit {0}
+IsUtf8Value (val.Date d) = Unit {0}
+IsUtf8Value (val.Text t) = IsUtf8 t
+
+-- what a dynamic parameter or a scalar subquery may give (6.2, 7.11): null, or a value of its kind, a number no larger than told, a text in UTF-8
+abbrev pub MayBeGiven : Kind → (most : ℕ) → Val → Type 0
+MayBeGiven k most v = (IsOfKind k v × IsWithin most v) × IsUtf8Value v
+
+-- a row of a table subquery (7.11): a cell of each kind, null or a value of it, a text in UTF-8
 abbrev pub AreCells : List Kind → List Val → Type 0
 AreCells [] [] = Unit {0}
 AreCells [] (v ∷ vs) = ⊥
 AreCells (k ∷ ks) [] = ⊥
-AreCells (k ∷ ks) (v ∷ vs) = IsOfKind k v × AreCells ks vs
+AreCells (k ∷ ks) (v ∷ vs) = (IsOfKind k v × IsUtf8Value v) × AreCells ks vs
 
 -- Typed: literals fit, no scale is above 18, operands are of the kinds that their operator takes, and results agree.
 abbrev mutual
@@ -109,7 +128,7 @@ abbrev mutual
   IsTyped (extract field a) = IsTyped a × IsTrue (is_date (kind_of a))
   IsTyped (brought a s) = IsTyped a × ((scale_of a ≤ s) × (s ≤ 18))
   IsTyped (choice c a b) = AreTyped c × ((IsTyped a × IsTyped b) × IsTrue (agree (kind_of a) (kind_of b)))
-  IsTyped (given n k most v) = ((kind_scale k ≤ 18) × (most ≤ 999999999999999999)) × (IsOfKind k v × IsWithin most v)
+  IsTyped (given w k most v) = ((kind_scale k ≤ 18) × (most ≤ 999999999999999999)) × MayBeGiven k most v
   IsTyped (cell i ty most) = (type_scale ty ≤ 18) × (most ≤ 999999999999999999)
 
   pub AreTyped : Condition → Type 0
@@ -119,7 +138,7 @@ abbrev mutual
   AreTyped (either c d) = AreTyped c × AreTyped d
   AreTyped (negation_of c) = AreTyped c
   AreTyped (is c t) = AreTyped c
-  AreTyped (found n asked keys kinds rows) = (OperandsAreTyped asked × OperandsAreTyped keys) × AllByRecursion (AreCells kinds) rows
+  AreTyped (found n asked keys kinds rows) = (OperandsAreTyped asked × OperandsAreTyped keys) × (AllByRecursion (AreCells kinds) rows × IsTrue (meet_cells keys asked kinds))
 
   pub OperandsAreTyped : Operands → Type 0
   OperandsAreTyped nil = Unit {0}

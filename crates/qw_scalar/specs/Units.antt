@@ -26,6 +26,7 @@ abbrev pub octets_of : Comparison → Result Val Code → Result Val Code → �
 octets_of op (Ok a) (Ok b) = octets_in op a b
 octets_of _ _ _ = 0
 
+-- Of EXISTS and IN over the rows of a subquery it is what the keys and what is asked compare themselves: how rows are found isn't counted here.
 abbrev mutual
   pub units : Expression → Environment → ℕ
   units null env = 0
@@ -38,7 +39,7 @@ abbrev mutual
   units (extract field a) env = units a env
   units (brought a s) env = units a env
   units (choice c a b) env = max (units_of c env) (max (units a env) (units b env))
-  units (given n k most v) env = 0
+  units (given w k most v) env = 0
   units (cell i ty most) env = 0
 
   pub units_of : Condition → Environment → ℕ

@@ -4,7 +4,7 @@
 //!   LIKE; [`kind::of_expression`]: of which kind an expression's values are; [`value::Value`]: such a value, which borrows its text.
 //! - [`evaluate`]: values, truth and exceptions at a row, without memory; [`conjuncts::pass`]: whether a row passes a WHERE.
 //! - [`copy`]: copies of trees.
-//! - [`typing_laws`], [`evaluation_laws`], [`units_laws`]: what holds of every expression and condition, and worked cases.
+//! - [`typing_laws`], [`evaluation_laws`], [`units_laws`], [`closed_laws`]: what holds of every expression and condition, and worked cases.
 #![tactic(auto)]
 
 pub mod closed_laws;

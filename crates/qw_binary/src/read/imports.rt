@@ -1,6 +1,7 @@
 //! Imports (WebAssembly Core Specification 1.0, 5.5.5).
 
-ghost use Rattle.std.specs.Prelude.{◌≡◌, []};
+ghost use Rattle.std.specs.Prelude.{◌≡◌, List, [], false, codes, Ok};
+ghost use Rattle.qw_module.specs.declared.module.Import as modules;
 ghost use Rattle.qw_octet_grammar.specs.Vectors.{counted};
 ghost use Rattle.qw_octet_grammar.specs.Reading.{Gives, read};
 ghost use Rattle.qw_binary.specs.Sections.{imported, is_same, is_among, once, named_by, names, other_kind, described, import_behind, next_import, imports};
@@ -13,20 +14,34 @@ use qw_octet_grammar::names::name_at;
 use qw_octet_grammar::numbers::u32_at;
 use std::alloc::Global;
 
-/// The two imports of the profile.
+/// The three imports of the profile.
 #[derive(Clone, Copy)]
 pub(crate) enum Imported {
     Memory,
     Raise,
+    Pages,
 }
 
 impl Imported {
+    /// Which one an import is.
+    pub(crate) fn of(import: Import) -> Imported
+        ensures { imported_of result ≡ imported import }
+    {
+        match import {
+            Import::Memory(_) => Imported::Memory,
+            Import::Raise(_) => Imported::Raise,
+            Import::Pages(_) => Imported::Pages,
+        }
+    }
+
     /// Whether an import is this one.
     fn is(self, import: &Import) -> bool
         ensures { result ≡ is_same (imported_of self) (imported import.now) }
     {
         match (self, import) {
-            (Imported::Memory, Import::Memory(_)) | (Imported::Raise, Import::Raise(_)) => true,
+            (Imported::Memory, Import::Memory(_))
+            | (Imported::Raise, Import::Raise(_))
+            | (Imported::Pages, Import::Pages(_)) => true,
             _ => false,
         }
     }
@@ -42,6 +57,17 @@ impl Imported {
             }
         }
         false
+    }
+
+    /// The name of this one, behind `q`.
+    pub(crate) fn name(self) -> &'static str
+        ensures { (before : List modules.Import) → is_among (imported_of self) before ≡ false → named_by before (codes "q") result.now ≡ Ok (imported_of self) }
+    {
+        match self {
+            Imported::Memory => "memory",
+            Imported::Raise => "raise",
+            Imported::Pages => "pages",
+        }
     }
 
     /// This one, where it is none of those before it.
@@ -65,6 +91,8 @@ impl Imported {
             Imported::Memory.once(before)
         } else if name == "raise" {
             Imported::Raise.once(before)
+        } else if name == "pages" {
+            Imported::Pages.once(before)
         } else {
             Err(BinaryFault::OutOfProfile { what: What::Import })
         }
@@ -97,6 +125,10 @@ impl Imported {
             (Imported::Raise, [0x00, rest @ ..]) => {
                 let (type_index, rest) = u32_at(rest)?;
                 Ok((Import::Raise(type_index), rest))
+            }
+            (Imported::Pages, [0x00, rest @ ..]) => {
+                let (type_index, rest) = u32_at(rest)?;
+                Ok((Import::Pages(type_index), rest))
             }
             (_, [kind, ..]) => Err(other_kind_of(*kind)),
         }

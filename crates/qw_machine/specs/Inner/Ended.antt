@@ -1,5 +1,5 @@
 -- Mirrors stepped.rt: how a run has ended, and what that says of the state.
-use Rattle.std.specs.Prelude.{ℕ, ◌-◌, Bool, Option, Some, None, is_some}
+use Rattle.std.specs.Prelude.{ℕ, ◌-◌, Bool, true, false, Option, Some, None, is_some}
 use Rattle.qw_machine.specs.declared.stepped.RunEnd.{RunEnd}
 use Rattle.qw_machine.specs.declared.stepped.RunEnd.TheVariants as end
 use Rattle.qw_machine.specs.declared.stepped.Stepped.{Stepped}
@@ -24,6 +24,11 @@ answer_of operated.Ran = stepped.Ran
 answer_of (operated.Grew at pages) = stepped.Grew at pages
 answer_of (operated.Refused pages) = stepped.Refused pages
 answer_of (operated.Trapped why) = stepped.Trapped why
+
+-- how the run has ended after what was finished was left, by whether it goes on
+abbrev pub end_by : Bool → Option RunEnd
+end_by true = None
+end_by false = Some end.Returned
 
 -- after this answer nothing runs any more
 abbrev pub is_over : Stepped → Bool

@@ -1,5 +1,5 @@
 -- What `Activity` keeps from step to step: what runs and what awaits is typed, and what it can need has room.
-use Rattle.std.specs.Prelude.{◌≡◌, ℕ, ◌+◌, ◌<◌, ◌≤◌, List, [], ◌∷◌, ◌++◌, length, take, drop, Some, slice_get, All}
+use Rattle.std.specs.Prelude.{◌≡◌, ℕ, ◌+◌, ◌-◌, ◌^◌, ◌<◌, ◌≤◌, List, [], ◌∷◌, ◌++◌, length, take, drop, Some, slice_get, All}
 use Rattle.qw_module.specs.declared.instruction.ValType.{ValType}
 use Rattle.qw_module.specs.declared.instruction.Instr.TheVariants as i
 use Rattle.qw_module.specs.declared.module.Module.{Module}
@@ -126,6 +126,7 @@ pub record IsRunning (m : Module) (rooms : Rooms) (p : Point) : Type 0 where
 pub record IsAsking (m : Module) (p : Point) (pages : ℕ) : Type 0 where
   pub index : ℕ
   pub calls : slice_get (instructions_at m p.function p.sequence) p.index ≡ Some (i.Call index)
+  pub fits : p.index < 2 ^ 64 - 1
   pub host : slice_get (callees_of m) index ≡ Some host_pages
   pub others : List ℕ
   pub operands_are : p.operands ≡ pages ∷ others
