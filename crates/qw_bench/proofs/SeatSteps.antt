@@ -512,12 +512,12 @@ answered-on before p0 k now pool i n c final end has tells below runs answered s
       ran = more before p0 k now pool has c made final end below runs answered.made refl answered.world (ap (λ (x : Seat). x.ran) seated)
           (ap (λ (x : Seat). x.limits.steps) seated) (ap (λ (x : Seat). x.released) seated) refl answered.free;
       seated = seated ∙ ap (λ (x : Seat). record x {
-            instance = final.instance;
-            granted = final.granted;
-            held = final.held;
-            refused = final.refused;
-            ended = final.ended;
-          }) has.seated;
+        instance = final.instance;
+        granted = final.granted;
+        held = final.held;
+        refused = final.refused;
+        ended = final.ended;
+      }) has.seated;
       program = program ∙ has.program;
       runs = rw runs_on.1 tt;
       unended = ended ∙ has.unended;

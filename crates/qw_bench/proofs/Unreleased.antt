@@ -1,5 +1,5 @@
 -- Turns release nobody, so that after rounds of them from a start no instance is released.
-use Rattle.std.proofs.Common.{◌≡◌, ℕ, zero, suc, ◌<◌, Bool, true, false, ⊎_elim, List, [], ◌∷◌, ◌++◌, map, Option, Some, None, is_some, slice_get, slice_set, refl, sym, ap, ◌∙◌, arith}
+use Rattle.std.proofs.Common.{◌≡◌, ℕ, zero, suc, ◌<◌, Bool, true, false, ⊎_elim, List, [], ◌∷◌, ◌++◌, length, map, Option, Some, None, is_some, slice_get, slice_set, refl, sym, ap, ◌∙◌, arith}
 use Rattle.std.specs.Option.{option_map_or}
 use Rattle.std.proofs.lemmas.Bool.{cases_Bool, cases_eq}
 use Rattle.std.proofs.lemmas.Option.{slice_get_within}
@@ -10,7 +10,7 @@ use Rattle.qw_map.specs.Areas.{grants}
 use Rattle.qw_map.specs.Turns.{Instance, Common, Shared, Act, turn, release, placing, after_next, stepped, stepped_from, steps_of, acted, turns}
 use Rattle.qw_map.proofs.TurnFacts.{slice_get-set_same}
 use Rattle.qw_map.proofs.TurnSteps.{turn-others}
-use Rattle.qw_bench.specs.Bench.{AreRounds, AreTurns, IsStart, Task, none, first, released_in, round}
+use Rattle.qw_bench.specs.Bench.{AreRounds, AreTurns, IsStart, Task, none, first, released_in, round, unended_below}
 use Rattle.qw_bench.proofs.Rounds.{turns-append}
 use Rattle.qw_bench.proofs.Serving.{task-of}
 
@@ -42,7 +42,9 @@ turn-released s j quantum k = by_found (slice_get s.instances j) refl
         let x = steps_of quantum i s.common in
         let put : slice_get (slice_set s.instances j x.0) j ≡ Some x.0 = slice_get-set_same s.instances j x.0 (slice_get_within s.instances j i found) in
         let now : slice_get (acted s (turn j quantum)).instances j ≡ Some x.0 = rw found put in
-        rw (here, now, found) (steps-released quantum i s.common))
+        let later : released_in (acted s (turn j quantum)) j ≡ x.0.released = ap (λ (o : Option Instance). option_map_or (λ (i : Instance). i.released) o false) now in
+        let before : released_in s j ≡ i.released = ap (λ (o : Option Instance). option_map_or (λ (i : Instance). i.released) o false) found in
+        rw here (later ∙ steps-released quantum i s.common ∙ sym before))
         (λ elsewhere. ap (λ (o : Option Instance). option_map_or (λ (i : Instance). i.released) o false) (turn-others s j k quantum elsewhere))
         (cases_eq k j)
 
@@ -63,7 +65,7 @@ each-turn quantum (i ∷ numbers) = each-turn quantum numbers
 
 rounds-turns : (quantum : ℕ) (acts : List Act) (s : Shared) → AreRounds quantum acts s → AreTurns acts
 rounds-turns quantum _ _ (none s done) = tt
-rounds-turns quantum _ _ (first s acts rest) = turns-joined (round quantum s) acts (each-turn quantum _) (rounds-turns quantum acts _ rest)
+rounds-turns quantum _ _ (first s acts rest) = turns-joined (round quantum s) acts (each-turn quantum (unended_below s (length s.instances))) (rounds-turns quantum acts (turns (round quantum s) s) rest)
 
 -- ---- from a start
 start-unreleased : (tables : List Contents) (tasks : List Task) (s : Shared) → IsStart tables tasks s → (k : ℕ) → released_in s k ≡ false

@@ -9,7 +9,7 @@ ghost use Rattle.qw_bench.specs.Standing.{AreLimits, limit_pages};
 
 mod start;
 
-use crate::bench::start::{first_seats, place_all};
+use crate::bench::start::seats_over_tables;
 use crate::pool::Pool;
 use qw_columns::pages_needed;
 use qw_csv::Loaded;
@@ -458,8 +458,7 @@ impl Bench {
     {
         let flags = Vec::with_capacity(alloc, pages as usize)?;
         let mut memory = Linear::new(alloc, pages)?;
-        let map = place_all(alloc, loaded, &mut memory)?;
-        let seats = first_seats(alloc, jobs, limits, &map, &mut memory)?;
+        let seats = seats_over_tables(alloc, loaded, jobs, limits, &mut memory)?;
         let pool = Pool::new(memory, flags);
         Ok(Bench { pool, seats })
     }

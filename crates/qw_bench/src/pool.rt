@@ -56,8 +56,8 @@ impl Pool {
         requires room { length self.old.memory.octets + pages * page ≤ self.old.memory.reserved * page }
         ensures place { result ≡ placing (common_of self.old) pages }
         ensures common { common_of self.new ≡ record {
-            memory = cleared result pages self.old.memory.octets;
-            free = flags_after (common_of self.old) (AsksHost pages (Some result));
+          memory = cleared result pages self.old.memory.octets;
+          free = flags_after (common_of self.old) (AsksHost pages (Some result));
         } }
         ensures kept { IsPool self.new }
         ensures inside { result + pages ≤ length self.new.free.items }
@@ -73,7 +73,12 @@ impl Pool {
             return first;
         };
         self.memory.clear(first, pages);
-        mark(self.free.as_mut_slice(), first as usize, pages as usize, false);
+        mark(
+            self.free.as_mut_slice(),
+            first as usize,
+            pages as usize,
+            false,
+        );
         first
     }
 
@@ -99,6 +104,11 @@ impl Pool {
         ensures free { self.new.free.items ≡ marked true first pages self.old.free.items }
         ensures kept { IsPool self.new }
     {
-        mark(self.free.as_mut_slice(), first as usize, pages as usize, true);
+        mark(
+            self.free.as_mut_slice(),
+            first as usize,
+            pages as usize,
+            true,
+        );
     }
 }
