@@ -1,14 +1,9 @@
 -- Where a run of free pages lies, and where a request is placed by it.
-use Rattle.std.proofs.Common.{◌≡◌, ◌≢◌, ℕ, zero, suc, ◌+◌, ◌<◌, ◌≤◌, Bool, true, List, [], ◌∷◌, length, Some, unwrap_or, refl, arith}
+use Rattle.std.proofs.Common.{◌≡◌, ◌≢◌, ℕ, zero, suc, ◌+◌, ◌≤◌, true, Bool, List, length, Some, unwrap_or, refl, arith}
 use Rattle.std.proofs.lemmas.Option.{slice_get_within}
 use Rattle.qw_linear.specs.Memory.{pages_of}
-use Rattle.qw_map.specs.Free.{begins_run, lowest_run, place_among}
+use Rattle.qw_map.specs.Free.{lowest_run, place_among}
 use Rattle.qw_map.proofs.FreeFacts.{place-free}
-
--- where flags begin with a run, it is the lowest one
-pub lowest_here : (at n : ℕ) (flags : List Bool) → 0 < length flags → begins_run n flags ≡ true → lowest_run at n flags ≡ Some at
-lowest_here at n [] some begins = absurd (omega (arith, some))
-lowest_here at n (flag ∷ flags) some begins = rw begins refl
 
 -- a run lies among the flags
 pub run-within : (n p : ℕ) (flags : List Bool) → 1 ≤ n → lowest_run 0 n flags ≡ Some p → p + n ≤ length flags

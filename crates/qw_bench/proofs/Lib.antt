@@ -10,6 +10,7 @@ mod LimitLemmas
 mod MapLemmas
 mod PoolLemmas
 mod Rounds
+mod RunLemmas
 mod SeatRuns
 mod SeatSteps
 pub mod Serving
