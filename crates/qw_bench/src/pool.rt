@@ -73,12 +73,8 @@ impl Pool {
             return first;
         };
         self.memory.clear(first, pages);
-        mark(
-            self.free.as_mut_slice(),
-            first as usize,
-            pages as usize,
-            false,
-        );
+        let at = first as usize;
+        mark(self.free.as_mut_slice(), at, pages as usize, false);
         first
     }
 
@@ -104,11 +100,7 @@ impl Pool {
         ensures free { self.new.free.items ≡ marked true first pages self.old.free.items }
         ensures kept { IsPool self.new }
     {
-        mark(
-            self.free.as_mut_slice(),
-            first as usize,
-            pages as usize,
-            true,
-        );
+        let at = first as usize;
+        mark(self.free.as_mut_slice(), at, pages as usize, true);
     }
 }
