@@ -2,11 +2,13 @@
 
 ghost use Rattle.std.specs.Prelude.{◌≡◌, pos, false, true, [], ◌∷◌};
 ghost use Rattle.qw_types.specs.declared.code.Code.TheVariants.{DivZero};
+ghost use Rattle.qw_types.specs.declared.kind.Kind.TheVariants.{Number};
 ghost use Rattle.qw_types.specs.declared.value.Ty.TheVariants.{Integer};
 ghost use Rattle.qw_types.specs.declared.value.Val.TheVariants.{Null, Num};
 ghost use Rattle.qw_scalar.specs.declared.comparison.Comparison.TheVariants.{Equal};
-ghost use Rattle.qw_scalar.specs.Expression.{column, comparison};
+ghost use Rattle.qw_scalar.specs.Expression.{cell, column, comparison, found, given, nil, operand, parameter};
 ghost use Rattle.qw_meaning.specs.WorkedQueries.{four_tables, is_next, quotient_above_six};
+ghost use Rattle.qw_algebra.specs.Columns.{condition_names_only, is_of, names_column, names_only};
 ghost use Rattle.qw_algebra.specs.Node.{filter, join, node_flow, project, scan};
 ghost use Rattle.qw_algebra.specs.WorkedPlans.{above_two, beside_nothing, item_and_joined, left_joined_above, next_items};
 ghost use Rattle.qw_algebra.specs.Written.{written};
@@ -37,4 +39,14 @@ pub fn flows_of_plans()
 pub fn raising_above_and_below()
     ensures above { node_flow four_tables (written beside_nothing) ≡ record { rows = []; codes = [] } }
     ensures below { node_flow four_tables (project (join false (filter (quotient_above_six 0 ∷ []) (scan 0 3)) (scan 1 2) [] []) (column 0 Integer ∷ [])) ≡ record { rows = []; codes = DivZero ∷ [] } }
+{}
+
+/// Column 64 is of entry 1 and column 0 of entry 0. A value that is filled in names no column, and a column with a bound names its column;
+/// `A.ID IN (SELECT ..)` with the key B.ID names columns of both entries (ISO/IEC 9075:1992, 6.2, 6.4, 7.11, 8.4).
+pub fn columns_beside_what_is_filled_in()
+    ensures given { (names_column (given (parameter 0) (Number 0) 9 Null) ≡ false) × (names_only (is_of (1 ∷ [])) (given (parameter 0) (Number 0) 9 Null) ≡ true) }
+    ensures cell { (names_only (is_of (1 ∷ [])) (cell 64 Integer 9) ≡ true) × (names_only (is_of (1 ∷ [])) (cell 0 Integer 9) ≡ false) }
+    ensures found { (condition_names_only (is_of (1 ∷ [])) (found 0 (operand (column 64 Integer) nil) (operand (column 0 Integer) nil) (Number 0 ∷ Number 0 ∷ []) []) ≡ false)
+        × ((condition_names_only (is_of (0 ∷ [])) (found 0 (operand (column 64 Integer) nil) (operand (column 0 Integer) nil) (Number 0 ∷ Number 0 ∷ []) []) ≡ false)
+        × (condition_names_only (is_of (0 ∷ 1 ∷ [])) (found 0 (operand (column 64 Integer) nil) (operand (column 0 Integer) nil) (Number 0 ∷ Number 0 ∷ []) []) ≡ true)) }
 {}

@@ -65,7 +65,7 @@ pub fn find_room(block: &mut Block, size: u32) -> Result<(), NoMemory>
         LowStep::Op(Op::Relation(ValType::I32, Relation::Lt(Sign::Unsigned))),
         LowStep::If,
         LowStep::Op(Op::Const(Const::I32(1))),
-        LowStep::Op(Op::MemoryGrow),
+        LowStep::Ask,
         LowStep::Op(Op::LocalTee(FREE)),
         LowStep::Op(Op::Const(Const::I32(REFUSAL))),
         LowStep::Op(Op::Relation(ValType::I32, Relation::Eq)),

@@ -1,5 +1,5 @@
 -- What an expression gives at a row, and what it compares there, depends on the columns alone that it names.
-use Rattle.std.proofs.Common.{◌≡◌, ℕ, List, [], ◌∷◌, max, Result, Ok, slice_get, refl, ap, ap₂, ◌∙◌}
+use Rattle.std.proofs.Common.{◌≡◌, ℕ, List, ◌∷◌, max, Result, Ok, slice_get, refl, ap, ap₂, ◌∙◌}
 use Rattle.qw_types.specs.Arithmetic.{◌>>=◌}
 use Rattle.qw_types.specs.declared.code.Code.{Code}
 use Rattle.qw_types.specs.declared.truth.Truth.{Truth}

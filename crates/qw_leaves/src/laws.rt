@@ -2,11 +2,13 @@
 
 ghost use Rattle.std.specs.Prelude.{◌≡◌, [], ◌∷◌, Bool, IsTrue, pos};
 ghost use Rattle.std.specs.List.{AllByRecursion};
+ghost use Rattle.qw_types.specs.declared.kind.Kind.TheVariants as kind;
 ghost use Rattle.qw_types.specs.declared.value.Ty.TheVariants as type;
+ghost use Rattle.qw_types.specs.declared.value.Val.TheVariants as val;
 ghost use Rattle.qw_scalar.specs.declared.expression.Cond.{Cond};
 ghost use Rattle.qw_scalar.specs.declared.expression.Expr.{Expr};
 ghost use Rattle.qw_scalar.specs.declared.expression.Predicate.TheVariants.{IsNull};
-ghost use Rattle.qw_scalar.specs.Expression.{Expression, between, case, coalesced, column, last, more, number, predicate, unless_among};
+ghost use Rattle.qw_scalar.specs.Expression.{Expression, between, case, cell, coalesced, column, found, given, last, more, nil, number, operand, parameter, predicate, unless_among};
 ghost use Rattle.qw_scalar.specs.Tree.{condition_of, expression_of};
 ghost use Rattle.qw_leaves.specs.declared.leaf.Leaf.{Leaf};
 ghost use Rattle.qw_leaves.specs.declared.leaf.Leaf.TheVariants as leaf;
@@ -24,7 +26,8 @@ pub fn leaves_of_trees()
 {}
 
 /// `ID IS NULL` has the leaf ID; `ID BETWEEN 1 AND 2`, which is `ID >= 1 AND ID <= 2`, has ID twice, and so have `COALESCE(ID, 1)` and
-/// `NULLIF(ID, 1)`, which test their first argument first (ISO/IEC 9075:1992, 6.9, 8.3).
+/// `NULLIF(ID, 1)`, which test their first argument first (ISO/IEC 9075:1992, 6.9, 8.3). What is filled in is no leaf; `ID IN (SELECT ..)` with the
+/// key PRICE has the two columns, and a column with a bound is the column (7.11, 8.4).
 pub fn worked_leaves()
     ensures test { condition_leaves (predicate IsNull (column 0 type.Integer)) ≡ leaf.Column 0 type.Integer ∷ [] }
     ensures range { condition_leaves (between (column 0 type.Integer) (number (pos 1) 0) (number (pos 2) 0))
@@ -32,4 +35,7 @@ pub fn worked_leaves()
     ensures abbreviation { leaves (unless_among (more (column 0 type.Integer) (last (number (pos 1) 0)))) ≡ leaf.Column 0 type.Integer ∷ leaf.Number (pos 1) 0 ∷ leaf.Column 0 type.Integer ∷ [] }
     ensures choice { leaves (case (coalesced (more (column 0 type.Integer) (last (number (pos 1) 0)))))
         ≡ leaf.Column 0 type.Integer ∷ leaf.Column 0 type.Integer ∷ leaf.Number (pos 1) 0 ∷ [] }
+    ensures filled_in { (leaves (given (parameter 0) (kind.Number 0) 9 (val.Num (pos 2))) ≡ []) × (leaves (cell 0 type.Integer 9) ≡ leaf.Column 0 type.Integer ∷ []) }
+    ensures found { condition_leaves (found 0 (operand (column 0 type.Integer) nil) (operand (column 1 (type.Decimal 9 2)) nil) (kind.Number 2 ∷ kind.Number 0 ∷ []) ((val.Null ∷ val.Null ∷ []) ∷ []))
+        ≡ leaf.Column 0 type.Integer ∷ leaf.Column 1 (type.Decimal 9 2) ∷ [] }
 {}
