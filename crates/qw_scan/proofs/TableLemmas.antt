@@ -1,21 +1,17 @@
 -- The indices of functions' types and the types of globals, read again.
-use Rattle.std.proofs.Common.{◌≡◌, ℕ, zero, suc, List, [], ◌∷◌, ◌++◌, ◌+◌, ◌<◌, ◌≤◌, length, get_or, drop, map, Option, Some, None, Result, Ok, refl, sym, ap, subst, ◌∙◌, append_assoc}
-use Rattle.std.specs.List.{filter_map}
-use Rattle.std.proofs.lemmas.List.{append-nil, map_push, at_drop_more, drop_all}
+use Rattle.std.proofs.Common.{◌≡◌, ℕ, zero, suc, List, [], ◌∷◌, ◌++◌, drop, map, Option, Some, None, Result, Ok, refl, sym, ap, subst, ◌∙◌}
+use Rattle.std.proofs.lemmas.List.{map_push}
 use Rattle.qw_octet_grammar.specs.declared.fault.BinaryFault.{BinaryFault}
 use Rattle.qw_octet_grammar.specs.Grammar.{Grammar, is}
 use Rattle.qw_octet_grammar.specs.Numbers.{u32}
 use Rattle.qw_octet_grammar.specs.Vectors.{counted, one_more, vector}
 use Rattle.qw_octet_grammar.specs.Reading.{◌>>=◌, read}
 use Rattle.qw_octet_grammar.proofs.GrammarLaws.{ok_is}
-use Rattle.qw_module.specs.declared.module.Import.{Import}
-use Rattle.qw_module.specs.declared.module.Import.TheVariants as import
 use Rattle.qw_module.specs.Typing.{GlobalType}
-use Rattle.qw_module.specs.Validity.{imported_function}
 use Rattle.qw_binary.specs.Types.{val_type, mutability}
 use Rattle.qw_binary.specs.Instructions.{expression}
 use Rattle.qw_binary.specs.Contents.{GlobalContents}
-use Rattle.qw_binary.specs.Sections.{imports, global_from, global}
+use Rattle.qw_binary.specs.Sections.{global_from, global}
 use Rattle.qw_scan.specs.Read.{mapped, passed_over, HasRead}
 use Rattle.qw_scan.specs.Inner.Outlines.{values_of, values_at, IsThere}
 use Rattle.qw_scan.specs.Inner.Offsets.{kind_from, global_kind}
