@@ -2,42 +2,19 @@
 
 ghost use Rattle.std.specs.Prelude.{◌≡◌, ◌+◌, ◌≤◌, ◌++◌, false, length, replicate};
 ghost use Rattle.std.specs.Vec.{vec_capacity};
-ghost use Rattle.qw_map.specs.Free.{begins_run, lowest_run, marked};
+ghost use Rattle.qw_map.specs.Free.{lowest_run, marked};
 
-/// Whether the first so many flags are there, and are true.
-fn begins_free(flags: &[bool], pages: usize) -> bool
-    ensures { result ≡ begins_run pages flags.now }
-{
-    let mut rest = flags;
-    let mut left = pages;
-    while left > 0 {
-        match rest.split_first() {
-            None => return false,
-            Some((flag, later)) => {
-                if !*flag {
-                    return false;
-                }
-                rest = later;
-            }
-        }
-        left -= 1;
-    }
-    true
-}
-
-/// The lowest place of so many neighbouring flags that are true.
-#[tactic(auto, using(crate::proofs::FreeLemmas::lowest_here))]
+/// The lowest place of so many neighbouring flags that are true. It looks at each flag once.
 pub(crate) fn lowest_free(flags: &[bool], pages: usize) -> Option<usize>
+    requires { 1 ≤ pages }
     ensures { result ≡ lowest_run 0 pages flags.now }
 {
-    let mut rest = flags;
-    let mut at = 0;
-    while !rest.is_empty() {
-        if begins_free(rest, pages) {
-            return Some(at);
+    let mut count = 0;
+    for at in 0..flags.len() {
+        count = if flags[at] { count + 1 } else { 0 };
+        if count == pages {
+            return Some(at + 1 - pages);
         }
-        rest = &rest[1..];
-        at += 1;
     }
     None
 }
