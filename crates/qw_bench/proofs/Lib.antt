@@ -10,7 +10,6 @@ mod LimitLemmas
 mod MapLemmas
 mod PoolLemmas
 mod Rounds
-mod RunLemmas
 mod SeatRuns
 mod SeatSteps
 pub mod Serving

@@ -1,5 +1,5 @@
 -- Turns release nobody, so that after rounds of them from a start no instance is released.
-use Rattle.std.proofs.Common.{◌≡◌, ℕ, zero, suc, ◌<◌, Bool, true, false, ⊎_elim, List, [], ◌∷◌, ◌++◌, length, map, Option, Some, None, is_some, slice_get, slice_set, refl, sym, ap, ◌∙◌, arith}
+use Rattle.std.proofs.Common.{◌≡◌, ℕ, zero, suc, false, ⊎_elim, List, [], ◌∷◌, ◌++◌, length, map, Option, Some, None, is_some, slice_get, slice_set, refl, sym, ap, ◌∙◌}
 use Rattle.std.specs.Option.{option_map_or}
 use Rattle.std.proofs.lemmas.Bool.{cases_Bool, cases_eq}
 use Rattle.std.proofs.lemmas.Option.{slice_get_within}
@@ -11,7 +11,6 @@ use Rattle.qw_map.specs.Turns.{Instance, Common, Shared, Act, turn, release, pla
 use Rattle.qw_map.proofs.TurnFacts.{slice_get-set_same}
 use Rattle.qw_map.proofs.TurnSteps.{turn-others}
 use Rattle.qw_bench.specs.Bench.{AreRounds, AreTurns, IsStart, Task, none, first, released_in, round, unended_below}
-use Rattle.qw_bench.proofs.Rounds.{turns-append}
 use Rattle.qw_bench.proofs.Serving.{task-of}
 
 -- ---- a turn

@@ -4,26 +4,16 @@ ghost use Rattle.std.specs.Prelude.{◌≡◌, ◌+◌, ◌≤◌, ◌++◌, fal
 ghost use Rattle.std.specs.Vec.{vec_capacity};
 ghost use Rattle.qw_map.specs.Free.{lowest_run, marked};
 
-/// The lowest place of so many neighbouring flags that are true. It looks at no flag twice.
-#[tactic(auto, using(crate::proofs::RunLemmas::run_over, crate::proofs::RunLemmas::run_longer, crate::proofs::RunLemmas::run_found))]
+/// The lowest place of so many neighbouring flags that are true. It looks at each flag once.
 pub(crate) fn lowest_free(flags: &[bool], pages: usize) -> Option<usize>
     requires { 1 ≤ pages }
     ensures { result ≡ lowest_run 0 pages flags.now }
 {
-    let mut rest = flags;
-    // where the flags right before the rest begin that are true, and how many they are
-    let mut first = 0;
-    let mut run = 0;
-    while let Some((flag, later)) = rest.split_first() {
-        rest = later;
-        if *flag {
-            run += 1;
-            if run == pages {
-                return Some(first);
-            }
-        } else {
-            first += run + 1;
-            run = 0;
+    let mut count = 0;
+    for at in 0..flags.len() {
+        count = if flags[at] { count + 1 } else { 0 };
+        if count == pages {
+            return Some(at + 1 - pages);
         }
     }
     None

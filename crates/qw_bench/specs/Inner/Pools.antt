@@ -1,5 +1,5 @@
 -- What the fields of `Pool` stand for, and what they keep: mirrors `Pool`.
-use Rattle.std.specs.Prelude.{◌≡◌, ℕ, ◌*◌, ◌≤◌, length}
+use Rattle.std.specs.Prelude.{◌≡◌, ◌*◌, ◌≤◌, length}
 use Rattle.std.specs.Vec.{vec_capacity}
 use Rattle.qw_linear.specs.Memory.{most_pages, page, pages_of}
 use Rattle.qw_map.specs.Turns.{Common}

@@ -1,4 +1,3 @@
-use Rattle.std.proofs.Common.{ap, ◌∙◌}
 use Rattle.qw_bench.proofs.bench.Bench.begin.Goals as goal
 
 pub invariant_of-result : goal.invariant_of-result

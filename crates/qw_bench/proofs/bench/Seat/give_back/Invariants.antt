@@ -1,4 +1,4 @@
-use Rattle.std.proofs.Common.{◌≡◌, map, take}
+use Rattle.std.proofs.Common.{◌≡◌}
 use Rattle.qw_map.specs.Free.{given_back}
 use Rattle.qw_bench.specs.Inner.Pools.{IsPool}
 use Rattle.qw_bench.specs.Inner.Seats.{areas_before}
