@@ -1,11 +1,12 @@
-// Three instances of unlike statements over one memory, in 300 orders of turns, and beside another table: each comes to the rows, the
-// end and the counts of instructions and pages that it comes to alone.
+// Five instances of unlike statements over one memory, in 300 orders of turns, and beside another table: each comes to the rows, the
+// end and the counts of instructions and pages that it comes to alone. Three of them end by an exception and at limits, and others are
+// given their pages then.
 
 ghost use Rattle.std.specs.Prelude.{◌≤◌};
 
 use super::next_random;
 use crate::tables::{DEFAULT_LIMITS, bench_over, bench_over_two, differs, sevens};
-use qw_bench::bench::{Bench, Ended};
+use qw_bench::bench::{Bench, Ended, Limits, MAX_STEPS};
 use qw_schema::parse::schema_of;
 use qw_sink::results::received;
 use qw_types::{Code, NoMemory, Row, Schema, Val};
@@ -17,12 +18,36 @@ const SCHEMA: &[u8] = b"CREATE TABLE T (K INTEGER NOT NULL, P DECIMAL(9,2), D DA
 
 const ROWS: u32 = 130;
 
-// All rows, 63 of which fit a page; an exception at the last row, behind 129 rows that were kept; and texts and nulls.
-const STATEMENTS: [&[u8]; 3] = [
+// All columns sixteen times, of which 63 rows fit a page.
+const WIDE: &[u8] =
     b"SELECT K, P, D, L, K, P, D, L, K, P, D, L, K, P, D, L, K, P, D, L, K, P, D, L, K, P, D, L, K, P, D, L, \
-      K, P, D, L, K, P, D, L, K, P, D, L, K, P, D, L, K, P, D, L, K, P, D, L, K, P, D, L, K, P, D, L FROM T",
-    b"SELECT P / (130 - K) FROM T",
-    b"SELECT L, COALESCE(L, 'none'), P, D FROM T WHERE L < 'abc' OR P IS NULL OR D > DATE '2005-01-01'",
+      K, P, D, L, K, P, D, L, K, P, D, L, K, P, D, L, K, P, D, L, K, P, D, L, K, P, D, L, K, P, D, L FROM T";
+
+const COUNT: usize = 5;
+
+// All rows; an exception at the last row, behind 129 rows that were kept; texts and nulls; and all rows with fewer pages than they take,
+// and with fewer instructions.
+const STATEMENTS: [(&[u8], Limits); COUNT] = [
+    (WIDE, DEFAULT_LIMITS),
+    (b"SELECT P / (130 - K) FROM T", DEFAULT_LIMITS),
+    (
+        b"SELECT L, COALESCE(L, 'none'), P, D FROM T WHERE L < 'abc' OR P IS NULL OR D > DATE '2005-01-01'",
+        DEFAULT_LIMITS,
+    ),
+    (
+        WIDE,
+        Limits {
+            pages: 2,
+            steps: MAX_STEPS,
+        },
+    ),
+    (
+        WIDE,
+        Limits {
+            pages: 128,
+            steps: 1_500,
+        },
+    ),
 ];
 
 // Null where the number of a row is one of every three, five and six.
@@ -117,29 +142,38 @@ fn is_same(value: &Val, other: &Val) -> bool {
 // What each statement comes to alone.
 fn alone(alloc: Global, schema: &Schema, file: &[u8]) -> Result<Vec<Came>, Fail> {
     let mut all = Vec::new(alloc);
-    for &statement in &STATEMENTS {
-        let mut bench = bench_over(alloc, schema, file, statement, &[DEFAULT_LIMITS])??;
+    for &(statement, limits) in &STATEMENTS {
+        let mut bench = bench_over(alloc, schema, file, statement, &[limits])??;
         bench.run_all(u64::MAX);
         all.push(came_to(alloc, &bench, 0)?)?;
     }
     Ok(all)
 }
 
-// The script of the three statements.
+// The script of the statements.
 fn script(alloc: Global) -> Result<Vec<u8>, AllocError> {
     let mut script = Vec::new(alloc);
-    for &statement in &STATEMENTS {
+    for &(statement, _) in &STATEMENTS {
         script.extend_from_slice(statement)?;
         script.push(b';')?;
     }
     Ok(script)
 }
 
-// A bench of the three statements, before its first turn.
+// The limits of each.
+fn limits(alloc: Global) -> Result<Vec<Limits>, AllocError> {
+    let mut all = Vec::new(alloc);
+    for &(_, limits) in &STATEMENTS {
+        all.push(limits)?;
+    }
+    Ok(all)
+}
+
+// A bench of the statements, before its first turn.
 fn together(alloc: Global, schema: &Schema, file: &[u8]) -> Result<Bench, Fail> {
     let script = script(alloc)?;
-    let limits = [DEFAULT_LIMITS; 3];
-    Ok(bench_over(alloc, schema, file, script.as_slice(), &limits)??)
+    let limits = limits(alloc)?;
+    Ok(bench_over(alloc, schema, file, script.as_slice(), limits.as_slice())??)
 }
 
 fn runs(bench: &Bench) -> bool {
@@ -171,7 +205,7 @@ fn turn_to_the_end(bench: &mut Bench, random: u32) -> u32 {
             return state;
         }
         state = next_random(state);
-        let k = (state >> 16) as usize % 3;
+        let k = (state >> 16) as usize % COUNT;
         state = next_random(state);
         if k < bench.len() {
             bench.turn(k, quantum_of(state));
@@ -190,7 +224,11 @@ fn first_other(alloc: Global, bench: &Bench, alone: &[Came]) -> Result<Option<us
     Ok(None)
 }
 
-// Asserts that the statements come to the same in the order of a number, and answers the generator's state after it.
+// The columns, the first pages, and all that the statements are granted.
+const PAGES: u32 = 1 + 5 + 3;
+
+// Asserts that the statements come to the same in the order of a number, and answers the generator's state after it, and whether pages
+// were given again: the memory has fewer than the statements were given.
 fn one_order(
     rt: &impl Abort,
     mut bench: Bench,
@@ -198,18 +236,32 @@ fn one_order(
     alone: &[Came],
     order: u32,
     random: u32,
-) -> Result<u32, Fail> {
+) -> Result<(u32, bool), Fail> {
     let state = turn_to_the_end(&mut bench, random);
     let other = first_other(alloc, &bench, alone)?;
-    assert_eq!(rt; (order, bench.len(), other), (order, 3, None));
-    Ok(state)
+    let size = bench.memory().size();
+    assert_eq!(rt;
+        (order, bench.len(), other, size <= PAGES),
+        (order, COUNT, None, true)
+    );
+    Ok((state, size < PAGES))
 }
 
 // How each statement ends alone, and how many pages and result rows it has.
-const ENDS: [(Option<Ended>, u32, usize); 3] = [
+const ENDS: [(Option<Ended>, u32, usize); COUNT] = [
     (Some(Ended::Done), 3, 130),
     (Some(Ended::Raised(Code::DivZero)), 1, 0),
     (Some(Ended::Done), 1, 103),
+    (
+        Some(Ended::Pages {
+            held: 2,
+            asked: 1,
+            limit: 2,
+        }),
+        2,
+        0,
+    ),
+    (Some(Ended::Steps { limit: 1_500 }), 1, 0),
 ];
 
 fn assert_ends(rt: &impl Abort, alone: &[Came]) {
@@ -226,15 +278,19 @@ fn turns_change_nothing(rt: HostRuntime) -> Result<(), Fail> {
     let alone = alone(alloc, &schema, file.as_bytes())?;
     assert_ends(&rt, alone.as_slice());
     let mut random = 1;
+    let mut given_again: u32 = 0;
     for order in 0..300 {
         let bench = together(alloc, &schema, file.as_bytes())?;
-        random = one_order(&rt, bench, alloc, alone.as_slice(), order, random)?;
+        let (state, smaller) = one_order(&rt, bench, alloc, alone.as_slice(), order, random)?;
+        random = state;
+        given_again = given_again.wrapping_add(u32::from(smaller));
     }
+    assert_eq!(rt; given_again >= 30, true);
     Ok(())
 }
 
 // A round of turns: which instance runs, and how many instructions at most.
-const LISTED: [(usize, u64); 3] = [(0, 1), (2, 7), (1, 3)];
+const LISTED: [(usize, u64); COUNT] = [(0, 1), (2, 7), (1, 3), (4, 2), (3, 5)];
 
 // How many instructions a turn of an instance ran.
 fn turned(bench: &mut Bench, k: usize, quantum: u64) -> u64 {
@@ -245,7 +301,7 @@ fn turned(bench: &mut Bench, k: usize, quantum: u64) -> u64 {
 }
 
 // Gives the turns of a round, and adds what each answers to the sum of its instance.
-fn listed_round(bench: &mut Bench, sums: &mut [u64; 3]) {
+fn listed_round(bench: &mut Bench, sums: &mut [u64; COUNT]) {
     for &(k, quantum) in &LISTED {
         let ran = turned(bench, k, quantum);
         if let Some(sum) = sums.get_mut(k) {
@@ -255,8 +311,8 @@ fn listed_round(bench: &mut Bench, sums: &mut [u64; 3]) {
 }
 
 // Gives listed rounds until all instances have ended, and answers how many instructions the turns of each ran.
-fn listed_to_the_end(bench: &mut Bench) -> [u64; 3] {
-    let mut sums = [0; 3];
+fn listed_to_the_end(bench: &mut Bench) -> [u64; COUNT] {
+    let mut sums = [0; COUNT];
     for _ in 0..1_000_000 {
         if !runs(bench) {
             return sums;
@@ -266,7 +322,7 @@ fn listed_to_the_end(bench: &mut Bench) -> [u64; 3] {
     sums
 }
 
-// The turns of unlike quanta, 1, 7 and 3, end each statement as it ends alone, and what they answer are its instructions. A turn behind
+// The turns of unlike quanta, from 1 to 7, end each statement as it ends alone, and what they answer are its instructions. A turn behind
 // the end runs none.
 #[test]
 fn listed_turns_change_nothing(rt: HostRuntime) -> Result<(), Fail> {
@@ -279,10 +335,10 @@ fn listed_turns_change_nothing(rt: HostRuntime) -> Result<(), Fail> {
     for (came, sum) in alone.iter().zip(&sums) {
         assert_eq!(rt; *sum, came.steps);
     }
-    let mut behind = [0; 3];
+    let mut behind = [0; COUNT];
     listed_round(&mut bench, &mut behind);
     let other = first_other(alloc, &bench, alone.as_slice())?;
-    assert_eq!(rt; (behind, other), ([0; 3], None));
+    assert_eq!(rt; (behind, other), ([0; COUNT], None));
     Ok(())
 }
 
@@ -299,14 +355,14 @@ const COLUMNS: [(u64, [u8; 8]); 2] = [
     (80_064, [1, 0, 0, 0, 2, 0, 0, 0]),
 ];
 
-// A bench of the three statements over T behind the other table, before its first turn.
+// A bench of the statements over T behind the other table, before its first turn.
 fn behind_another(alloc: Global, file: &[u8]) -> Result<Bench, Fail> {
     let schema = schema_of(alloc, BEHIND)?;
     let other = sevens(alloc, OTHER_ROWS)?;
     let script = script(alloc)?;
-    let limits = [DEFAULT_LIMITS; 3];
+    let limits = limits(alloc)?;
     let files = (other.as_slice(), file);
-    Ok(bench_over_two(alloc, &schema, files, script.as_slice(), &limits)??)
+    Ok(bench_over_two(alloc, &schema, files, script.as_slice(), limits.as_slice())??)
 }
 
 #[test]
@@ -318,6 +374,6 @@ fn another_table_changes_nothing(rt: HostRuntime) -> Result<(), Fail> {
     bench.run_all(u64::MAX);
     let other = first_other(alloc, &bench, alone.as_slice())?;
     let elsewhere = differs(bench.memory(), &COLUMNS);
-    assert_eq!(rt; (bench.len(), other, elsewhere), (3, None, None));
+    assert_eq!(rt; (bench.len(), other, elsewhere), (COUNT, None, None));
     Ok(())
 }
