@@ -5,7 +5,7 @@ use Rattle.std.specs.List.{AllByRecursion}
 use Rattle.qw_types.specs.declared.value.Val.{Val}
 use Rattle.qw_types.specs.declared.value.Val.TheVariants as val
 use Rattle.qw_scalar.specs.Evaluation.{value_of, at_row}
-use Rattle.qw_scalar.specs.Expression.{Expression, Condition, null, number, date, text, column, arithmetic, negative, extract, brought, choice, comparison, predicate, both, either, negation_of, scale_of}
+use Rattle.qw_scalar.specs.Expression.{Expression, Condition, null, number, date, text, column, arithmetic, negative, extract, brought, choice, given, cell, comparison, predicate, both, either, negation_of, Operands, nil, scale_of}
 use Rattle.qw_scalar.specs.Expression as scalar
 use Rattle.qw_scalar.specs.Typing.{kind_of}
 use Rattle.qw_module.specs.declared.instruction.ValType.{ValType}
@@ -21,7 +21,7 @@ use Rattle.qw_expr.specs.declared.known.Binding.{Binding}
 use Rattle.qw_expr.specs.declared.known.Leaf.{Leaf}
 use Rattle.qw_expr.specs.declared.known.Leaf.TheVariants as leaf
 use Rattle.qw_expr.specs.declared.operand.Operand.{Operand}
-use Rattle.qw_expr.specs.Bindings.{IsAmong, IsServed, Knows, TakeKnown, TakesKnown, known_of, named}
+use Rattle.qw_expr.specs.Bindings.{IsAmong, IsServed, Knows, OperandsTakeKnown, TakeKnown, TakesKnown, known_of, named}
 use Rattle.qw_expr.specs.Cells.{DeclaresNull, DeclaresValue, Holds, IsBelow}
 use Rattle.qw_expr.specs.Computes.{Known}
 use Rattle.qw_expr.specs.Inner.Guards.{AreLeaves, Calm, Flagged, Gathers, Tells, any_of, null_words, sure_operand}
@@ -64,6 +64,8 @@ mutual
   takes_more known more (extract field a) all takes = takes_more known more a all takes
   takes_more known more (brought a s) all takes = takes_more known more a all takes
   takes_more known more (choice c a b) all takes = (take_more known more c all takes.0, (takes_more known more a all takes.1.0, takes_more known more b all takes.1.1))
+  takes_more known more (given w k most v) all takes = takes
+  takes_more known more (cell i ty most) all takes = knows_more known more (column i ty) all takes
 
   pub take_more : (known more : List Known) (c : Condition) → Includes more known → TakeKnown known c → TakeKnown more c
   take_more known more (comparison op a b) all takes = (takes_more known more a all takes.0, takes_more known more b all takes.1)
@@ -72,6 +74,11 @@ mutual
   take_more known more (either c d) all takes = (take_more known more c all takes.0, take_more known more d all takes.1)
   take_more known more (negation_of c) all takes = take_more known more c all takes
   take_more known more (scalar.is c t) all takes = take_more known more c all takes
+  take_more known more (scalar.found n asked keys kinds rows) all takes = (operands_take_more known more asked all takes.0, operands_take_more known more keys all takes.1)
+
+  pub operands_take_more : (known more : List Known) (es : Operands) → Includes more known → OperandsTakeKnown known es → OperandsTakeKnown more es
+  operands_take_more known more nil all takes = takes
+  operands_take_more known more (scalar.operand e es) all takes = (takes_more known more e all takes.0, operands_take_more known more es all takes.1)
 
 -- ---- null words
 flagged_two : (s : LowState) (a b : List ℕ) (g h : Bool) → Flagged s a g → Flagged s b h → Flagged s (a ++ b) (g || h)

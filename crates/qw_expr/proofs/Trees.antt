@@ -2,7 +2,7 @@
 use Rattle.std.proofs.Common.{◌≡◌, ℕ, ◌+◌, ◌*◌, ◌≤◌, List, [], ◌∷◌, length, Result, Ok, Err, IfOk, OnOk, refl, sym, ap, subst, inl, inr, arith}
 use Rattle.qw_scalar.specs.declared.expression.Operator.{Operator}
 use Rattle.qw_scalar.specs.declared.expression.Operator.TheVariants as op
-use Rattle.qw_scalar.specs.Expression.{Expression, Condition, null, number, date, text, column, arithmetic, negative, extract, brought, choice, scale_after, scale_of}
+use Rattle.qw_scalar.specs.Expression.{Expression, Condition, null, number, date, text, column, arithmetic, negative, extract, brought, choice, given, cell, scale_after, scale_of}
 use Rattle.qw_scalar.specs.Typing.{IsTyped, ScalesAllowed, kind_of}
 use Rattle.qw_low.specs.declared.cell.Cell.{Cell}
 use Rattle.qw_low.specs.Syntax as low
@@ -41,6 +41,8 @@ scale_low (choice c a b) h =
     let one = scale_low a h.1.0.0 in
     let other = scale_low b h.1.0.1 in
     omega (arith, one, other)
+scale_low (given w k most v) h = h.0.0
+scale_low (cell i ty most) h = h.0
 
 -- ---- what is known
 pub includes_same : (known : List Known) → Includes known known

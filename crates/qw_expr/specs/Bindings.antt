@@ -1,7 +1,7 @@
 -- What is known of columns and literals that are in locals, and which expressions take no others.
 use Rattle.std.specs.Prelude.{◌≡◌, ◌⊎◌, ℕ, List, [], ◌∷◌}
 use Rattle.std.specs.List.{AllByRecursion}
-use Rattle.qw_scalar.specs.Expression.{Expression, Condition, null, number, date, text, column, arithmetic, negative, extract, brought, choice, comparison, predicate, both, either, negation_of, is, scale_of}
+use Rattle.qw_scalar.specs.Expression.{Expression, Condition, null, number, date, text, column, arithmetic, negative, extract, brought, choice, given, cell, comparison, predicate, both, either, negation_of, is, found, Operands, nil, operand, scale_of}
 use Rattle.qw_scalar.specs.Typing.{kind_of}
 use Rattle.qw_expr.specs.declared.known.Leaf.{Leaf}
 use Rattle.qw_expr.specs.declared.known.Leaf.TheVariants as leaf
@@ -27,7 +27,7 @@ IsAmong k (first ∷ known) = (k ≡ first) ⊎ IsAmong k known
 abbrev pub Knows : List Known → Expression → Type 0
 Knows known e = (o : Operand) × IsAmong (record { expression = e; operand = o }) known
 
--- every column and every literal of an expression is known, but for NULL
+-- every column and every literal of an expression is known, but for NULL; what is filled in before evaluation is neither
 abbrev mutual
   pub TakesKnown : List Known → Expression → Type 0
   TakesKnown known null = Unit {0}
@@ -40,6 +40,8 @@ abbrev mutual
   TakesKnown known (extract field a) = TakesKnown known a
   TakesKnown known (brought a s) = TakesKnown known a
   TakesKnown known (choice c a b) = TakeKnown known c × (TakesKnown known a × TakesKnown known b)
+  TakesKnown known (given w k most v) = Unit {0}
+  TakesKnown known (cell i ty most) = Knows known (column i ty)
 
   pub TakeKnown : List Known → Condition → Type 0
   TakeKnown known (comparison op a b) = TakesKnown known a × TakesKnown known b
@@ -48,6 +50,11 @@ abbrev mutual
   TakeKnown known (either c d) = TakeKnown known c × TakeKnown known d
   TakeKnown known (negation_of c) = TakeKnown known c
   TakeKnown known (is c t) = TakeKnown known c
+  TakeKnown known (found n asked keys kinds rows) = OperandsTakeKnown known asked × OperandsTakeKnown known keys
+
+  pub OperandsTakeKnown : List Known → Operands → Type 0
+  OperandsTakeKnown known nil = Unit {0}
+  OperandsTakeKnown known (operand e es) = TakesKnown known e × OperandsTakeKnown known es
 
 -- what is known is in locals below one, and its operands say its kinds and scales
 abbrev pub IsServed : ℕ → List Known → Type 0
