@@ -354,13 +354,16 @@ function run(bytes, { pieces, tables, pages }, schema, { columns, texts }) {
   entries.forEach((word, index) => words.setUint32(descriptor + 64 + 4 * index, word, true));
   new Uint8Array(memory.buffer).set(literals, behind);
   const raise = (code) => { throw new Raised(code); };
-  const { exports } = new WebAssembly.Instance(new WebAssembly.Module(bytes), { q: { memory, raise } });
+  const held = () => memory.buffer.byteLength / PAGE - pages;
+  // Where the first of so many more pages stands, which are the memory's next ones: a host may use again what others gave back, but need not.
+  const next = (count) => (held() + (count >>> 0) > PAGE_LIMIT ? -1 : memory.grow(count >>> 0));
+  const { exports } = new WebAssembly.Instance(new WebAssembly.Module(bytes), { q: { memory, raise, pages: next } });
   try {
     exports.run(descriptor);
     return { view: new DataView(memory.buffer), descriptor };
   } catch (fault) {
     if (!(fault instanceof Raised)) throw fault;
-    return { code: fault.code, held: memory.buffer.byteLength / PAGE - pages };
+    return { code: fault.code, held: held() };
   }
 }
 

@@ -281,6 +281,7 @@ module _ (promise : Promise) (layout : Layout) (whole : Statement) (others : ℕ
       goes_with = goes_with;
       nests = is_made.nests;
       no_size = is_made.no_size;
+      no_growth = is_made.no_growth;
       spelled = is_made.spelled;
       short = omega (arith, is_made.weight, short);
       light = λ number shape. omega (arith, is_made.called number shape, short);

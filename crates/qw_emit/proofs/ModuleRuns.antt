@@ -6,7 +6,7 @@ use Rattle.qw_linear.specs.Memory.{page}
 use Rattle.qw_module.specs.declared.instruction.ValType.{ValType}
 use Rattle.qw_module.specs.declared.module.Function.{Function}
 use Rattle.qw_module.specs.declared.module.Module.{Module}
-use Rattle.qw_module.specs.Execution.{Store, State, host_raise, own, label, settled}
+use Rattle.qw_module.specs.Execution.{Store, State, host_raise, host_pages, own, label, settled}
 use Rattle.qw_module.specs.Start.{begun, first_store, sequences_of_function, locals_of_function, weight, weight_with, weights_below, weight_of_function}
 use Rattle.qw_module.specs.Syntax.{Code, Sequences, done, code_of}
 use Rattle.qw_module.specs.Validity.{code_of_body, declared_types, imported_functions, sequences_of, IsOneI32, IsShaped}
@@ -38,13 +38,13 @@ function_there None P h = absurd h
 function_there (Some run) P h = (run, refl)
 
 module _ (locals : List ValType) (sequences : Sequences) (a : Statement) (code_is : code_of sequences ≡ statement_code a done) where
-  -- it calls only the host's function, which has no instructions
-  run_size : weights_below (host_raise ∷ own (run_closure locals sequences) ∷ []) 2 1 ≡ size a
+  -- it calls only the host's functions, which have no instructions
+  run_size : weights_below (host_raise ∷ host_pages ∷ own (run_closure locals sequences) ∷ []) 3 2 ≡ size a
   unfolding weights_below
   run_size =
       let nothing : size a + 0 ≡ size a = omega arith in
-      ap (weight_with (weights_below (host_raise ∷ own (run_closure locals sequences) ∷ []) 1)) code_is
-      ∙ statement_size (weights_below (host_raise ∷ own (run_closure locals sequences) ∷ []) 1) refl a done ∙ nothing
+      ap (weight_with (weights_below (host_raise ∷ host_pages ∷ own (run_closure locals sequences) ∷ []) 2)) code_is
+      ∙ statement_size (weights_below (host_raise ∷ host_pages ∷ own (run_closure locals sequences) ∷ []) 2) refl refl a done ∙ nothing
 
   module _ (m : Module) (is : IsAround locals sequences m) where
     abbrev parts : Parts locals sequences m
@@ -55,7 +55,7 @@ module _ (locals : List ValType) (sequences : Sequences) (a : Statement) (code_i
     all_size =
         let nothing : size a + 0 ≡ size a = omega arith in
         let body : weight (code_of_body parts.run.body) ≡ size a =
-        ap (λ (body : Sequences). weight (code_of body)) parts.sequences_are ∙ ap (λ (code : Code). weight code) code_is ∙ statement_size (λ index. 0) refl a done ∙ nothing in
+        ap (λ (body : Sequences). weight (code_of body)) parts.sequences_are ∙ ap (λ (code : Code). weight code) code_is ∙ statement_size (λ index. 0) refl refl a done ∙ nothing in
         rw parts.functions (omega (arith, body))
 
     module _ (number : ℕ) (is_shaped : IsShaped m number) where
@@ -95,7 +95,7 @@ module _ (locals : List ValType) (sequences : Sequences) (a : Statement) (code_i
           let values : List Value = first_locals (length locals) in
           let w : World = first_world layout placed descriptor limit in
           subst (λ (state : State). RunsAs (meaning most fuel a (first_state layout tables limit values)) most (start descriptor limit layout placed memory state)) (sym (begun_is descriptor))
-          (low_runs most fuel a (first_state layout tables limit values) (the_store locals sequences) w memory (descriptor ∷ replicate (length locals) 0) refl
+          (low_runs most fuel a (first_state layout tables limit values) (the_store locals sequences) w memory (descriptor ∷ replicate (length locals) 0) (refl, refl)
           (ready-stands layout placed tables descriptor limit memory ready small values) (first_means descriptor limit layout placed, zeros-meant w (length locals)))
 
       course_around : (most fuel limit : ℕ) (layout : Layout) (tables : List (List (List Val))) → descriptor_size layout ≤ page →
@@ -103,10 +103,10 @@ module _ (locals : List ValType) (sequences : Sequences) (a : Statement) (code_i
           IsReady layout placed tables descriptor limit memory → OpenRun k (beginning m number layout placed descriptor limit memory) b → seen b ≡ course' k)
       course_around most fuel limit layout tables small =
           let values : List Value = first_locals (length locals) in (
-            course most fuel a (first_state layout tables limit values) (the_store locals sequences) refl,
+            course most fuel a (first_state layout tables limit values) (the_store locals sequences) (refl, refl),
             λ done' k descriptor placed memory b ready run.
                 let w : World = first_world layout placed descriptor limit in
-                keeps_step most fuel a (first_state layout tables limit values) (the_store locals sequences) refl done' w memory (descriptor ∷ replicate (length locals) 0)
+                keeps_step most fuel a (first_state layout tables limit values) (the_store locals sequences) (refl, refl) done' w memory (descriptor ∷ replicate (length locals) 0)
                 (ready-stands layout placed tables descriptor limit memory ready small values) (first_means descriptor limit layout placed, zeros-meant w (length locals)) k b
                 (subst (λ (state : State). OpenRun k (start descriptor limit layout placed memory state) b) (begun_is descriptor) run),
           )

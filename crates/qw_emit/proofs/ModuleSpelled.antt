@@ -30,7 +30,7 @@ pub spelled_around : (types : List ValType) (locals : Vec Locals) (body : Body) 
     (text : List ℕ) × SpellsModule (contents_of m) text × (length text ≤ 2 ^ 26)
 spelled_around types locals body s code_is m types_are some around (run, functions, index, locals_are, body_is) order labels offsets runnable small few =
     let none : size s + 0 ≡ size s = omega arith in
-    let weighed : weight (code_of_body body) ≡ size s = ap (λ (code : Code). weight code) code_is ∙ statement_size (λ index. 0) refl s done ∙ none in
+    let weighed : weight (code_of_body body) ≡ size s = ap (λ (code : Code). weight code) code_is ∙ statement_size (λ index. 0) refl refl s done ∙ none in
     let alone : IsRunAlone run m = record {
       types = around.types;
       imports = around.imports;

@@ -1,6 +1,6 @@
 -- What of its world an instance keeps in an open run: the mapped columns and its first page.
-use Rattle.std.proofs.Common.{◌≡◌, ℕ, List, [], ◌∷◌, ◌++◌, true, false, Some, slice_get, refl, ◌∙◌}
-use Rattle.qw_module.specs.Execution.{Event, Silent, Loads, Stores, Grows, Raises, Traps}
+use Rattle.std.proofs.Common.{◌≡◌, ℕ, List, [], ◌∷◌, ◌++◌, true, false, Some, None, slice_get, refl, ◌∙◌}
+use Rattle.qw_module.specs.Execution.{Event, Silent, Loads, Stores, Grows, AsksHost, Raises, Traps}
 use Rattle.qw_map.specs.Areas.{Area, World, granted_area, world_after}
 use Rattle.qw_map.specs.Runs.{Moment, OpenRun, begins, goes_on}
 
@@ -18,6 +18,8 @@ step-keeps w memory (Loads address width) = record { mapped = refl; first = λ a
 step-keeps w memory (Stores address width) = record { mapped = refl; first = λ a is. is }
 step-keeps w memory (Grows pages true) = record { mapped = refl; first = first-stays w.own (granted_area _ pages) }
 step-keeps w memory (Grows pages false) = record { mapped = refl; first = λ a is. is }
+step-keeps w memory (AsksHost pages (Some first)) = record { mapped = refl; first = first-stays w.own (granted_area _ pages) }
+step-keeps w memory (AsksHost pages None) = record { mapped = refl; first = λ a is. is }
 step-keeps w memory (Raises code) = record { mapped = refl; first = λ a is. is }
 step-keeps w memory (Traps why) = record { mapped = refl; first = λ a is. is }
 

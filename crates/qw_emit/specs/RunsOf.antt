@@ -3,7 +3,7 @@ use Rattle.std.specs.Prelude.{◌≡◌, ℕ, ◌≤◌, List, ◌∷◌, replic
 use Rattle.qw_types.specs.declared.value.Val.{Val}
 use Rattle.qw_linear.specs.Memory.{page}
 use Rattle.qw_module.specs.declared.module.Module.{Module}
-use Rattle.qw_module.specs.Form.{CallsNestWithin, NeverAsksSize}
+use Rattle.qw_module.specs.Form.{CallsNestWithin, NeverAsksSize, NeverGrows}
 use Rattle.qw_module.specs.Validity.{IsShaped}
 use Rattle.qw_binary.specs.Contents.{contents_of}
 use Rattle.qw_binary.specs.Modules.{SpellsModule}
@@ -38,12 +38,13 @@ pub record RunsOf (m : Module) (s : Statement) (others : ℕ) : Type 0 where
       (course : ℕ → Seen) × (IsDone (comes_to most fuel s layout tables limit others) → (k descriptor : ℕ) (placed : List Placed) (memory : List ℕ) (b : Moment) →
       IsReady layout placed tables descriptor limit memory → OpenRun k (beginning m number layout placed descriptor limit memory) b → seen b ≡ course k)
 
--- It can be run, its calls nest at most three deep, it never asks for the memory's size, it is spelled in at most 64 MiB, it has as many
--- instructions as the statement, with those that it calls too, and its runs are the statement's.
+-- It can be run, its calls nest at most three deep, it never asks for the memory's size and never grows it, it is spelled in at most 64
+-- MiB, it has as many instructions as the statement, with those that it calls too, and its runs are the statement's.
 pub record IsMadeOf (m : Module) (s : Statement) (others : ℕ) : Type 0 where
   pub runnable : IsRunnable m
   pub nests : CallsNestWithin m 3
   pub no_size : NeverAsksSize m
+  pub no_growth : NeverGrows m
   pub spelled : (text : List ℕ) × SpellsModule (contents_of m) text × (length text ≤ 2 ^ 26)
   pub weight : module_weight m ≡ size s
   pub called : (number : ℕ) → IsShaped m number → weight_of m number ≡ size s

@@ -8,7 +8,7 @@ ghost use Rattle.qw_types.specs.declared.value.Val.{Val};
 ghost use Rattle.qw_module.specs.declared.instruction.ValType.TheVariants.{I32};
 ghost use Rattle.qw_module.specs.declared.module.Function.{Function};
 ghost use Rattle.qw_module.specs.declared.module.Locals as runs;
-ghost use Rattle.qw_module.specs.Form.{CallsNestWithin, NeverAsksSize};
+ghost use Rattle.qw_module.specs.Form.{CallsNestWithin, NeverAsksSize, NeverGrows};
 ghost use Rattle.qw_module.specs.Start.{weight, weight_of_function};
 ghost use Rattle.qw_module.specs.Validity.{IsShaped, code_of_body, declared_types, imported_functions, sequences_of};
 ghost use Rattle.qw_map.specs.Behaving.{IsRunnable, beginning};
@@ -33,11 +33,14 @@ use qw_module::module::{
 use qw_types::NoMemory;
 use std::alloc::Global;
 
-/// The index of the type of `raise` and `run`, the only one of the module: one i32, and no result.
-const TYPE_INDEX: u32 = 0;
+/// The index of the type of `raise` and `run`: one i32, and no result.
+const RUN_TYPE: u32 = 0;
 
-/// The index of the module's own function `run`, behind the imported `raise`.
-const RUN_INDEX: u32 = 1;
+/// The index of the type of `pages`: one i32, the number of pages, and one as its result, the number of the first or -1.
+const PAGES_TYPE: u32 = 1;
+
+/// The index of the module's own function `run`, behind the imported `raise` and `pages`.
+const RUN_INDEX: u32 = 2;
 
 /// Adds a local of a type: to the last run where that is of this type, else as a run of its own.
 fn add_local(locals: &mut Vec<Locals>, ty: ValType) -> Result<(), NoMemory>
@@ -77,13 +80,17 @@ fn module_around(alloc: Global, body: Body, locals: Vec<Locals>) -> Result<Modul
     ensures run { IfOk result (λ m. (run : Function) × (m.functions.items ≡ run ∷ []) × (run.type_index ≡ 0) × (run.locals ≡ locals) × (run.body ≡ body)) }
 {
     let run = Function {
-        type_index: TYPE_INDEX,
+        type_index: RUN_TYPE,
         locals,
         body,
     };
-    let signature = FuncType {
+    let run_type = FuncType {
         params: vec![in alloc; ValType::I32]?,
         results: Vec::new(alloc),
+    };
+    let pages_type = FuncType {
+        params: vec![in alloc; ValType::I32]?,
+        results: vec![in alloc; ValType::I32]?,
     };
     let memory = Import::Memory(Limits { min: 1, max: None });
     let export = Export {
@@ -91,8 +98,8 @@ fn module_around(alloc: Global, body: Body, locals: Vec<Locals>) -> Result<Modul
         kind: ExportKind::Function(RUN_INDEX),
     };
     Ok(Module {
-        types: vec![in alloc; signature]?,
-        imports: vec![in alloc; memory, Import::Raise(TYPE_INDEX)]?,
+        types: vec![in alloc; run_type, pages_type]?,
+        imports: vec![in alloc; memory, Import::Raise(RUN_TYPE), Import::Pages(PAGES_TYPE)]?,
         functions: vec![in alloc; run]?,
         memories: Vec::new(alloc),
         globals: Vec::new(alloc),
@@ -102,9 +109,9 @@ fn module_around(alloc: Global, body: Body, locals: Vec<Locals>) -> Result<Modul
 
 /// The module whose `run` does what a block does: its argument is the first local, the address of the first page, and behind it are
 /// locals of these types, which begin as 0. Of a block whose steps are a typed statement's, it can be run, it has as many instructions
-/// as the statement, with those that it calls too, its calls nest at most three deep, it never asks for the memory's size, and each of its
-/// runs over a memory that is ready is the statement's run of the first state. Of at most 2^22 instructions and 2^21 locals it is spelled in
-/// at most 64 MiB.
+/// as the statement, with those that it calls too, its calls nest at most three deep, it never asks for the memory's size and never grows
+/// it, and each of its runs over a memory that is ready is the statement's run of the first state. Of at most 2^22 instructions and 2^21
+/// locals it is spelled in at most 64 MiB.
 ///
 /// # Errors
 ///
@@ -117,6 +124,7 @@ pub fn module_of(alloc: Global, block: &Block, locals: &[ValType]) -> Result<Mod
         weight_of_function m (length (imported_functions m) + number) ≡ size s) }
     ensures nests { IfOk result (λ m. (s : Statement) → block.now.code.items ≡ steps_of s → IsTyped (I32 ∷ locals.now) s → CallsNestWithin m 3) }
     ensures no_size { IfOk result (λ m. (s : Statement) → block.now.code.items ≡ steps_of s → NeverAsksSize m) }
+    ensures no_growth { IfOk result (λ m. (s : Statement) → block.now.code.items ≡ steps_of s → NeverGrows m) }
     ensures spelled { IfOk result (λ m. (s : Statement) → block.now.code.items ≡ steps_of s → IsTyped (I32 ∷ locals.now) s → size s ≤ 2 ^ 22 → length locals.now ≤ 2 ^ 21 →
         (text : List ℕ) × SpellsModule (contents_of m) text × (length text ≤ 2 ^ 26)) }
     ensures runs { IfOk result (λ m. (s : Statement) → block.now.code.items ≡ steps_of s → RunsOf m s (length locals.now)) }

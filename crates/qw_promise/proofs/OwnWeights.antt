@@ -35,6 +35,7 @@ hosts-many : (imports : List Import) → length (filter_map host_of imports) ≡
 hosts-many [] = refl
 hosts-many (import.Memory limits ∷ imports) = hosts-many imports
 hosts-many (import.Raise type ∷ imports) = ap suc (hosts-many imports)
+hosts-many (import.Pages type ∷ imports) = ap suc (hosts-many imports)
 
 get-behind : {A : Type 0} (xs ys : List A) (k : ℕ) → slice_get (xs ++ ys) (length xs + k) ≡ slice_get ys k
 get-behind [] ys k = let same : 0 + k ≡ k = omega arith in rw same refl
@@ -66,12 +67,18 @@ module _ (m : Module) where
   weight-none number past =
       weights-past (callees_of m) (length (callees_of m)) (length (imported_functions m) + number) (omega (arith, callees-many))
 
-  -- what a call of the host's function has, and of an own one
+  -- what a call of either of the host's functions has, and of an own one
   pub weight-host : (n : ℕ) → 0 < n → m.imports.items ≡ import.Raise 0 ∷ [] → weights_below (callees_of m) n 0 ≡ 0
   weight-host n some imports =
       weights-at (callees_of m) n 0 some
       ∙ ap (λ (imports : List Import).
       weight_of_callee (weights_below (callees_of m) 0) (slice_get (filter_map host_of imports ++ map (λ function. own (closure_of m function)) m.functions.items) 0)) imports
+
+  pub weight-asked : (n : ℕ) → 1 < n → m.imports.items ≡ import.Raise 0 ∷ import.Pages 1 ∷ [] → weights_below (callees_of m) n 1 ≡ 0
+  weight-asked n some imports =
+      weights-at (callees_of m) n 1 some
+      ∙ ap (λ (imports : List Import).
+      weight_of_callee (weights_below (callees_of m) 1) (slice_get (filter_map host_of imports ++ map (λ function. own (closure_of m function)) m.functions.items) 1)) imports
 
   pub weight-called : (n index number : ℕ) (f : Function) → slice_get m.functions.items number ≡ Some f →
       length (imported_functions m) + number ≡ index → index < n → weights_below (callees_of m) n index ≡ weight_of m number

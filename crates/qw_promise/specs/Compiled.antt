@@ -7,7 +7,7 @@ use Rattle.qw_types.specs.declared.value.Val.{Val}
 use Rattle.qw_linear.specs.Memory.{page}
 use Rattle.qw_module.specs.declared.module.Function.{Function}
 use Rattle.qw_module.specs.declared.module.Module.{Module}
-use Rattle.qw_module.specs.Form.{CallsNestWithin, NeverAsksSize}
+use Rattle.qw_module.specs.Form.{CallsNestWithin, NeverAsksSize, NeverGrows}
 use Rattle.qw_module.specs.Start.{weight, weight_of_function}
 use Rattle.qw_module.specs.Validity.{IsShaped, imported_functions, code_of_body}
 use Rattle.qw_binary.specs.Contents.{contents_of}
@@ -85,9 +85,10 @@ pub record IsCompiled (promise : Promise) (layout : Layout) (m : Module) : Type 
   pub runnable : IsRunnable m
   pub is_job : BehavesWith layout m
   pub goes_with : GoesWith promise layout
-  -- its functions call at most three deep, and never ask for the memory's size
+  -- its functions call at most three deep, never ask for the memory's size, and never grow it: pages come from the host
   pub nests : CallsNestWithin m 3
   pub no_size : NeverAsksSize m
+  pub no_growth : NeverGrows m
   -- it is spelled in at most 64 MiB
   pub spelled : (text : List ℕ) × SpellsModule (contents_of m) text × (length text ≤ 2 ^ 26)
   -- all functions of its own have at most 2^22 instructions together, and its `run` at most 2^24 with all that it calls

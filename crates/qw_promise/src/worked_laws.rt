@@ -73,7 +73,8 @@ pub fn weights_of_bodies()
 
 /// A module's functions count together. Each has its own number, and counts with the functions that it calls, as often as it
 /// calls them: the imported one counts nothing, so the first function has 3 instructions, and the second, which calls the first
-/// twice, has 4 + 2 * 3 = 10 with it.
+/// twice, has 4 + 2 * 3 = 10 with it. Nor does the other one count that may be imported, by which pages are asked for: the call itself is an
+/// instruction as any other.
 pub fn weight_of_two_functions()
     ensures together { (m : Module) (f g : Function) → m.functions.items ≡ f ∷ g ∷ [] →
         weight (code_of_body f.body) ≡ 3 → weight (code_of_body g.body) ≡ 4 → module_weight m ≡ 7 }
@@ -82,6 +83,8 @@ pub fn weight_of_two_functions()
     ensures second { (m : Module) (f g : Function) → m.imports.items ≡ import.Raise 0 ∷ [] → m.functions.items ≡ f ∷ g ∷ [] →
         code_of_body f.body ≡ op (o.LocalGet 0) (op (o.LocalGet 0) (call 0 done)) →
         code_of_body g.body ≡ op (o.LocalGet 0) (call 1 (op (o.LocalGet 0) (call 1 done))) → weight_of m 1 ≡ 10 }
+    ensures asked { (m : Module) (f : Function) → m.imports.items ≡ import.Raise 0 ∷ import.Pages 1 ∷ [] → m.functions.items ≡ f ∷ [] →
+        code_of_body f.body ≡ op (o.LocalGet 0) (call 1 (op (o.LocalSet 0) done)) → weight_of m 0 ≡ 3 }
     ensures no_third { (m : Module) (f g : Function) → m.functions.items ≡ f ∷ g ∷ [] → weight_of m 2 ≡ 0 }
 {}
 

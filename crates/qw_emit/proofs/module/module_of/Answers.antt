@@ -2,7 +2,7 @@ use Rattle.std.proofs.Common.{List, ◌∙◌, subst}
 use Rattle.qw_module.specs.declared.instruction.ValType.{ValType}
 use Rattle.qw_module.specs.Validity.{sequences_of}
 use Rattle.qw_emit.specs.Inner.Around.{IsAround}
-use Rattle.qw_emit.proofs.FormLemmas.{asks_around, nests_around}
+use Rattle.qw_emit.proofs.FormLemmas.{asks_around, grows_around, nests_around}
 use Rattle.qw_emit.proofs.ModuleRuns.{all_size, called_size, runs_of}
 use Rattle.qw_emit.proofs.ModuleSpelled.{spelled_around}
 use Rattle.qw_emit.proofs.ModuleValid.{runnable_code}
@@ -37,6 +37,11 @@ returns-clause-nests c = λ s code typed.
 pub returns-clause-no_size : goal.returns-clause-no_size
 returns-clause-no_size c = λ s code.
     asks_around c.args.locals.now (sequences_of c.in_ok-body.body) s (c.in_ok-body.ensures.code s (c.deref.ensures.value ∙ code)) c.in_ok-module.module
+    (subst (λ (types : List ValType). IsAround types (sequences_of c.in_ok-body.body) c.in_ok-module.module) c.in_ok-declared.ensures.types c.in_ok-module.ensures.around)
+
+pub returns-clause-no_growth : goal.returns-clause-no_growth
+returns-clause-no_growth c = λ s code.
+    grows_around c.args.locals.now (sequences_of c.in_ok-body.body) s (c.in_ok-body.ensures.code s (c.deref.ensures.value ∙ code)) c.in_ok-module.module
     (subst (λ (types : List ValType). IsAround types (sequences_of c.in_ok-body.body) c.in_ok-module.module) c.in_ok-declared.ensures.types c.in_ok-module.ensures.around)
 
 pub returns-clause-spelled : goal.returns-clause-spelled
