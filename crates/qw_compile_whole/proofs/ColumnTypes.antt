@@ -11,7 +11,7 @@ use Rattle.qw_types.specs.declared.value.Ty.{Ty}
 use Rattle.qw_types.specs.declared.value.Ty.TheVariants as types
 use Rattle.qw_scalar.specs.declared.expression.Operator.{Operator}
 use Rattle.qw_scalar.specs.declared.expression.Operator.TheVariants as op
-use Rattle.qw_scalar.specs.Expression.{Expression, null, number, date, text, column, arithmetic, negative, extract, brought, choice, scale_after, scale_of}
+use Rattle.qw_scalar.specs.Expression.{Expression, null, number, date, text, column, arithmetic, negative, extract, brought, choice, given, cell, kind_scale, scale_after, scale_of}
 use Rattle.qw_scalar.specs.Tree.{expression_of}
 use Rattle.qw_scalar.specs.Typing.{HasKind, IsTyped, ScalesAllowed, at_scale, has_kind, is_number, joined, kind_of}
 use Rattle.qw_meaning.specs.Select.{Entry, IsColumnOf, IsItemOver, entries_of, type_in, types_of}
@@ -50,6 +50,8 @@ scale_low (choice c a b) h =
     let one = scale_low a h.1.0.0 in
     let other = scale_low b h.1.0.1 in
     omega (arith, one, other)
+scale_low (given w k most v) h = h.0.0
+scale_low (cell i ty most) h = h.0
 
 -- the numbers of a kind have at most 18 digits behind the point
 abbrev IsLow : Option Kind → Type 0
@@ -63,6 +65,11 @@ type_low types.Integer h = omega arith
 type_low (types.Decimal precision scale) h = h
 type_low types.Date h = tt
 type_low (types.Varchar limit) h = tt
+
+given_low : (k : Kind) → kind_scale k ≤ 18 → IsLow (Some k)
+given_low (kind.Number s) h = h
+given_low kind.Date h = tt
+given_low kind.Text h = tt
 
 brought_low : (k : Option Kind) (s : ℕ) → s ≤ 18 → IsLow (at_scale k s)
 brought_low None s h = tt
@@ -90,6 +97,8 @@ kind_low (negative a) h = scale_low a h.0
 kind_low (extract field a) h = omega arith
 kind_low (brought a s) h = brought_low (kind_of a) s h.1.1
 kind_low (choice c a b) h = joined_low (kind_of a) (kind_of b) (kind_low a h.1.0.0) (kind_low b h.1.0.1)
+kind_low (given w k most v) h = given_low k h.0.0
+kind_low (cell i ty most) h = type_low ty h.0
 
 -- ---- the values of set functions
 pub widest_sized : (k : Option Kind) → IsLow k → IsSized (widest k)

@@ -12,7 +12,7 @@ use Rattle.qw_types.specs.declared.kind.Kind.TheVariants as kind
 use Rattle.qw_types.specs.declared.value.Val.{Val}
 use Rattle.qw_types.specs.declared.value.Val.TheVariants.{Null, Num, Date, Text}
 use Rattle.qw_scalar.specs.Evaluation.{cell_of}
-use Rattle.qw_scalar.specs.Typing.{HasKind, has_kind, kind_of}
+use Rattle.qw_scalar.specs.Typing.{HasKind, has_kind, kind_of, IsUtf8Value}
 use Rattle.qw_scalar.specs.Units.{most_by}
 use Rattle.qw_scalar.proofs.UnitsLemmas.{most_each}
 use Rattle.qw_grouped.specs.Grouped.{SetFunction, type_of_function, value_kind, widest}
@@ -26,7 +26,6 @@ use Rattle.qw_table.specs.Keys.{octets_of}
 use Rattle.qw_group.specs.Areas.{Chooses}
 use Rattle.qw_group.specs.Groups.{AreChosenWithin}
 use Rattle.qw_group.specs.Groups as groups
-use Rattle.qw_operator.proofs.KnownLeaves.{IsUtf8Value}
 use Rattle.qw_operator.proofs.PairRows.{AreStored, held_typed}
 use Rattle.qw_group_pipeline.specs.Groups.{most_read}
 use Rattle.qw_group_pipeline.proofs.ValuesCome.{AreRead}

@@ -22,7 +22,7 @@ use Rattle.qw_grouped.specs.declared.set_function.SetFunctionKind.{SetFunctionKi
 use Rattle.qw_grouped.specs.declared.set_function.SetFunctionKind.TheVariants.{CountRows, Count, Sum, Avg, Min, Max}
 use Rattle.qw_grouped.proofs.Lists.{all_filter}
 use Rattle.qw_meaning.proofs.ListLemmas.{all_map, all_more}
-use Rattle.qw_operator.proofs.KnownLeaves.{IsUtf8Value}
+use Rattle.qw_scalar.specs.Typing.{IsUtf8Value}
 use Rattle.qw_compile_whole.proofs.HeldRows.{IsHeldRow, row_utf8, rows_held}
 
 -- ---- set functions

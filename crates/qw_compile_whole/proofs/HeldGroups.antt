@@ -14,7 +14,7 @@ use Rattle.qw_types.specs.declared.schema.ColumnType.{ColumnType}
 use Rattle.qw_types.specs.declared.value.Ty.{Ty}
 use Rattle.qw_types.specs.declared.value.Val.{Val}
 use Rattle.qw_scalar.specs.Expression.{Expression}
-use Rattle.qw_scalar.specs.Typing.{IsValueOf, kind_of}
+use Rattle.qw_scalar.specs.Typing.{IsValueOf, kind_of, IsUtf8Value}
 use Rattle.qw_leaves.specs.Leaves.{HasLeaves, OfText}
 use Rattle.qw_meaning.specs.Flow.{kept, rows_given, selected}
 use Rattle.qw_meaning.specs.Outcome.{flow}
@@ -28,7 +28,6 @@ use Rattle.qw_grouped.specs.declared.set_function.SetFunctionKind.{SetFunctionKi
 use Rattle.qw_grouped.proofs.Lists.{all_filter}
 use Rattle.qw_grouped.proofs.TypedGroups.{all_once, table_typed}
 use Rattle.qw_meaning.proofs.ListLemmas.{all_append, all_flat_map, all_map}
-use Rattle.qw_operator.proofs.KnownLeaves.{IsUtf8Value}
 use Rattle.qw_operator.proofs.PairRows.{IsHeld}
 use Rattle.qw_compile_whole.proofs.GroupTyped.{kinds_hold}
 use Rattle.qw_compile_whole.proofs.GroupUtf8.{cell_utf8, functions_utf8, rows_utf8}

@@ -16,7 +16,7 @@ use Rattle.qw_types.specs.declared.value.Val.TheVariants as val
 use Rattle.qw_scalar.specs.Columns.{HoldsIn}
 use Rattle.qw_scalar.specs.Evaluation.{at_row, value_of}
 use Rattle.qw_scalar.specs.Expression.{Expression}
-use Rattle.qw_scalar.specs.Typing.{IsValueOf, has_kind, kind_of}
+use Rattle.qw_scalar.specs.Typing.{IsValueOf, has_kind, kind_of, IsUtf8Value}
 use Rattle.qw_scalar.proofs.ColumnLemmas.{columns_more}
 use Rattle.qw_scalar.proofs.TypingLemmas.{typed_value}
 use Rattle.qw_leaves.specs.Leaves.{HasLeaves, OfColumn, OfText}
@@ -30,7 +30,7 @@ use Rattle.qw_meaning.specs.Select.{AreOfEntries, Entry, IsColumnOf, IsItemOver,
 use Rattle.qw_meaning.proofs.FromLemmas.{cell}
 use Rattle.qw_grouped.specs.Grouped.{widest}
 use Rattle.qw_meaning.proofs.ListLemmas.{all_flat_map}
-use Rattle.qw_operator.proofs.KnownLeaves.{Fits, IsUtf8Value}
+use Rattle.qw_operator.proofs.KnownLeaves.{Fits}
 use Rattle.qw_operator.proofs.PairRows.{IsHeld, held_utf8, stored_utf8}
 use Rattle.qw_operator.proofs.Promised.{value_utf8}
 use Rattle.qw_compile_whole.proofs.GroupTyped.{HoldsEach, clauses_hold}
@@ -80,7 +80,7 @@ module _ (IsColumn : ℕ → Ty → Type 0) (row : List Val) (good : (i : ℕ) (
   items_held (item ∷ items) typed texts =
       both (value_of item (at_row row)) (values_of items (at_row row))
       (typed_value item row typed.0.0.0 (columns_more IsColumn (HoldsIn row) (λ i ty c. (good i ty c).0) item typed.0.1))
-      (value_utf8 item row (leaves_joined (OfText IsUtf8) (OfColumn IsColumn) (Fits row) leaf_fits item texts.0 (column_leaves IsColumn item typed.0.1)))
+      (value_utf8 item row typed.0.0.0 (leaves_joined (OfText IsUtf8) (OfColumn IsColumn) (Fits row) leaf_fits item texts.0 (column_leaves IsColumn item typed.0.1)))
       (items_held items typed.1 texts.1)
     where
       both : (r : Result Val Code) (q : Result (List Val) Code) → IfOk r (λ v. IsValueOf (kind_of item) v) → IfOk r IsUtf8Value → IfOk q (IsHeldRow items) → IfOk (r >>= (λ value. q >>= (λ values. let s : Result (List Val) Code = Ok (value ∷ values) in s))) (IsHeldRow (item ∷ items))

@@ -45,7 +45,8 @@ use Rattle.qw_operator.specs.Takes.{AreSized, CanCarry, anywhere}
 use Rattle.qw_operator.proofs.OperatorsFeed.{FeedsEnd, carried_feeds, carried_to_feeds}
 use Rattle.qw_operator.proofs.EntryReads.{entry_declared, entry_many, entry_told, entry_within, reads_end}
 use Rattle.qw_operator.proofs.Filters.{Runs, Here, base_high, old_low}
-use Rattle.qw_operator.proofs.KnownLeaves.{AreFit, Fits, IsUtf8Value}
+use Rattle.qw_scalar.specs.Typing.{IsUtf8Value}
+use Rattle.qw_operator.proofs.KnownLeaves.{AreFit, Fits}
 use Rattle.qw_operator.proofs.PairRows.{AreApart, AreAt, AreStored, IsNullAt, kept_fit}
 use Rattle.qw_operator.proofs.Promised.{AreOwn, first_own_types, rest_own_types}
 use Rattle.qw_operator.proofs.Seen.{AreWithin, StandsIn, held_later, less_kept, longer_kept, stands_later, within_wider}

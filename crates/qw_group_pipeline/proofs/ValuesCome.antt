@@ -40,7 +40,7 @@ use Rattle.qw_group.specs.Values.{ReadsValue, may_be_null, read_units}
 use Rattle.qw_group.specs.declared.group.Aggregate.{Aggregate}
 use Rattle.qw_group.proofs.EntryAreas.{aggregate-map, areas-map}
 use Rattle.qw_physical.specs.declared.pipeline.ReadColumn.{ReadColumn}
-use Rattle.qw_operator.proofs.KnownLeaves.{IsUtf8Value}
+use Rattle.qw_scalar.specs.Typing.{IsUtf8Value}
 use Rattle.qw_operator.proofs.PairRows.{AreAt}
 use Rattle.qw_operator.proofs.Seen.{StandsIn, less_kept, longer_kept, stands_later, stands_more, value_later}
 use Rattle.qw_group_pipeline.specs.Groups.{ReadsValues, known_values, most_read}

@@ -4,15 +4,15 @@ use Rattle.std.proofs.Common.{◌≡◌, IsUtf8, List, [], ◌∷◌, inl, inr, 
 use Rattle.std.specs.List.{AllByRecursion}
 use Rattle.qw_types.specs.Kind.{IsOfKind, type_kind}
 use Rattle.qw_types.specs.declared.value.Val.{Val}
-use Rattle.qw_types.specs.declared.value.Val.TheVariants as val
 use Rattle.qw_scalar.specs.Columns.{HasColumns, HoldsIn}
-use Rattle.qw_scalar.specs.Expression.{Expression, Condition, null, number, date, text, column, arithmetic, negative, extract, brought, choice, comparison, predicate, both, either, negation_of, is}
+use Rattle.qw_scalar.specs.Expression.{Expression, Condition, null, number, date, text, column, arithmetic, negative, extract, brought, choice, given, cell, comparison, predicate, both, either, negation_of, is, found, Operands, nil, operand}
+use Rattle.qw_scalar.specs.Typing.{IsUtf8Value}
 use Rattle.qw_leaves.specs.declared.leaf.Leaf.{Leaf}
 use Rattle.qw_leaves.specs.declared.leaf.Leaf.TheVariants as leaf
-use Rattle.qw_leaves.specs.Leaves.{HasLeaves, HaveLeaves, OfColumn, stands_for}
+use Rattle.qw_leaves.specs.Leaves.{HasLeaves, HaveLeaves, OfColumn, OperandsHaveLeaves, stands_for}
 use Rattle.qw_leaves.proofs.Agreement.{Agrees, value_at}
 use Rattle.qw_leaves.proofs.LeafLemmas.{column_leaves, condition_leaves_weaker, leaves_joined, leaves_weaker}
-use Rattle.qw_expr.specs.Bindings.{IsAmong, Knows, TakesKnown, TakeKnown}
+use Rattle.qw_expr.specs.Bindings.{IsAmong, Knows, OperandsTakeKnown, TakesKnown, TakeKnown}
 use Rattle.qw_expr.specs.Computes.{Known}
 
 -- ---- what expressions take is known just where their leaves are
@@ -32,6 +32,8 @@ module _ (known : List Known) where
     takes_are (extract field a) = takes_are a
     takes_are (brought a s) = takes_are a
     takes_are (choice c a b) = ap₂ (λ (A B : Type 0). A × B) (take_are c) (ap₂ (λ (A B : Type 0). A × B) (takes_are a) (takes_are b))
+    takes_are (given w k most v) = refl
+    takes_are (cell i t most) = refl
 
     take_are : (c : Condition) → HaveLeaves IsKnown c ≡ TakeKnown known c
     take_are (comparison op a b) = ap₂ (λ (A B : Type 0). A × B) (takes_are a) (takes_are b)
@@ -40,6 +42,11 @@ module _ (known : List Known) where
     take_are (either c d) = ap₂ (λ (A B : Type 0). A × B) (take_are c) (take_are d)
     take_are (negation_of c) = take_are c
     take_are (is c t) = take_are c
+    take_are (found n asked keys kinds rows) = ap₂ (λ (A B : Type 0). A × B) (operands_are asked) (operands_are keys)
+
+    operands_are : (es : Operands) → OperandsHaveLeaves IsKnown es ≡ OperandsTakeKnown known es
+    operands_are nil = refl
+    operands_are (operand e es) = ap₂ (λ (A B : Type 0). A × B) (takes_are e) (operands_are es)
 
   pub takes_known : (e : Expression) → HasLeaves IsKnown e → TakesKnown known e
   takes_known e h = subst (λ (A : Type 0). A) (takes_are e) h
@@ -84,12 +91,6 @@ module _ (P : Leaf → Type 0) (known : List Known) (all : AllByRecursion (λ (k
   take_leaves c h = condition_leaves_weaker (IsKnown known) P known_leaf c (known_conditions known c h)
 
 -- ---- what a row fits
-abbrev pub IsUtf8Value : Val → Type 0
-IsUtf8Value val.Null = Unit {0}
-IsUtf8Value (val.Num v) = Unit {0}
-IsUtf8Value (val.Date d) = Unit {0}
-IsUtf8Value (val.Text t) = IsUtf8 t
-
 -- a column's value is of its type's kind, and texts are UTF-8
 abbrev pub Fits : List Val → Leaf → Type 0
 Fits row (leaf.Column i ty) = HoldsIn row i ty × IsUtf8Value (value_at row i)

@@ -22,7 +22,8 @@ use Rattle.qw_physical.specs.Physical.{Operator, Probe, filter, probe}
 use Rattle.qw_physical.specs.declared.pipeline.ReadColumn.{ReadColumn}
 use Rattle.qw_operator.specs.Takes.{AreSized, anywhere}
 use Rattle.qw_leaves.proofs.Agreement.{value_at, values_agree}
-use Rattle.qw_operator.proofs.KnownLeaves.{AreFit, IsUtf8Value, fits_other}
+use Rattle.qw_scalar.specs.Typing.{IsUtf8Value}
+use Rattle.qw_operator.proofs.KnownLeaves.{AreFit, fits_other}
 use Rattle.qw_leaves.proofs.LeafLists.{all_back, all_front, all_pairs}
 use Rattle.qw_operator.proofs.Fronts.{all_more}
 

@@ -32,7 +32,8 @@ use Rattle.qw_operator.proofs.ColumnReads.{cells_ahead}
 use Rattle.qw_operator.proofs.Filters.{Runs, Here, base_high}
 use Rattle.qw_leaves.specs.Leaves.{HasLeaves}
 use Rattle.qw_leaves.proofs.Agreement.{value_at}
-use Rattle.qw_operator.proofs.KnownLeaves.{AreFit, Fits, IsUtf8Value}
+use Rattle.qw_scalar.specs.Typing.{IsUtf8Value}
+use Rattle.qw_operator.proofs.KnownLeaves.{AreFit, Fits}
 use Rattle.qw_operator.proofs.PairRows.{AreApart, IsNullAt, stored_utf8}
 use Rattle.qw_operator.proofs.Fronts.{all_more}
 use Rattle.qw_leaves.proofs.LeafLists.{all_pairs}

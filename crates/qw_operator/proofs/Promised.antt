@@ -1,5 +1,5 @@
 -- The blocks of conjuncts and items, as the promises that what feeds rests on.
-use Rattle.std.proofs.Common.{◌≡◌, ℕ, zero, suc, ◌+◌, ◌*◌, ◌<◌, ◌≤◌, IsTrue, ℤ, Bool, Option, Some, None, List, [], ◌∷◌, ◌++◌, drop, length, map, Result, Ok, Err, IfOk, slice_get, refl, sym, ap, ap₂, ◌∙◌, subst, length-append, arith}
+use Rattle.std.proofs.Common.{if◌then◌else◌, true, false, nat_le, unsigned_abs, ◌≡◌, ℕ, zero, suc, ◌+◌, ◌*◌, ◌<◌, ◌≤◌, IsTrue, ℤ, Bool, Option, Some, None, List, [], ◌∷◌, ◌++◌, drop, length, map, Result, Ok, Err, IfOk, slice_get, refl, sym, ap, ap₂, ◌∙◌, subst, length-append, arith}
 use Rattle.std.proofs.Math.Nat.{add-mul}
 use Rattle.std.specs.List.{AllByRecursion}
 use Rattle.qw_types.specs.Arithmetic.{◌>>=◌, bring}
@@ -16,9 +16,10 @@ use Rattle.qw_scalar.specs.declared.expression.Operator.{Operator}
 use Rattle.qw_scalar.specs.declared.expression.Field.{Field}
 use Rattle.qw_scalar.specs.Columns.{HasColumns, HaveColumns, HoldsIn}
 use Rattle.qw_scalar.specs.Conjuncts.{passes}
-use Rattle.qw_scalar.specs.Evaluation.{applied, as_number, chosen, combined, extracted, negated, raised, truth_of, value_of, at_row}
-use Rattle.qw_scalar.specs.Expression.{Condition, Expression, null, number, date, text, column, arithmetic, negative, extract, brought, choice}
-use Rattle.qw_scalar.specs.Typing.{HasKind, IsTyped, IsValueOf, kind_of, has_kind}
+use Rattle.qw_scalar.specs.Evaluation.{applied, as_number, bounded, cell_of, chosen, combined, extracted, negated, raised, truth_of, value_of, at_row}
+use Rattle.qw_scalar.specs.Expression.{Condition, Expression, null, number, date, text, column, arithmetic, negative, extract, brought, choice, given}
+use Rattle.qw_scalar.specs.Expression as scalar
+use Rattle.qw_scalar.specs.Typing.{HasKind, IsTyped, IsValueOf, kind_of, has_kind, IsUtf8Value}
 use Rattle.qw_scalar.specs.Units.{units, units_of}
 use Rattle.qw_scalar.proofs.TypingLemmas.{typed_value}
 use Rattle.qw_meaning.specs.Flow.{values_of}
@@ -45,7 +46,7 @@ use Rattle.qw_feed.proofs.Frames.{Never, Kept-less}
 use Rattle.qw_operator.specs.Carries.{used_length, moved, all_moved}
 use Rattle.qw_operator.specs.Emitted.{source_of, known_after, ReadsPart, IsDecided, AreDecided, AreComputed}
 use Rattle.qw_leaves.specs.Leaves.{HasLeaves}
-use Rattle.qw_operator.proofs.KnownLeaves.{Fits, IsUtf8Value}
+use Rattle.qw_operator.proofs.KnownLeaves.{Fits}
 use Rattle.qw_operator.proofs.ReadParts.{read_at}
 use Rattle.qw_operator.proofs.Seen.{AreWithin, Longer, StandsIn, held_more, lacks_there, lies_later, longer_back, same_word, says_there}
 
@@ -97,19 +98,31 @@ chosen_gives True a b x y = x
 chosen_gives False a b x y = y
 chosen_gives Unknown a b x y = y
 
-pub value_utf8 : (e : Expression) (row : List Val) → HasLeaves (Fits row) e → IfOk (value_of e (at_row row)) IsUtf8Value
-value_utf8 null row h = tt
-value_utf8 (number v s) row h = tt
-value_utf8 (date d) row h = tt
-value_utf8 (text t) row h = h
-value_utf8 (column i t) row h = h.1
-value_utf8 (arithmetic operator a b) row h =
+utf8_or_null : (b : Bool) (v : Val) → IsUtf8Value v → IsUtf8Value (if b then v else val.Null)
+utf8_or_null true v h = h
+utf8_or_null false v h = tt
+
+bounded_utf8 : (most : ℕ) (v : Val) → IsUtf8Value v → IsUtf8Value (bounded most v)
+bounded_utf8 most val.Null h = tt
+bounded_utf8 most (val.Num v) h = utf8_or_null (nat_le (unsigned_abs v) most) (val.Num v) tt
+bounded_utf8 most (val.Date d) h = tt
+bounded_utf8 most (val.Text t) h = h
+
+pub value_utf8 : (e : Expression) (row : List Val) → IsTyped e → HasLeaves (Fits row) e → IfOk (value_of e (at_row row)) IsUtf8Value
+value_utf8 null row typed h = tt
+value_utf8 (number v s) row typed h = tt
+value_utf8 (date d) row typed h = tt
+value_utf8 (text t) row typed h = h
+value_utf8 (column i t) row typed h = h.1
+value_utf8 (arithmetic operator a b) row typed h =
     then_gives (value_of a (at_row row)) _ (λ x. then_gives (value_of b (at_row row)) _ (λ y. combined_gives operator x _ y _))
-value_utf8 (negative a) row h = then_gives (value_of a (at_row row)) _ (λ x. negated_gives x)
-value_utf8 (extract field a) row h = then_gives (value_of a (at_row row)) _ (λ x. extracted_gives field x)
-value_utf8 (brought a s) row h = value_gives (value_of a (at_row row)) _ (value_utf8 a row h) (λ x hx. raised_gives x _ s hx)
-value_utf8 (choice d a b) row h =
-    then_gives (truth_of d (at_row row)) _ (λ t. chosen_gives t (value_of a (at_row row)) (value_of b (at_row row)) (value_utf8 a row h.1.0) (value_utf8 b row h.1.1))
+value_utf8 (negative a) row typed h = then_gives (value_of a (at_row row)) _ (λ x. negated_gives x)
+value_utf8 (extract field a) row typed h = then_gives (value_of a (at_row row)) _ (λ x. extracted_gives field x)
+value_utf8 (brought a s) row typed h = value_gives (value_of a (at_row row)) _ (value_utf8 a row typed.0 h) (λ x hx. raised_gives x _ s hx)
+value_utf8 (choice d a b) row typed h =
+    then_gives (truth_of d (at_row row)) _ (λ t. chosen_gives t (value_of a (at_row row)) (value_of b (at_row row)) (value_utf8 a row typed.1.0.0 h.1.0) (value_utf8 b row typed.1.0.1 h.1.1))
+value_utf8 (given w k most v) row typed h = typed.1.1
+value_utf8 (scalar.cell i t most) row typed h = bounded_utf8 most (cell_of (slice_get row i)) h.1
 
 -- ---- the length of what is no text is not used; here it is the local of the value
 used_below : (k : Option Kind) (c : Cell) (n : ℕ) → c.value < n → c.length < n → used_length k c < n
@@ -293,7 +306,7 @@ module _ (known : List Known) (c : Cells) (row : List Val) (most fuel N many : �
       let typed : IfOk r (λ v. IsValueOf out.kind v) = subst (λ (k : Option Kind). IfOk r (λ v. IsValueOf k v)) (sym computes.kind_is) (typed_value e row at.typed at.columns) in
       λ s held long.
       Ends-weaker (size a * N) (size a * N) (λ t. Whole next out s r t × Seen next out s r (seen c t)) (Leaves (λ v t. Kept from s t × (Supplies (StandsIn c s0) t.locals (moved (source_of out)).cell v × IsValueOf out.kind v)) r) Never Never (Raises r) (Raises r)
-      (meaning most fuel a s) (omega arith) (left from next out s (inside s held).2 le r typed (value_utf8 e row at.fits)) (λ t x. x) (λ code x. x)
+      (meaning most fuel a s) (omega arith) (left from next out s (inside s held).2 le r typed (value_utf8 e row at.typed at.fits)) (λ t x. x) (λ code x. x)
       (seen_ends most fuel (size a * N) (size a * N) (Whole next out s r) (Seen next out s r) Never Never (Raises r) (Raises r) c (seen-cells next out s r) a s (inside s held).1
       (computes.runs most fuel N row (seen c s) at.enough within (inside s held).0 at.columns (omega (arith, room, long)))
       (computes.runs most fuel N row s at.enough within (held_more c s known row (inside s held).1 (inside s held).0) at.columns (omega (arith, room, long))))
