@@ -3,7 +3,7 @@
 
 Ends with 1 where one of them names a crate that isn't there; where it names in backticks a path, a definition as `File.name`, an item of
 code as `path::item`, or a name with an underscore, and the tree has none such; where a file of src/ or specs/ has no row on its crate's
-page, a row names no file, or a crate has no line in docs/ARCHITECTURE.md and docs/PROVED.md; and where docs/GATE.md states other counts than
+page, a row names no file, or a crate has no line in docs/ARCHITECTURE.md and docs/PROVED.md; and where docs/GATE.md or README.md states other counts than
 the tree has. docs/PLANTED.md is a record of what was tried once, so of it only crates and paths are looked up.
 """
 import os
@@ -54,7 +54,8 @@ class Tree:
                     for head in heads:
                         self.code.setdefault(head, set()).update(items | {name})
         self.words |= {os.path.basename(p).partition(".")[0] for p in self.paths}
-        self.words |= {w for p in self.paths if p.startswith((".ci/", "examples/")) for w in re.findall(r"\w+", read(p))}
+        scripts = (p for p in self.paths if p.startswith((".ci/", "examples/", "package/")) and os.path.isfile(os.path.join(TOP, p)))
+        self.words |= {w for p in scripts for w in re.findall(r"\w+", read(p))}
 
     def has_definition(self, name):
         """`File.name`, or a record's field as `Record.field`."""
@@ -127,6 +128,9 @@ def counts(there):
         found = re.search(what, page)
         if not found or int(found.group(1)) != count:
             yield f"docs/GATE.md should count {count}, where it says {found.group(0) if found else what}"
+    said = f"({edits['must-fail']} of {sum(edits.values())};"
+    if said not in read("README.md"):
+        yield f"README.md should count the planted errors that the gate tries as {said[1:-1]}"
 
 
 def main():

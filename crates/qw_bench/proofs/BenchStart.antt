@@ -1,5 +1,5 @@
 -- How a bench begins: its seats are those of instances that are about to begin.
-use Rattle.std.proofs.Common.{◌≡◌, ℕ, zero, suc, ◌+◌, ◌-◌, ◌*◌, ◌<◌, ◌≤◌, List, [], ◌∷◌, length, map, get_or, Option, Some, slice_get, refl, sym, ap, ◌∙◌, subst, arith}
+use Rattle.std.proofs.Common.{◌≡◌, ℕ, zero, suc, ◌+◌, ◌-◌, ◌*◌, ◌<◌, ◌≤◌, List, [], ◌∷◌, length, map, get_or, replicate, Bool, false, Option, Some, slice_get, refl, sym, ap, ◌∙◌, subst, arith}
 use Rattle.std.specs.List.{AllByRecursion, AllZip}
 use Rattle.std.specs.Option.{option_map}
 use Rattle.std.proofs.lemmas.List.{length-map}
@@ -8,14 +8,14 @@ use Rattle.qw_types.specs.Contents.{AreLoaded, Contents, IsOfColumnType, rows_of
 use Rattle.qw_types.specs.declared.schema.ColumnType.{ColumnType}
 use Rattle.qw_types.specs.declared.value.Val.{Val}
 use Rattle.qw_linear.specs.Linear.{Octets}
-use Rattle.qw_linear.specs.Memory.{page, AreOctets, SameBelow}
+use Rattle.qw_linear.specs.Memory.{page, pages_of, AreOctets, SameBelow}
 use Rattle.qw_module.specs.declared.module.Module.{Module}
 use Rattle.qw_module.specs.Execution.{State}
 use Rattle.qw_module.specs.Start.{begun}
 use Rattle.qw_map.specs.Areas.{Area, World}
 use Rattle.qw_map.specs.Columns.{Holds, HoldsColumn, areas_of, column_pages, column_values, columns_start, map_of, tables_end}
 use Rattle.qw_map.specs.Layout.{HasColumn, IsReady, IsReadyColumn, column_areas, first_world}
-use Rattle.qw_map.specs.Turns.{End, end_at, may_ask}
+use Rattle.qw_map.specs.Turns.{End, Instance, end_at, may_ask}
 use Rattle.qw_map.specs.declared.layout.Placed.{Placed}
 use Rattle.qw_map.specs.declared.layout.Used.{Used}
 use Rattle.qw_map.proofs.AreaLemmas.{all-weaker}
@@ -24,10 +24,12 @@ use Rattle.qw_map.proofs.TurnFacts.{found-in}
 use Rattle.qw_bench.specs.declared.bench.Grant.{Grant}
 use Rattle.qw_bench.specs.declared.bench.Limits.{Limits}
 use Rattle.qw_bench.specs.declared.bench.Seat.{Seat}
+use Rattle.qw_bench.specs.declared.pool.Pool.{Pool}
 use Rattle.qw_bench.specs.Bench.{IsColumnIn, IsStart, IsStarting, Program, Task, rows_in_tables, starting}
 use Rattle.qw_bench.specs.Standing.{AreLimits, AreTasksOf, end_of, limit_pages, total_pages}
 use Rattle.qw_bench.specs.Inner.FirstSeats.{AreFirstSeats, IsFirstSeat}
-use Rattle.qw_bench.specs.Inner.Seats.{AreSeats, HasGrants, IsEndOf, area_of, instance_of, standing_of, state_in, task_of, world_of}
+use Rattle.qw_bench.specs.Inner.Pools.{IsPool}
+use Rattle.qw_bench.specs.Inner.Seats.{AreSeats, IsEndOf, IsSeat, area_of, instance_of, standing_of, state_in, task_of, world_of}
 use Rattle.qw_bench.proofs.FirstSeatLemmas.{begun-is, end-first, not-raised}
 use Rattle.qw_bench.proofs.LayoutLemmas.{all-get, has-table, lies-between, placed-get, placed-many}
 use Rattle.qw_bench.proofs.LimitLemmas.{limit_pages-one}
@@ -142,10 +144,12 @@ module _ (tables : List Contents) (memory : List ℕ) (program : Program) (one :
       let end_is : end_of seat.ended ≡ end_at from world 0 seat.limits.steps =
       end-first seat from seat.ended world seat.limits.steps steps (not-raised from (begun-is module' is.number seat.descriptor))
       (subst (λ (s : State). IsEndOf seat s seat.ended) state_is is.end) in
-      ap (λ (e : Option End). record { state = state_in seat; world = world_of seat; most_steps = seat.limits.steps; ran = seat.ran; end = e }) end_is
-      ∙ ap (λ (s : State). record { state = s; world = world_of seat; most_steps = seat.limits.steps; ran = seat.ran; end = end_at from world 0 seat.limits.steps }) state_is
-      ∙ ap (λ (w : World). record { state = from; world = w; most_steps = seat.limits.steps; ran = seat.ran; end = end_at from world 0 seat.limits.steps }) world_is
-      ∙ ap (λ (n : ℕ). record { state = from; world = world; most_steps = seat.limits.steps; ran = n; end = end_at from world 0 seat.limits.steps }) is.ran
+      let first : Instance = starting is.number (task_of seat) in
+      ap (λ (e : Option End). record (instance_of seat) { end = e }) end_is
+      ∙ ap (λ (s : State). record (instance_of seat) { state = s; end = first.end }) state_is
+      ∙ ap (λ (w : World). record first { world = w; ran = seat.ran; released = seat.released }) world_is
+      ∙ ap (λ (n : ℕ). record first { ran = n; released = seat.released }) is.ran
+      ∙ ap (λ (b : Bool). record first { released = b }) is.released
 
   starts : IsReady program.layout seat.placed.items (rows_in_tables tables) d one.pages memory → IsStarting tables memory (task_of seat) (instance_of seat)
   starts is_ready = record {
@@ -164,21 +168,31 @@ module _ (tables : List Contents) (memory : List ℕ) (program : Program) (one :
   program-is : (task_of seat).program ≡ program
   program-is = rw (is.layout_is, is.module_is) refl
 
-  grants : HasGrants seat
-  grants = record {
-    counted = let none : length seat.granted.items ≡ 0 = ap length is.granted in omega (arith, none, is.held);
-    held = let pages : seat.limits.pages ≡ one.pages = ap (λ (l : Limits). l.pages) is.limits_are in omega (arith, pages, is.held, limits.some_pages);
-    room = rw is.limits_are is.room;
+  is-seat : (pages : ℕ) → d + page ≤ pages * page → IsSeat pages seat
+  is-seat pages inside = record {
+    grants = record {
+      counted = let none : length seat.granted.items ≡ 0 = ap length is.granted in omega (arith, none, is.held);
+      held = let pages : seat.limits.pages ≡ one.pages = ap (λ (l : Limits). l.pages) is.limits_are in omega (arith, pages, is.held, limits.some_pages);
+      room = rw is.limits_are is.room;
+      first_page = omega (arith, inside, is.descriptor_is);
+      inside = rw is.granted tt;
+    };
+    unasked = is.unasked;
   }
 
 -- ---- the start
-module _ (tables : List Contents) (programs : List Program) (limits : List Limits) (m0 m : Octets) (seats : List Seat)
+module _ (tables : List Contents) (programs : List Program) (limits : List Limits) (m0 : Octets) (pool : Pool) (seats : List Seat)
     (loaded : AllByRecursion AreLoaded tables) (in_tables : AllByRecursion (λ (program : Program). AllByRecursion (IsColumnIn tables) program.layout.columns) programs)
     (are_limits : AllByRecursion AreLimits limits) (many_limits : length limits ≡ length programs)
     (holds0 : Holds (map_of tables) m0.octets tables) (octets0 : AreOctets m0.octets) (len0 : length m0.octets ≡ column_pages tables * page)
-    (first : AreFirstSeats (map_of tables) m.octets (length m0.octets) programs limits seats) (below : SameBelow m0.octets m.octets (length m0.octets))
-    (octets : AreOctets m0.octets → AreOctets m.octets) (len : length m.octets ≡ length m0.octets + length programs * page)
-    (fits : total_pages tables limits ≤ 65535) (reserved : m.reserved ≡ total_pages tables limits) where
+    (first : AreFirstSeats (map_of tables) pool.memory.octets (length m0.octets) programs limits seats)
+    (below : SameBelow m0.octets pool.memory.octets (length m0.octets))
+    (octets : AreOctets m0.octets → AreOctets pool.memory.octets) (len : length pool.memory.octets ≡ length m0.octets + length programs * page)
+    (fits : total_pages tables limits ≤ 65535) (reserved : pool.memory.reserved ≡ total_pages tables limits)
+    (taken : pool.free.items ≡ replicate (pages_of pool.memory.octets) false) (kept : IsPool pool) where
+  abbrev m : Octets
+  m = pool.memory
+
   holds : Holds (map_of tables) m.octets tables
   holds = holds-kept m0.octets m.octets tables (omega (arith, len)) (λ k low. below k (omega (arith, low, pages-reach tables, len0))) holds0
 
@@ -229,10 +243,12 @@ module _ (tables : List Contents) (programs : List Program) (limits : List Limit
         let f = at_seat k seat found in
         program-is tables m.octets f.program f.one seat (length m0.octets + k * page) f.is loaded f.columns f.are
 
-    grants-at : HasGrants seat
-    grants-at =
+    seat-at : IsSeat (length pool.free.items) seat
+    seat-at =
         let f = at_seat k seat found in
-        grants tables m.octets f.program f.one seat (length m0.octets + k * page) f.is loaded f.columns f.are
+        let within : k < length programs = slice_get_within programs k f.program f.at_program in
+        is-seat tables m.octets f.program f.one seat (length m0.octets + k * page) f.is loaded f.columns f.are (length pool.free.items)
+        (omega (arith, within, len, kept.flags, kept.whole))
 
     descriptor : seat.descriptor ≡ (column_pages tables + k) * page
     descriptor = let f = at_seat k seat found in omega (arith, f.is.descriptor_is, len0)
@@ -260,7 +276,7 @@ module _ (tables : List Contents) (programs : List Program) (limits : List Limit
   instance-found : (k : ℕ) (seat : Seat) → slice_get seats k ≡ Some seat → slice_get (map instance_of seats) k ≡ Some (instance_of seat)
   instance-found k seat found = slice_get-map instance_of seats k ∙ ap (option_map instance_of) found
 
-  start : IsStart tables (map task_of seats) (standing_of m seats).shared
+  start : IsStart tables (map task_of seats) (standing_of pool seats).shared
   start = record {
     octets = octets octets0;
     many = length-map seats instance_of ∙ sym (length-map seats task_of);
@@ -274,17 +290,19 @@ module _ (tables : List Contents) (programs : List Program) (limits : List Limit
     room = omega (arith, size, asks, first.many, fits);
     table = holds;
     size = let all : length (map task_of seats) ≡ length seats = length-map seats task_of in omega (arith, size, all, first.many);
+    free = taken;
   }
 
-  bench : AreSeats m seats
+  bench : AreSeats pool seats
   bench = record {
     bench = record {
       tables = tables;
-      serving = start-serving tables (map task_of seats) (standing_of m seats).shared start;
+      serving = start-serving tables (map task_of seats) (standing_of pool seats).shared start;
       room = omega (arith, size, asks, first.many, reserved);
     };
-    grants = λ k other within. grants-at k (get_or seats k other) (slice_get-get_or seats k other within);
+    kept = kept;
+    each = λ k other within. seat-at k (get_or seats k other) (slice_get-get_or seats k other within);
   }
 
-  pub begins : AreTasksOf programs limits (map task_of seats) × IsStart tables (map task_of seats) (standing_of m seats).shared × AreSeats m seats
+  pub begins : AreTasksOf programs limits (map task_of seats) × IsStart tables (map task_of seats) (standing_of pool seats).shared × AreSeats pool seats
   begins = (tasks, start, bench)

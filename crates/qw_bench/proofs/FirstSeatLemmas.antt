@@ -116,6 +116,8 @@ seat-same map before after d program limits seat same h = record {
   refused = h.refused;
   ran = h.ran;
   end = h.end;
+  released = h.released;
+  unasked = h.unasked;
 }
 
 -- ---- the seats so far

@@ -9,10 +9,11 @@ use Rattle.qw_module.specs.Validity.{IsShaped}
 use Rattle.qw_module.proofs.ShapeLemmas.{shape-unique}
 use Rattle.qw_map.specs.Areas.{World, Others}
 use Rattle.qw_map.specs.Behaving.{beginning, HasRows}
+use Rattle.qw_map.specs.Columns.{column_pages}
 use Rattle.qw_map.specs.Layout.{Layout, IsReady, IsReadyColumn, rows_at}
 use Rattle.qw_map.specs.Runs.{Moment, OpenRun, begins, goes_on}
 use Rattle.qw_map.specs.Seen.{Seen, seen, ended_at, IsSteady}
-use Rattle.qw_map.specs.Turns.{Done, Exception, Steps, Trap, End, Instance, Shared, Act, turns, IsWhole, end_at, end_of_raise, end_of_refusal, moment_of, LeadsTo}
+use Rattle.qw_map.specs.Turns.{Done, Exception, Steps, Trap, End, Instance, Shared, Act, turns, is_back, IsWhole, end_at, end_of_raise, end_of_refusal, moment_of, LeadsTo}
 use Rattle.qw_map.specs.declared.layout.Placed.{Placed}
 use Rattle.qw_map.specs.declared.layout.Used.{Used}
 use Rattle.qw_map.proofs.ResultLemmas.{results_stay}
@@ -95,7 +96,7 @@ pub record HasRun (tables : List Contents) (memory : List ℕ) (t : Task) (i : I
   pub only : (n : ℕ) → IsShaped t.program.module' n → n ≡ number
   pub first : List ℕ
   pub ready : IsReady t.program.layout t.placed (rows_in_tables tables) t.descriptor t.pages first
-  pub led : LeadsTo i.ran (beginning t.program.module' number t.program.layout t.placed t.descriptor t.pages first) (moment_of i memory)
+  pub led : LeadsTo i.ran (beginning t.program.module' number t.program.layout t.placed t.descriptor t.pages first) (moment_of i memory) (is_back i)
   pub whole : IsWhole i
   pub may_run : i.most_steps ≡ t.steps
   pub rows : i.state ≡ Returned → IsSome (rows_at t.program.layout i.world led.left t.descriptor)
@@ -106,13 +107,13 @@ has-run tables tasks s acts start k t later task found =
     let first = before s acts k later found in
     let i = first.i in
     let at_first : IsStarting tables s.common.memory t i = start.starting k t i task first.found in
-    let led = runs-turns s acts serving.safe k i later first.found found in
+    let led = runs-turns (column_pages tables) s acts serving.safe k i later first.found found in
     let from : Moment = beginning t.program.module' at_first.number t.program.layout t.placed t.descriptor t.pages s.common.memory in
     let none : later.ran - i.ran ≡ later.ran = let ran : i.ran ≡ 0 = ap (λ (x : Instance). x.ran) at_first.instance in omega (arith, ran) in
     let at : moment_of i s.common.memory ≡ from = ap (λ (x : Instance). moment_of x s.common.memory) at_first.instance in
-    let runs : LeadsTo later.ran from (moment_of later (turns acts s).common.memory) =
-    subst (λ (n : ℕ). LeadsTo n from (moment_of later (turns acts s).common.memory)) none
-    (subst (λ (m : Moment). LeadsTo (later.ran - i.ran) m (moment_of later (turns acts s).common.memory)) at led.1) in
+    let runs : LeadsTo later.ran from (moment_of later (turns acts s).common.memory) (is_back later) =
+    subst (λ (n : ℕ). LeadsTo n from (moment_of later (turns acts s).common.memory) (is_back later)) none
+    (subst (λ (m : Moment). LeadsTo (later.ran - i.ran) m (moment_of later (turns acts s).common.memory) (is_back later)) at led.1) in
     let whole : IsWhole later = turns-whole s acts (each-whole tables tasks s serving) k later found in
     let limit : later.most_steps ≡ t.steps = limits-turns s acts k i later first.found found ∙ ap (λ (x : Instance). x.most_steps) at_first.instance in
     let behaves = at_first.behaves.behaves at_first.number t.descriptor t.pages t.placed (rows_in_tables tables) s.common.memory at_first.shaped at_first.may_hold at_first.ready in
@@ -158,7 +159,7 @@ kept-rows layout d w before after others = by (rows_at layout w before d) refl
 -- ---- two runs
 -- from two moments each open run is seen so
 module _ (course : ℕ → Seen) (steps : ℕ) (one other : Moment) (sees_one : (k : ℕ) (b : Moment) → OpenRun k one b → seen b ≡ course k) (sees_other : (k : ℕ) (b : Moment) → OpenRun k other b → seen b ≡ course k)
-    (i j : Instance) (m n : List ℕ) (led_one : LeadsTo i.ran one (moment_of i m)) (led_other : LeadsTo j.ran other (moment_of j n))
+    (i j : Instance) (m n : List ℕ) (led_one : LeadsTo i.ran one (moment_of i m) (is_back i)) (led_other : LeadsTo j.ran other (moment_of j n) (is_back j))
     (whole_one : IsWhole i) (whole_other : IsWhole j) (some : IsSome i.end) (limit_one : i.most_steps ≡ steps) (limit_other : j.most_steps ≡ steps) where
   abbrev left_one : Moment
   left_one = record { world = i.world; state = i.state; memory = led_one.left }
@@ -189,7 +190,7 @@ module _ (tables others : List Contents) (memory another : List ℕ) (t u : Task
   abbrev Begins : Program → ℕ → ℕ → Type 0
   Begins p pages number =
       IsReady p.layout u.placed (rows_in_tables others) u.descriptor pages two.first
-      × LeadsTo j.ran (beginning p.module' number p.layout u.placed u.descriptor pages two.first) (moment_of j another)
+      × LeadsTo j.ran (beginning p.module' number p.layout u.placed u.descriptor pages two.first) (moment_of j another) (is_back j)
 
   begins_two : Begins t.program t.pages one.number
   begins_two =
@@ -211,7 +212,7 @@ module _ (tables others : List Contents) (memory another : List ℕ) (t u : Task
   limit_two : j.most_steps ≡ t.steps
   limit_two = two.may_run ∙ sym alike.steps
 
-  led_two : LeadsTo j.ran from_two (moment_of j another)
+  led_two : LeadsTo j.ran from_two (moment_of j another) (is_back j)
   led_two = begins_two.1
 
   same-ran : i.ran ≡ j.ran
@@ -240,17 +241,19 @@ module _ (tables others : List Contents) (memory another : List ℕ) (t u : Task
   abbrev left_j : Moment
   left_j = record { world = j.world; state = j.state; memory = led_two.left }
 
-  same-rows : i.end ≡ Some Done → rows_at t.program.layout i.world memory t.descriptor ≡ rows_at u.program.layout j.world another u.descriptor
-  same-rows done =
+  same-rows : i.end ≡ Some Done → i.released ≡ false → j.released ≡ false → rows_at t.program.layout i.world memory t.descriptor ≡ rows_at u.program.layout j.world another u.descriptor
+  same-rows done held held' =
+      let kept : is_back i ≡ false = rw (done, held) refl in
+      let kept' : is_back j ≡ false = rw (sym same-end ∙ done, held') refl in
       let returned : i.state ≡ Returned = done-returned i.state i.world i.most_steps (sym end-one ∙ done) in
       let returned' : j.state ≡ Returned = done-returned j.state j.world j.most_steps (sym end-two ∙ sym same-end ∙ done) in
       let same = steady.rows one.number t.pages (rows_in_tables tables) one.shaped i.ran j.ran t.descriptor u.descriptor t.placed u.placed one.first two.first
       left_i left_j one.ready ready_two one.led.run led_two.run returned returned' in
       let some_i : IsSome (rows_at t.program.layout i.world one.led.left t.descriptor) = one.rows returned in
       let some_j : IsSome (rows_at t.program.layout j.world led_two.left u.descriptor) = subst IsSome same some_i in
-      kept-rows t.program.layout t.descriptor i.world one.led.left memory one.led.others some_i
+      kept-rows t.program.layout t.descriptor i.world one.led.left memory (one.led.others kept) some_i
       ∙ same
-      ∙ sym (kept-rows t.program.layout u.descriptor j.world led_two.left another led_two.others some_j)
+      ∙ sym (kept-rows t.program.layout u.descriptor j.world led_two.left another (led_two.others kept') some_j)
       ∙ ap (λ (p : Program). rows_at p.layout j.world another u.descriptor) alike.program
 
   pub end-alike : EndAlike memory t i another u j

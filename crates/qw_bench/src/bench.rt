@@ -1,6 +1,6 @@
 //! Instances of modules that share one linear memory, and the turns that they are given.
 
-ghost use Rattle.std.specs.Prelude.{◌≡◌, ◌≢◌, List, not, is_some, ◌↔◌, ◌+◌, ◌-◌, ◌*◌, ◌<◌, ◌≤◌, ◌^◌, ◌⊎◌, ℕ, [], ◌∷◌, ◌++◌, None, Err, length, map, IfErr, IfOk, IfSome, IsSome, slice_get};
+ghost use Rattle.std.specs.Prelude.{◌≡◌, ◌≢◌, List, not, is_some, ◌↔◌, ◌+◌, ◌-◌, ◌*◌, ◌<◌, ◌≤◌, ◌^◌, ◌⊎◌, ℕ, [], ◌∷◌, ◌++◌, None, Err, length, map, false, true, Some, IfErr, IfOk, IfSome, IsSome, slice_get};
 ghost use Rattle.std.specs.List.{list_any};
 ghost use Rattle.std.specs.Vec.{vec_capacity};
 ghost use Rattle.qw_linear.specs.Memory.{most_pages, page};
@@ -9,10 +9,11 @@ ghost use Rattle.qw_bench.specs.Standing.{AreLimits, limit_pages};
 
 mod start;
 
-use crate::bench::start::{first_seats, place_all};
+use crate::bench::start::seats_over_tables;
+use crate::pool::Pool;
 use qw_columns::pages_needed;
 use qw_csv::Loaded;
-use qw_linear::linear::{Linear, MAX_PAGES};
+use qw_linear::linear::{Linear, MAX_PAGES, PAGE};
 use qw_machine::machine::Instance;
 use qw_machine::stepped::Stepped;
 use qw_map::layout::{Layout, Placed};
@@ -129,26 +130,34 @@ struct Seat {
     /// How many instructions it has run.
     ran: u64,
     ended: Option<Ended>,
+    /// Whether it was done, and its pages were made free then.
+    released: bool,
 }
 
 impl Seat {
-    ghost use Rattle.qw_map.specs.Turns.{IsWhole, steps_of};
-    ghost use Rattle.qw_module.specs.Execution.{Raised};
-    ghost use Rattle.qw_bench.specs.Inner.Seats.{HasGrants, IsEndOf, IsRaised, IsTold, StaysSeated, area_of, common_of, counting, instance_of, state_in, task_of};
-    ghost use Rattle.qw_map.specs.Areas.{granted_area};
+    ghost use Rattle.qw_map.specs.Turns.{IsWhole, given, is_back, steps_of};
+    ghost use Rattle.qw_map.specs.Free.{given_back};
+    ghost use Rattle.qw_module.specs.Execution.{Config, Raised, Running};
+    ghost use Rattle.qw_machine.specs.Instance.{AsksFor};
+    ghost use Rattle.qw_bench.specs.Inner.Pools.{IsPool, common_of};
+    ghost use Rattle.qw_bench.specs.Inner.Seats.{HasGrants, IsAnswered, IsEndOf, IsRaised, IsSeat, IsTold, StaysSeated, areas_of, common_with, counting, grants_of, instance_of, state_in, task_of};
 
-    /// Runs the instance until it ends or has run `quantum` instructions. Answers how many it ran.
-    fn turn(&mut self, memory: &mut Linear, quantum: u64) -> u64
+    /// Runs the instance until it ends or has run `quantum` instructions. Answers how many it ran. Where it ends but by a return,
+    /// its pages are free then.
+    fn turn(&mut self, pool: &mut Pool, quantum: u64) -> u64
         requires whole { IsWhole (instance_of self.old) }
-        requires told { IsTold (instance_of self.old) (common_of memory.old) }
-        requires grants { HasGrants self.old }
-        requires room { length memory.old.octets + (self.old.limits.pages - self.old.held) * page ≤ memory.old.reserved * page }
-        ensures turned { (instance_of self.new, common_of memory.new) ≡ steps_of quantum (instance_of self.old) (common_of memory.old) }
+        requires told { IsTold (instance_of self.old) (common_of pool.old) }
+        requires seat { IsSeat (length pool.old.free.items) self.old }
+        requires pool { IsPool pool.old }
+        requires room { length pool.old.memory.octets + (self.old.limits.pages - self.old.held) * page ≤ pool.old.memory.reserved * page }
+        ensures turned { (instance_of self.new, common_of pool.new) ≡ steps_of quantum (instance_of self.old) (common_of pool.old) }
         ensures task { task_of self.new ≡ task_of self.old }
-        ensures grants { HasGrants self.new }
-        ensures asks { length memory.new.octets + (self.new.limits.pages - self.new.held) * page
-            ≡ length memory.old.octets + (self.old.limits.pages - self.old.held) * page }
-        ensures reserved { memory.new.reserved ≡ memory.old.reserved }
+        ensures seat { IsSeat (length pool.new.free.items) self.new }
+        ensures pool { IsPool pool.new }
+        ensures longer { length pool.old.free.items ≤ length pool.new.free.items }
+        ensures asks { length pool.new.memory.octets + (self.new.limits.pages - self.new.held) * page
+            ≤ length pool.old.memory.octets + (self.old.limits.pages - self.old.held) * page }
+        ensures reserved { pool.new.memory.reserved ≡ pool.old.memory.reserved }
         ensures counted { self.new.ran ≡ self.old.ran + result }
         ensures over { IsSome self.old.ended → result ≡ 0 }
         ensures progress { self.old.ended ≡ None → 1 ≤ quantum → 1 ≤ result }
@@ -156,32 +165,33 @@ impl Seat {
         if self.ended.is_some() {
             return 0;
         }
-        let taken = self.run(memory, quantum.min(self.limits.steps - self.ran));
-        self.ran += taken;
-        if self.ended.is_none() && self.ran == self.limits.steps {
-            self.ended = Some(Ended::Steps {
-                limit: self.limits.steps,
-            });
-        }
+        let taken = self.run(pool, quantum.min(self.limits.steps - self.ran));
+        self.count(taken);
+        self.settle(pool);
         taken
     }
 
-    /// Executes up to `budget` instructions, and answers how many. They aren't counted yet.
-    fn run(&mut self, memory: &mut Linear, budget: u64) -> u64
+    /// Executes up to `budget` instructions, and answers how many. They aren't counted yet, and no pages are given back.
+    fn run(&mut self, pool: &mut Pool, budget: u64) -> u64
         requires runs { IsEndOf self.old (state_in self.old) None }
         requires unended { self.old.ended ≡ None }
+        requires below { self.old.ran < self.old.limits.steps }
         requires steps { self.old.ran + budget ≤ self.old.limits.steps }
-        requires told { IsTold (counting self.old 0) (common_of memory.old) }
-        requires grants { HasGrants self.old }
-        requires room { length memory.old.octets + (self.old.limits.pages - self.old.held) * page ≤ memory.old.reserved * page }
-        ensures ran { (counting self.new result, common_of memory.new) ≡ steps_of budget (counting self.old 0) (common_of memory.old) }
+        requires told { IsTold (counting self.old 0) (common_of pool.old) }
+        requires seat { IsSeat (length pool.old.free.items) self.old }
+        requires pool { IsPool pool.old }
+        requires room { length pool.old.memory.octets + (self.old.limits.pages - self.old.held) * page ≤ pool.old.memory.reserved * page }
+        ensures ran { (counting self.new result, common_with (counting self.new result) pool.new)
+            ≡ steps_of budget (counting self.old 0) (common_of pool.old) }
         ensures seated { StaysSeated self.old self.new }
         ensures program { self.new.instance.program ≡ self.old.instance.program }
         ensures end { IsEndOf self.new (state_in self.new) self.new.ended }
-        ensures grants { HasGrants self.new }
-        ensures asks { length memory.new.octets + (self.new.limits.pages - self.new.held) * page
-            ≡ length memory.old.octets + (self.old.limits.pages - self.old.held) * page }
-        ensures reserved { memory.new.reserved ≡ memory.old.reserved }
+        ensures seat { IsSeat (length pool.new.free.items) self.new }
+        ensures pool { IsPool pool.new }
+        ensures longer { length pool.old.free.items ≤ length pool.new.free.items }
+        ensures asks { length pool.new.memory.octets + (self.new.limits.pages - self.new.held) * page
+            ≤ length pool.old.memory.octets + (self.old.limits.pages - self.old.held) * page }
+        ensures reserved { pool.new.memory.reserved ≡ pool.old.memory.reserved }
         ensures count { self.new.ended ≡ None → result ≡ budget }
         ensures within { result ≤ budget }
         ensures progress { 1 ≤ budget → 1 ≤ result }
@@ -189,12 +199,19 @@ impl Seat {
         let mut taken = 0;
         while taken < budget {
             let spare = self.limits.pages - self.held;
-            let run = self.instance.run(memory, spare, budget - taken);
+            let run = self.instance.run(&mut pool.memory, spare, budget - taken);
             taken += run.steps;
             match run.last {
                 Stepped::Ran => {}
-                Stepped::Grew { pages, .. } => self.note_grant(memory, pages),
+                Stepped::Grew { at, pages } => {
+                    pool.note_growth(pages);
+                    self.note_grant(at, pages);
+                }
                 Stepped::Refused { pages } => self.refused = Some(pages),
+                Stepped::Asked { pages } => {
+                    self.answer(pool, pages);
+                    taken += 1;
+                }
                 Stepped::Returned => {
                     self.ended = Some(Ended::Done);
                     return taken;
@@ -209,21 +226,46 @@ impl Seat {
         taken
     }
 
-    /// Notes that so many pages were granted, the last ones of the memory.
-    fn note_grant(&mut self, memory: &Linear, pages: u32)
+    /// Answers a request for so many pages that the instance made of its host: it is granted exactly where it stays within the
+    /// limit.
+    fn answer(&mut self, pool: &mut Pool, pages: u32)
+        requires asked { self.old.instance.asked ≡ Some pages }
+        requires grants { HasGrants (length pool.old.free.items) self.old }
+        requires pool { IsPool pool.old }
+        requires room { length pool.old.memory.octets + (self.old.limits.pages - self.old.held) * page ≤ pool.old.memory.reserved * page }
+        ensures answered { (c : Config) → state_in self.old ≡ Running c → AsksFor pages c
+            → IsAnswered pages self.old (common_of pool.old) self.new (common_of pool.new) c }
+        ensures seat { IsSeat (length pool.new.free.items) self.new }
+        ensures seated { StaysSeated self.old self.new }
+        ensures ended { self.new.ended ≡ self.old.ended }
+        ensures program { self.new.instance.program ≡ self.old.instance.program }
+        ensures pool { IsPool pool.new }
+        ensures longer { length pool.old.free.items ≤ length pool.new.free.items }
+        ensures asks { length pool.new.memory.octets + (self.new.limits.pages - self.new.held) * page
+            ≤ length pool.old.memory.octets + (self.old.limits.pages - self.old.held) * page }
+        ensures reserved { pool.new.memory.reserved ≡ pool.old.memory.reserved }
+    {
+        if pages > self.limits.pages - self.held {
+            self.refused = Some(pages);
+            self.instance.give(None);
+        } else {
+            let first = pool.grant(pages);
+            self.note_grant(first, pages);
+            self.instance.give(Some(first));
+        }
+    }
+
+    /// Notes that so many pages from one on were granted.
+    fn note_grant(&mut self, at: u32, pages: u32)
         requires reserved { pages ≢ 0 → length self.old.granted.items < vec_capacity self.old.granted }
         requires fits { self.old.held + pages < 2 ^ 32 }
-        requires there { pages * page ≤ length memory.now.octets }
         ensures seat { self.new ≡ record self.old { granted = self.new.granted; held = self.old.held + pages } }
-        ensures granted { (start : ℕ) → length memory.now.octets ≡ start + pages * page →
-            map area_of self.new.granted.items ≡ map area_of self.old.granted.items ++ granted_area start pages }
-        ensures counted { length self.new.granted.items ≤ length self.old.granted.items + pages }
+        ensures granted { self.new.granted.items ≡ self.old.granted.items ++ grants_of at pages }
         ensures capacity { vec_capacity self.new.granted ≡ vec_capacity self.old.granted }
     {
         if pages == 0 {
             return;
         }
-        let at = memory.size() - pages;
         self.granted.push_reserved(Grant { at, pages });
         self.held += pages;
     }
@@ -242,6 +284,71 @@ impl Seat {
                 limit: self.limits.pages,
             },
         }
+    }
+
+    /// Counts so many instructions as run, and notes the end at the limit of them.
+    fn count(&mut self, taken: u64)
+        requires steps { self.old.ran + taken ≤ self.old.limits.steps }
+        requires end { IsEndOf self.old (state_in self.old) self.old.ended }
+        ensures counted { instance_of self.new ≡ counting self.old taken }
+        ensures seat { self.new ≡ record self.old { ran = self.old.ran + taken; ended = self.new.ended } }
+    {
+        let limit = self.limits.steps;
+        self.ran += taken;
+        if self.ended.is_none() && self.ran == limit {
+            self.ended = Some(Ended::Steps { limit });
+        }
+    }
+
+    /// Whether its pages aren't its own any more.
+    fn is_back(&self) -> bool
+        ensures { result ≡ is_back (instance_of self.now) }
+    {
+        match self.ended {
+            None => false,
+            Some(Ended::Done) => self.released,
+            Some(_) => true,
+        }
+    }
+
+    /// Makes all its pages free, where they aren't its own any more.
+    fn settle(&self, pool: &mut Pool)
+        requires seat { IsSeat (length pool.old.free.items) self.now }
+        requires pool { IsPool pool.old }
+        ensures common { common_of pool.new ≡ common_with (instance_of self.now) pool.old }
+        ensures pool { IsPool pool.new }
+        ensures memory { pool.new.memory ≡ pool.old.memory }
+    {
+        if self.is_back() {
+            self.give_back(pool);
+        }
+    }
+
+    /// Makes all its pages free.
+    fn give_back(&self, pool: &mut Pool)
+        requires seat { IsSeat (length pool.old.free.items) self.now }
+        requires pool { IsPool pool.old }
+        ensures free { pool.new.free.items ≡ given_back (areas_of self.now) pool.old.free.items }
+        ensures pool { IsPool pool.new }
+        ensures memory { pool.new.memory ≡ pool.old.memory }
+    {
+        pool.take_back((self.descriptor / PAGE as u64) as u32, 1);
+        for grant in self.granted.as_slice() {
+            pool.take_back(grant.at, grant.pages);
+        }
+    }
+
+    /// Makes all pages of an instance that is done free.
+    fn release(&mut self, pool: &mut Pool)
+        requires seat { IsSeat (length pool.old.free.items) self.old }
+        requires pool { IsPool pool.old }
+        ensures released { (instance_of self.new, common_of pool.new) ≡ given (instance_of self.old) (common_of pool.old) }
+        ensures seat { self.new ≡ record self.old { released = true } }
+        ensures pool { IsPool pool.new }
+        ensures memory { pool.new.memory ≡ pool.old.memory }
+    {
+        self.released = true;
+        self.give_back(pool);
     }
 }
 
@@ -269,7 +376,7 @@ fn one_runs(seats: &[Seat]) -> bool
 /// Instances over one memory, which holds the columns that they read.
 #[derive(Drop)]
 pub struct Bench {
-    memory: Linear,
+    pool: Pool,
     seats: Vec<Seat>,
 }
 
@@ -283,19 +390,19 @@ impl Model for Bench {
 
     ghost use Rattle.qw_bench.specs.Inner.Seats.{AreSeats, standing_of};
 
-    ghost view = { λ b. standing_of b.memory b.seats.items };
+    ghost view = { λ b. standing_of b.pool b.seats.items };
 
-    ghost invariant = { λ b. AreSeats b.memory b.seats.items };
+    ghost invariant = { λ b. AreSeats b.pool b.seats.items };
 }
 
 impl Bench {
     ghost use Rattle.std.specs.List.{AllByRecursion};
     ghost use Rattle.qw_map.specs.Columns.{column_pages};
-    ghost use Rattle.qw_map.specs.Turns.{EachInstance, Act, turn, acted, turns};
+    ghost use Rattle.qw_map.specs.Turns.{EachInstance, Act, Done, turn, release, acted, turns};
     ghost use Rattle.qw_bench.specs.Bench.{AreRounds, IsColumnIn, IsStart, Program, round};
     ghost use Rattle.qw_bench.specs.Inner.Rounds.{steps_left};
     ghost use Rattle.qw_bench.specs.Standing.{AreLimits, AreTasksOf, IsBench, end_of, total_pages};
-    ghost use Rattle.qw_bench.specs.Bench.{end_in, held_in, ran_in};
+    ghost use Rattle.qw_bench.specs.Bench.{end_in, held_in, ran_in, released_in};
 
     /// A bench with an instance of each job, in order, over tables, which have the columns that the
     /// jobs' layouts use. All columns of the tables stand in its memory, in the first pages, and the
@@ -349,10 +456,11 @@ impl Bench {
         ensures start { IfOk result (λ bench. IsStart loaded.items bench.tasks bench.shared) }
         ensures reserved { IfOk result (λ bench. bench.reserved ≡ pages) }
     {
+        let flags = Vec::with_capacity(alloc, pages as usize)?;
         let mut memory = Linear::new(alloc, pages)?;
-        let map = place_all(alloc, loaded, &mut memory)?;
-        let seats = first_seats(alloc, jobs, limits, &map, &mut memory)?;
-        Ok(Bench { memory, seats })
+        let seats = seats_over_tables(alloc, loaded, jobs, limits, &mut memory)?;
+        let pool = Pool::new(memory, flags);
+        Ok(Bench { pool, seats })
     }
 
     /// Gives an instance a turn: it runs until it ends or has run `quantum` instructions. Answers how many
@@ -367,7 +475,21 @@ impl Bench {
         ensures none { (result ≡ 0) ↔ IsSome (end_in self.old.shared i) }
     {
         let seat = &mut self.seats[i];
-        seat.turn(&mut self.memory, quantum)
+        seat.turn(&mut self.pool, quantum)
+    }
+
+    /// Makes all pages of an instance that is done free, for what others ask from then on. Its rows can't be read any more. It
+    /// takes no memory.
+    pub fn release(&mut self, i: usize)
+        requires there { i < length self.old.shared.instances }
+        requires done { end_in self.old.shared i ≡ Some Done }
+        requires unreleased { released_in self.old.shared i ≡ false }
+        ensures release { self.new.shared ≡ acted self.old.shared (release i) }
+        ensures tasks { self.new.tasks ≡ self.old.tasks }
+        ensures reserved { self.new.reserved ≡ self.old.reserved }
+    {
+        let seat = &mut self.seats[i];
+        seat.release(&mut self.pool);
     }
 
     /// Gives turns of `quantum` instructions to the instances that haven't ended, in order, round after
@@ -440,6 +562,14 @@ impl Bench {
         self.seats[i].held
     }
 
+    /// Whether an instance that was done was released.
+    pub fn released(&self, i: usize) -> bool
+        requires { i < length self.now.shared.instances }
+        ensures { result ≡ released_in self.now.shared i }
+    {
+        self.seats[i].released
+    }
+
     /// The address of an instance's descriptor.
     pub fn descriptor(&self, i: usize) -> u64
         requires { i < length self.now.shared.instances }
@@ -461,6 +591,6 @@ impl Bench {
         ensures memory { result.now ≡ record { octets = self.now.shared.common.memory; reserved = self.now.reserved } }
         ensures kept { IsBench self.now }
     {
-        &self.memory
+        &self.pool.memory
     }
 }

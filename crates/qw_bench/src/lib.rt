@@ -9,4 +9,6 @@
 pub mod bench;
 pub mod bench_laws;
 pub mod first_page;
+mod free;
+mod pool;
 pub mod worked_laws;

@@ -1,6 +1,6 @@
 //! Worked cases of the definitions, with numbers, stated as contracts. No function here computes anything.
 
-ghost use Rattle.std.specs.Prelude.{◌≡◌, ℕ, pos, true, false, List, [], ◌∷◌, None};
+ghost use Rattle.std.specs.Prelude.{◌≡◌, ℕ, pos, Bool, true, false, List, [], ◌∷◌, None};
 ghost use Rattle.qw_types.specs.Contents.{Contents};
 ghost use Rattle.qw_types.specs.declared.value.Ty.TheVariants.{Integer, Date};
 ghost use Rattle.qw_types.specs.declared.value.Val.TheVariants.{Num};
@@ -11,16 +11,16 @@ ghost use Rattle.qw_module.specs.declared.instruction.Op.TheVariants.{Const};
 ghost use Rattle.qw_module.specs.Execution.{Running};
 ghost use Rattle.qw_module.specs.Syntax.{done, op};
 ghost use Rattle.qw_map.specs.Areas.{World};
-ghost use Rattle.qw_map.specs.Turns.{Shared, turn};
-ghost use Rattle.qw_bench.specs.Bench.{AreRounds, IsColumnIn, Program, Task};
+ghost use Rattle.qw_map.specs.Turns.{Shared, release, turn};
+ghost use Rattle.qw_bench.specs.Bench.{AreRounds, AreTurns, IsColumnIn, Program, Task};
 ghost use Rattle.qw_bench.specs.Standing.{AreLimits, AreTasksOf, total_pages};
 
 /// Two instances, of which one has an instruction left to run and the other two: rounds of turns of one instruction are a
 /// turn for each, in order, and then one for the second alone; of two instructions, a turn for each. Nothing less, and no
 /// other order, is rounds until all have ended.
 pub fn rounds_of_two_instances()
-    ensures { (w : World) (memory : List ℕ) (s : Shared) → s ≡ record {
-      common = record { memory = memory };
+    ensures { (w : World) (memory : List ℕ) (free : List Bool) (s : Shared) → s ≡ record {
+      common = record { memory = memory; free = free };
       instances =
           (record {
             state = Running (record { store = record { functions = []; globals = [] }; code = op (Const (I32 0)) done; operands = []; locals = []; contexts = [] });
@@ -28,6 +28,7 @@ pub fn rounds_of_two_instances()
             most_steps = 9;
             ran = 0;
             end = None;
+            released = false;
           })
           ∷ (record {
             state = Running (record { store = record { functions = []; globals = [] }; code = op (Const (I32 0)) (op (Const (I32 0)) done); operands = []; locals = []; contexts = [] });
@@ -35,11 +36,17 @@ pub fn rounds_of_two_instances()
             most_steps = 9;
             ran = 0;
             end = None;
+            released = false;
           })
           ∷ [];
     }
         → AreRounds 1 (turn 0 1 ∷ turn 1 1 ∷ turn 1 1 ∷ []) s × AreRounds 2 (turn 0 2 ∷ turn 1 2 ∷ []) s
         × (AreRounds 1 (turn 0 1 ∷ turn 1 1 ∷ []) s → ⊥) × (AreRounds 1 (turn 1 1 ∷ turn 0 1 ∷ turn 1 1 ∷ []) s → ⊥) }
+{}
+
+/// Turns alone, or nothing at all, are turns; a release among them isn't.
+pub fn turns_without_a_release()
+    ensures { AreTurns (turn 0 5 ∷ turn 1 7 ∷ []) × AreTurns [] × (AreTurns (turn 0 5 ∷ release 0 ∷ turn 1 7 ∷ []) → ⊥) }
 {}
 
 /// Two programs under two limits have two tasks, in order, each under its own limits: not under those of the other, not in

@@ -171,6 +171,7 @@ module _ (m n : Module) (same : contents_of m ≡ contents_of n) where
   import_alike : (x : Import) → IsValidImport m x → IsValidImport n x
   import_alike (import.Memory limits) valid = valid
   import_alike (import.Raise index) valid = let few = same_length signature_of m.types.items n.types.items types in omega (arith, valid, few)
+  import_alike (import.Pages index) valid = let few = same_length signature_of m.types.items n.types.items types in omega (arith, valid, few)
 
   exported_alike : (x : ExportKind) → IsExportedOf m x → IsExportedOf n x
   exported_alike (kind.Function index) there = rw functions_same at there

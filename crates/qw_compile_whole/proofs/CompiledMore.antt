@@ -3,7 +3,7 @@ use Rattle.std.proofs.Common.{◌≡◌, ◌∙◌, ℕ, ◌+◌, ◌*◌, ◌�
 use Rattle.std.specs.List.{AllByRecursion}
 use Rattle.std.proofs.lemmas.Nat.{mul-le}
 use Rattle.qw_types.specs.declared.value.Val.{Val}
-use Rattle.qw_module.specs.Execution.{Event, Silent, Loads, Stores, Grows, Raises, Traps, State}
+use Rattle.qw_module.specs.Execution.{Event, Silent, Loads, Stores, Grows, AsksHost, Raises, Traps, State}
 use Rattle.qw_module.specs.declared.module.Module.{Module}
 use Rattle.qw_map.specs.Areas.{AsksWithin, World}
 use Rattle.qw_map.specs.Layout.{Layout}
@@ -26,6 +26,7 @@ asks_more pages room w Silent state low h = tt
 asks_more pages room w (Loads address width) state low h = tt
 asks_more pages room w (Stores address width) state low h = tt
 asks_more pages room w (Grows asked granted) state low h = (omega (arith, low, h.0), h.1)
+asks_more pages room w (AsksHost asked first) state low h = (omega (arith, low, h.0), h.1)
 asks_more pages room w (Raises code) state low h = tt
 asks_more pages room w (Traps why) state low h = tt
 
@@ -54,6 +55,7 @@ compiled_more promise other layout m entries_are cells_are same more room h = re
   };
   nests = h.nests;
   no_size = h.no_size;
+  no_growth = h.no_growth;
   spelled = h.spelled;
   short = h.short;
   light = h.light;

@@ -85,7 +85,11 @@ impl Linear {
         requires { (first + pages) * page ≤ length self.old.octets }
         ensures { self.new ≡ record { octets = cleared first pages self.old.octets; reserved = self.old.reserved } }
     {
-        put_zeros(self.octets.as_mut_slice(), PAGE * first as usize, PAGE * pages as usize);
+        put_zeros(
+            self.octets.as_mut_slice(),
+            PAGE * first as usize,
+            PAGE * pages as usize,
+        );
     }
 
     /// The number of one octet, or `None` exactly where it doesn't lie in the memory.

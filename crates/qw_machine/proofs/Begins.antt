@@ -13,9 +13,9 @@ use Rattle.qw_module.specs.declared.module.Import.TheVariants as import
 use Rattle.qw_module.specs.declared.module.Module.{Module}
 use Rattle.qw_module.specs.Typing.{Signature, Typed}
 use Rattle.qw_module.specs.Execution.{Callee, own}
-use Rattle.qw_module.specs.Soundness.{raise_signature, IsClosureOf, AreCalleesOf, AreGlobalsOf, IsStoreOf, IsTypedState}
+use Rattle.qw_module.specs.Soundness.{raise_signature, pages_signature, IsClosureOf, AreCalleesOf, AreGlobalsOf, IsStoreOf, IsTypedState}
 use Rattle.qw_module.specs.Start.{host_of, closure_of, callees_of, initial_value, first_store, begun}
-use Rattle.qw_module.specs.Validity.{code_of_body, declared_types, imported_function, imported_functions, signature_of, signature_in, global_type, outside_of, function_scope, IsTypedFunction, IsValidFunction, IsValidGlobal, IsValid, TakesOneI32, IsOneI32, IsShaped}
+use Rattle.qw_module.specs.Validity.{code_of_body, declared_types, imported_function, signature_of, signature_in, global_type, outside_of, function_scope, IsTypedFunction, IsValidFunction, IsValidGlobal, IsValid, TakesOneI32, TakesAndLeavesI32, IsLinked, IsOneI32, IsShaped}
 use Rattle.qw_module.proofs.Sound.{AreOf-zeros}
 use Rattle.qw_module.proofs.TypedOperands.{start-typed}
 
@@ -26,6 +26,11 @@ pub one_type : (m : Module) (type : ℕ) (o : Option FuncType) → slice_get m.t
 one_type m type None e one = absurd one
 one_type m type (Some ty) e one =
     subst (λ s. s ≡ raise_signature) (sym (signature_is m type ty e)) (ap₂ (λ (params results : List ValType). let s : Signature = record { params = params; results = results } in s) one.0 one.1)
+
+pages_type : (m : Module) (type : ℕ) (o : Option FuncType) → slice_get m.types.items type ≡ o → IsSomeAnd o TakesAndLeavesI32 → signature_in m type ≡ pages_signature
+pages_type m type None e one = absurd one
+pages_type m type (Some ty) e one =
+    subst (λ s. s ≡ pages_signature) (sym (signature_is m type ty e)) (ap₂ (λ (params results : List ValType). let s : Signature = record { params = params; results = results } in s) one.0 one.1)
 
 -- each function is of its type
 pub closure_is : (m : Module) (f : Function) (o : Option FuncType) → slice_get m.types.items f.type_index ≡ o → IsSomeAnd o (IsTypedFunction m f) →
@@ -45,13 +50,15 @@ own_callees : (m : Module) (functions : List Function) → AllByRecursion (IsVal
 own_callees m [] all = tt
 own_callees m (f ∷ functions) all = (closure_is m f (slice_get m.types.items f.type_index) refl all.0, own_callees m functions all.1)
 
-with_hosts : (m : Module) (imports : List Import) (callees : List Callee) (types : List ℕ) → AllByRecursion (IsOneI32 m) (filter_map imported_function imports) →
+with_hosts : (m : Module) (imports : List Import) (callees : List Callee) (types : List ℕ) → AllByRecursion (IsLinked m) imports →
     AreCalleesOf (outside_of m) callees (map (signature_in m) types) →
     AreCalleesOf (outside_of m) (filter_map host_of imports ++ callees) (map (signature_in m) (filter_map imported_function imports ++ types))
 with_hosts m [] callees types each are = are
-with_hosts m (import.Memory limits ∷ imports) callees types each are = with_hosts m imports callees types each are
+with_hosts m (import.Memory limits ∷ imports) callees types each are = with_hosts m imports callees types each.1 are
 with_hosts m (import.Raise type ∷ imports) callees types each are =
     (one_type m type (slice_get m.types.items type) refl each.0, with_hosts m imports callees types each.1 are)
+with_hosts m (import.Pages type ∷ imports) callees types each are =
+    (pages_type m type (slice_get m.types.items type) refl each.0, with_hosts m imports callees types each.1 are)
 
 globals_are : (globals : List Global) → AllByRecursion IsValidGlobal globals → AreGlobalsOf (map (λ (g : Global). initial_value (code_of_body g.init)) globals) (map global_type globals)
 globals_are [] all = tt
@@ -62,9 +69,9 @@ pub first_globals-are : (m : Module) → IsValid m → AreGlobalsOf (map (λ (g 
 first_globals-are m valid = globals_are m.globals.items (recursion_from_All IsValidGlobal m.globals.items valid.globals)
 
 -- all functions are of their types
-pub callees_are : (m : Module) → IsValid m → All (IsOneI32 m) (imported_functions m) → AreCalleesOf (outside_of m) (callees_of m) ((outside_of m).functions)
+pub callees_are : (m : Module) → IsValid m → All (IsLinked m) m.imports.items → AreCalleesOf (outside_of m) (callees_of m) ((outside_of m).functions)
 callees_are m valid linked =
-    with_hosts m m.imports.items _ _ (recursion_from_All (IsOneI32 m) (filter_map imported_function m.imports.items) linked)
+    with_hosts m m.imports.items _ _ (recursion_from_All (IsLinked m) m.imports.items linked)
     (own_callees m m.functions.items (recursion_from_All (IsValidFunction m) m.functions.items valid.functions))
 
 first_store-is : (m : Module) (number : ℕ) → IsValid m → IsShaped m number → IsStoreOf (outside_of m) (first_store m)

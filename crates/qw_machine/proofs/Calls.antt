@@ -1,10 +1,11 @@
--- A call, executed at a point, against the configuration's step: of the host's function, and of an own one.
-use Rattle.std.proofs.Common.{◌≡◌, ℕ, zero, suc, ◌+◌, ◌-◌, ◌<◌, ◌≤◌, ◌^◌, nat_le, Bool, List, [], ◌∷◌, ◌++◌, length, map, take, drop, reverse, replicate, Some, slice_get, refl, sym, ap, subst, ◌∙◌, arith, length-append, length-drop, append_assoc}
+-- A call, executed at a point, against the configuration's step: of a function of the host's, and of an own one.
+use Rattle.std.proofs.Common.{◌≡◌, ℕ, suc, ◌+◌, ◌-◌, ◌<◌, ◌≤◌, ◌^◌, nat_le, Bool, List, [], ◌∷◌, ◌++◌, length, map, take, drop, reverse, replicate, Option, Some, None, slice_get, refl, sym, ap, subst, ◌∙◌, arith, length-append, length-drop, append_assoc}
 use Rattle.std.specs.List.{filter_map, AllByRecursion}
 use Rattle.std.proofs.Math.Seq.{drop-append_seam, take-append_seam}
 use Rattle.std.proofs.lemmas.Bool.{le-leb}
 use Rattle.std.proofs.lemmas.List.{length-reverse, reverse-reverse, length-map, take-append-le, drop-append-le}
-use Rattle.std.proofs.lemmas.Option.{same_Some, slice_get_within, slice_get-map}
+use Rattle.std.specs.Option.{option_map}
+use Rattle.std.proofs.lemmas.Option.{same_Some, none-some, slice_get_within, slice_get-get_or, slice_get-map}
 use Rattle.qw_module.specs.declared.instruction.ValType.{ValType}
 use Rattle.qw_module.specs.declared.instruction.ValType.TheVariants.{I32}
 use Rattle.qw_module.specs.declared.instruction.Instr.{Instr}
@@ -14,49 +15,60 @@ use Rattle.qw_module.specs.declared.module.Import.{Import}
 use Rattle.qw_module.specs.declared.module.Import.TheVariants as import
 use Rattle.qw_module.specs.declared.module.Module.{Module}
 use Rattle.qw_valid.specs.declared.heights.Heights.{Heights}
+use Rattle.qw_machine.specs.declared.hosts.Host.{Host}
+use Rattle.qw_machine.specs.declared.hosts.Host.TheVariants as host
+use Rattle.qw_machine.specs.Inner.Hosts.{callee_of}
 use Rattle.qw_machine.specs.declared.room.Rooms.{Rooms}
 use Rattle.qw_machine.specs.declared.stepped.Stepped.TheVariants.{Ran}
 use Rattle.qw_machine.specs.declared.stepped.Stepped.TheVariants as stepped
 use Rattle.qw_module.specs.Syntax.{Code, call, sequence_at}
-use Rattle.qw_module.specs.Execution.{Callee, host_raise, own, Config, Silent, Raises, invoked}
-use Rattle.qw_module.specs.Step.{Goes, Signals, wants, answered}
+use Rattle.qw_module.specs.Execution.{Callee, host_raise, host_pages, own, Config, State, Returned, Silent, Raises, goes_on, invoked}
+use Rattle.qw_module.specs.Step.{Want, Goes, AsksPlace, Signals, wants, answered}
 use Rattle.qw_module.specs.Typing.{Signature, Outside, Scope, scope_of, Typed}
-use Rattle.qw_module.specs.Soundness.{AreOf, raise_signature, IsClosureOf, IsCalleeOf}
+use Rattle.qw_module.specs.Soundness.{AreOf, raise_signature, pages_signature, IsClosureOf, IsCalleeOf}
 use Rattle.qw_valid.specs.Heights.{parameters_at, results_at, StaysWithin}
 use Rattle.qw_module.specs.Start.{host_of, closure_of, callees_of, body_of}
 use Rattle.qw_module.specs.Validity.{imported_function, imported_functions, functions_of, signature_in, outside_of, CallsBelow}
 use Rattle.qw_module.proofs.Sound.{AreOf-length, AreOf-append, AreOf-take, AreOf-drop, AreOf-reverse, AreOf-zeros, callee_there}
 use Rattle.qw_module.proofs.TypedOperands.{first_of_types}
 use Rattle.qw_module.proofs.TypedParts.{Parts, parts}
-use Rattle.qw_machine.specs.Inner.Points.{code_at, instructions_at, Point, base_of, contexts_of, store_with, state_at, config_at, in_body, called_at, has_result}
+use Rattle.qw_machine.specs.Inner.Points.{code_at, instructions_at, Point, base_of, contexts_of, store_with, state_at, config_at, in_body, called_at, has_result, after_answer}
 use Rattle.qw_machine.specs.Inner.Rooms.{bounds_of, locals_of, needed_below, HasRoom}
 use Rattle.qw_machine.specs.Inner.Placed.{IsExecuted, AreAwaiting, IsPoint}
+use Rattle.qw_machine.specs.Instance.{AsksFor}
 use Rattle.qw_machine.specs.Inner.Activities.{IsDoneAt}
 use Rattle.qw_machine.proofs.Begins.{callees_are}
 use Rattle.qw_machine.proofs.Around.{own_fits}
 use Rattle.qw_machine.proofs.Bodies.{leaves-are, body-room, IsBegun, begun-point, begun-state}
 use Rattle.qw_machine.proofs.Functions.{element_there, body_is}
 use Rattle.qw_machine.proofs.ListFacts.{all-at, get-first, get-second, above-append, under-append}
-use Rattle.qw_machine.proofs.Points.{code_in-instruction, config_at-split}
+use Rattle.qw_machine.proofs.Points.{code_in-instruction, state_at-split, config_at-split}
 use Rattle.qw_machine.proofs.Rooms.{IsWithin, needed_below-mono}
 use Rattle.qw_machine.proofs.Stays.{bounds-are, parameters-are, results-are, stays-on}
 
--- ---- which function an index names: the imported ones are the host's
+-- ---- which function an index names: an imported one is the host's
 hosts-length : (imports : List Import) → length (filter_map host_of imports) ≡ length (filter_map imported_function imports)
 hosts-length [] = refl
 hosts-length (import.Memory limits ∷ imports) = hosts-length imports
 hosts-length (import.Raise type ∷ imports) = ap suc (hosts-length imports)
+hosts-length (import.Pages type ∷ imports) = ap suc (hosts-length imports)
 
-hosts-at : (imports : List Import) (index : ℕ) → index < length (filter_map host_of imports) → slice_get (filter_map host_of imports) index ≡ Some host_raise
-hosts-at [] index inside = absurd (omega arith)
-hosts-at (import.Memory limits ∷ imports) index inside = hosts-at imports index inside
-hosts-at (import.Raise type ∷ imports) zero inside = refl
-hosts-at (import.Raise type ∷ imports) (suc index) inside = hosts-at imports index (omega arith)
-
-host-at : (m : Module) (index : ℕ) → index < length (imported_functions m) → slice_get (callees_of m) index ≡ Some host_raise
+host-at : (m : Module) (index : ℕ) → index < length (imported_functions m) → slice_get (callees_of m) index ≡ slice_get (filter_map host_of m.imports.items) index
 host-at m index imported =
     let inside : index < length (filter_map host_of m.imports.items) = omega (arith, imported, hosts-length m.imports.items) in
-    get-first (filter_map host_of m.imports.items) (map (λ (f : Function). own (closure_of m f)) m.functions.items) index inside ∙ hosts-at m.imports.items index inside
+    get-first (filter_map host_of m.imports.items) (map (λ (f : Function). own (closure_of m f)) m.functions.items) index inside
+
+-- which one, as the imports were looked up
+pub host-linked : (m : Module) (index : ℕ) → index < length (imported_functions m) → (found : Option Host) →
+    option_map callee_of found ≡ slice_get (filter_map host_of m.imports.items) index → (h : Host) × (found ≡ Some h) × (slice_get (callees_of m) index ≡ Some (callee_of h))
+host-linked m index imported (Some h) read = (h, refl, host-at m index imported ∙ sym read)
+host-linked m index imported None read =
+    let inside : index < length (filter_map host_of m.imports.items) = omega (arith, imported, hosts-length m.imports.items) in
+    absurd (none-some _ (read ∙ slice_get-get_or (filter_map host_of m.imports.items) index host_raise inside))
+
+pub host-named : (m : Module) (index : ℕ) → index < length (imported_functions m) → (found : Option Host) (h : Host) →
+    option_map callee_of found ≡ slice_get (filter_map host_of m.imports.items) index → found ≡ Some h → slice_get (callees_of m) index ≡ Some (callee_of h)
+host-named m index imported found h read same = host-at m index imported ∙ sym read ∙ ap (option_map callee_of) same
 
 own-at : (m : Module) (index number : ℕ) (function : Function) → index ≡ length (imported_functions m) + number →
     slice_get m.functions.items number ≡ Some function → slice_get (callees_of m) index ≡ Some (own (closure_of m function))
@@ -80,6 +92,14 @@ functions-many m index signature found =
 
 same-callee : (outside : Outside) (callee other : Callee) (signature : Signature) → callee ≡ other → IsCalleeOf outside callee signature → IsCalleeOf outside other signature
 same-callee outside callee other signature same is = subst (λ (c : Callee). IsCalleeOf outside c signature) same is
+
+-- two requests that are one make the same of an answer
+abbrev made_by : Want → ℕ → State
+made_by (AsksPlace pages make) value = make value
+made_by _ value = Returned
+
+same-made : (pages other : ℕ) (make also : ℕ → State) (value : ℕ) → AsksPlace pages make ≡ AsksPlace other also → make value ≡ also value
+same-made pages other make also value same = ap (λ (w : Want). made_by w value) same
 
 -- ---- a call at a point
 module _ (m : Module) (executed : IsExecuted m) {rooms : Rooms} {p : Point} (is : IsPoint m rooms p)
@@ -135,44 +155,153 @@ module _ (m : Module) (executed : IsExecuted m) {rooms : Rooms} {p : Point} (is 
         contexts = contexts_of m p.function p.awaiting is.below (take p.first_local p.locals);
       } in c) call_code
 
-  -- ---- of the host's function
-  module _ (imported : index < length (imported_functions m)) where
-    raise_type : signature ≡ raise_signature
-    raise_type =
-        let same : callee.0 ≡ host_raise = same_Some callee.0 host_raise (sym callee.1 ∙ host-at m index imported) in
-        same-callee (outside_of m) callee.0 host_raise signature same callee.2
+  -- ---- of a function of the host's, which takes one i32
+  module _ (results : List ValType) (called_host : Callee) (linked : slice_get (callees_of m) index ≡ Some called_host)
+      (typed : (s : Signature) → IsCalleeOf (outside_of m) called_host s → s ≡ record { params = I32 ∷ []; results = results }) where
+    host_type : signature ≡ record { params = I32 ∷ []; results = results }
+    host_type =
+        let same : callee.0 ≡ called_host = same_Some callee.0 called_host (sym callee.1 ∙ linked) in
+        typed signature (same-callee (outside_of m) callee.0 called_host signature same callee.2)
 
-    code_there : (v : ℕ) × (more : List ℕ) × (is.own ≡ v ∷ more) × (v < 2 ^ 32)
-    code_there =
-        let are : AreOf is.own (I32 ∷ others_types) = subst (λ (s : Signature). AreOf is.own (reverse s.params ++ others_types)) raise_type arguments_are in
+    argument_there : (v : ℕ) × (more : List ℕ) × (is.own ≡ v ∷ more) × (v < 2 ^ 32) × AreOf more others_types
+    argument_there =
+        let are : AreOf is.own (I32 ∷ others_types) = subst (λ (s : Signature). AreOf is.own (reverse s.params ++ others_types)) host_type arguments_are in
         let first = first_of_types is.own I32 others_types are in
-        (first.0, first.1, first.2, first.3)
+        (first.0, first.1, first.2, first.3, first.4)
 
-    pub raise-operand : 0 < length p.operands
-    raise-operand = omega (arith, ap length is.operands_are, length-append is.own is.below, ap length code_there.2)
+    argument-some : 0 < length p.operands
+    argument-some = omega (arith, ap length is.operands_are, length-append is.own is.below, ap length argument_there.2)
 
-    -- what is popped is the code
-    popped-first : (code : ℕ) (operands : List ℕ) → p.operands ≡ code ∷ operands → code ≡ code_there.0
-    popped-first code operands popped =
-        let whole : code ∷ operands ≡ code_there.0 ∷ (code_there.1 ++ is.below) =
-        sym popped ∙ is.operands_are ∙ ap (λ (xs : List ℕ). xs ++ is.below) code_there.2 in
+    -- what is on top is the argument
+    argument-first : (value : ℕ) (operands : List ℕ) → p.operands ≡ value ∷ operands → value ≡ argument_there.0
+    argument-first value operands popped =
+        let whole : value ∷ operands ≡ argument_there.0 ∷ (argument_there.1 ++ is.below) =
+        sym popped ∙ is.operands_are ∙ ap (λ (xs : List ℕ). xs ++ is.below) argument_there.2 in
         cc whole
 
+    argument-small : (value : ℕ) (operands : List ℕ) → p.operands ≡ value ∷ operands → value < 2 ^ 32
+    argument-small value operands popped = omega (arith, argument-first value operands popped, argument_there.3)
+
+  -- ---- of `raise`
+  module _ (linked : slice_get (callees_of m) index ≡ Some host_raise) where
+    raise_is : (s : Signature) → IsCalleeOf (outside_of m) host_raise s → s ≡ raise_signature
+    raise_is s same = same
+
+    pub raise-operand : 0 < length p.operands
+    raise-operand = argument-some [] host_raise linked raise_is
+
     pub raise-small : (code : ℕ) (operands : List ℕ) → p.operands ≡ code ∷ operands → code < 2 ^ 32
-    raise-small code operands popped = omega (arith, popped-first code operands popped, code_there.3)
+    raise-small = argument-small [] host_raise linked raise_is
 
-    calling-host : (v : ℕ) (more : List ℕ) → is.own ≡ v ∷ more → wants calling ≡ Signals v
-    calling-host v more are = rw (host-at m index imported, are) refl
-
-    raise-wants : wants (config_at m p) ≡ Signals code_there.0
-    raise-wants = ap wants config_is ∙ calling-host code_there.0 code_there.1 code_there.2
+    calling-raise : (v : ℕ) (more : List ℕ) → is.own ≡ v ∷ more → wants calling ≡ Signals v
+    calling-raise v more are = rw (linked, are) refl
 
     pub done-raise : (spare code : ℕ) (operands memory : List ℕ) (q : Point) → p.operands ≡ code ∷ operands → IsDoneAt m rooms spare p memory (stepped.Raised code) q memory
-    done-raise spare code operands memory q popped = record {
-      event = Raises code;
-      made = ap (answered (λ pages. nat_le pages spare) memory) (raise-wants ∙ ap Signals (sym (popped-first code operands popped)));
-      answered = refl;
-    }
+    done-raise spare code operands memory q popped =
+        let there = argument_there [] host_raise linked raise_is in
+        let raises = ap wants config_is ∙ calling-raise there.0 there.1 there.2 ∙ ap Signals (sym (argument-first [] host_raise linked raise_is code operands popped)) in
+        record {
+          event = Raises code;
+          made = λ place. ap (answered (λ pages. nat_le pages spare) place memory) raises;
+          no_ask = tt;
+          answered = refl;
+        }
+
+  -- ---- of `pages`
+  module _ (linked : slice_get (callees_of m) index ≡ Some host_pages) where
+    pages_is : (s : Signature) → IsCalleeOf (outside_of m) host_pages s → s ≡ pages_signature
+    pages_is s same = same
+
+    pub pages-operand : 0 < length p.operands
+    pages-operand = argument-some (I32 ∷ []) host_pages linked pages_is
+
+    pub pages-small : (value : ℕ) (operands : List ℕ) → p.operands ≡ value ∷ operands → value < 2 ^ 32
+    pages-small = argument-small (I32 ∷ []) host_pages linked pages_is
+
+    abbrev pages_argument : (v : ℕ) × (more : List ℕ) × (is.own ≡ v ∷ more) × (v < 2 ^ 32) × AreOf more others_types
+    pages_argument = argument_there (I32 ∷ []) host_pages linked pages_is
+
+    abbrev beneath : List ℕ
+    beneath = pages_argument.1
+
+    -- the state that it leads to by what the host answers
+    abbrev pages_state : ℕ → State
+    pages_state first = goes_on calling rest (first ∷ beneath) calling.locals
+
+    calling-pages : (v : ℕ) (more : List ℕ) → is.own ≡ v ∷ more → wants calling ≡ AsksPlace v (λ first. goes_on calling rest (first ∷ more) calling.locals)
+    calling-pages v more are = rw (linked, are) refl
+
+    pages-wants : wants (config_at m p) ≡ AsksPlace pages_argument.0 pages_state
+    pages-wants = ap wants config_is ∙ calling-pages pages_argument.0 beneath pages_argument.2
+
+    pub pages-asked : (pages : ℕ) (operands : List ℕ) → p.operands ≡ pages ∷ operands → AsksFor pages (config_at m p)
+    pages-asked pages operands popped =
+        (pages_state, pages-wants ∙ ap (λ (n : ℕ). AsksPlace n pages_state) (sym (argument-first (I32 ∷ []) host_pages linked pages_is pages operands popped)))
+
+    pub done-pages : (spare pages : ℕ) (operands memory : List ℕ) → p.operands ≡ pages ∷ operands → p.index < 2 ^ 64 - 1 →
+        IsDoneAt m rooms spare p memory (stepped.Asked pages) p memory
+    done-pages spare pages operands memory popped fits = (
+      record { point = is; unfinished = inside },
+      record { index = index; calls = found; fits = fits; host = linked; others = operands; operands_are = popped },
+      pages-asked pages operands popped,
+      refl,
+      refl,
+    )
+
+    -- the point after the host's answer
+    module _ (value : ℕ) (small : value < 2 ^ 32) where
+      told_operands : value ∷ drop 1 p.operands ≡ (value ∷ beneath) ++ is.below
+      told_operands = ap (λ (xs : List ℕ). value ∷ drop 1 xs) (is.operands_are ∙ ap (λ (xs : List ℕ). xs ++ is.below) pages_argument.2)
+
+      told_typed : Typed scope rest (I32 ∷ others_types) is.ends
+      told_typed = subst (λ (s : Signature). Typed scope rest (reverse s.results ++ others_types) is.ends) (host_type (I32 ∷ []) host_pages linked pages_is) called.4
+
+      told_many : length is.own - parameters_at ((outside_of m).functions) index + results_at ((outside_of m).functions) index ≡ length (value ∷ beneath)
+      told_many = omega (
+        arith,
+        parameters-are ((outside_of m).functions) index signature called.2,
+        results-are ((outside_of m).functions) index signature called.2,
+        ap (λ (s : Signature). length s.params) (host_type (I32 ∷ []) host_pages linked pages_is),
+        ap (λ (s : Signature). length s.results) (host_type (I32 ∷ []) host_pages linked pages_is),
+        ap length pages_argument.2,
+      )
+
+      pub told-point : IsPoint m rooms (after_answer p value)
+      told-point = record {
+        own = value ∷ beneath;
+        below = is.below;
+        locals = is.locals;
+        results = is.results;
+        labels = is.labels;
+        before = I32 ∷ others_types;
+        ends = is.ends;
+        operands_are = told_operands;
+        below_are = is.below_are;
+        own_are = (small, pages_argument.4);
+        has_locals = is.has_locals;
+        typed = told_typed;
+        index_in = omega (arith, inside);
+        operands_most = is.operands_most;
+        labels_most = is.labels_most;
+        stays = stays-on ((outside_of m).functions) rest is.operands_most is.labels_most
+            (length is.own - parameters_at ((outside_of m).functions) index + results_at ((outside_of m).functions) index)
+            (length (value ∷ beneath)) told_many stays_called.1;
+        room = is.room;
+        awaiting = is.awaiting;
+      }
+
+      told-is : state_at m (after_answer p value) ≡ pages_state value
+      told-is = state_at-split m (after_answer p value) (value ∷ beneath) is.below told_operands is.below_are
+
+      -- is what the request makes of it
+      pub told-state : (pages : ℕ) (make : ℕ → State) → wants (config_at m p) ≡ AsksPlace pages make → state_at m (after_answer p value) ≡ make value
+      told-state pages make wanted = told-is ∙ same-made pages_argument.0 pages pages_state make value (sym pages-wants ∙ wanted)
+
+  -- ---- of either
+  pub host-argument : (h : Host) → slice_get (callees_of m) index ≡ Some (callee_of h) →
+      (0 < length p.operands) × ((value : ℕ) (operands : List ℕ) → p.operands ≡ value ∷ operands → value < 2 ^ 32)
+  host-argument host.Raise linked = (raise-operand linked, raise-small linked)
+  host-argument host.Pages linked = (pages-operand linked, pages-small linked)
 
   -- ---- of an own function
   module _ (number : ℕ) (own_is : index ≡ length (imported_functions m) + number) where
@@ -364,7 +493,7 @@ module _ (m : Module) (executed : IsExecuted m) {rooms : Rooms} {p : Point} (is 
         called-point,
         record {
           event = Silent;
-          made = ap (answered (λ pages. nat_le pages spare) memory) own-wants;
+          made = λ place. ap (answered (λ pages. nat_le pages spare) place memory) own-wants;
           answered = λ running. tt;
         },
       )

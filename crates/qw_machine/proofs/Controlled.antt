@@ -65,7 +65,7 @@ module _ {m : Module} {rooms : Rooms} (spare : ℕ) (executed : IsExecuted m) {p
   executed-goes : (q : Point) (memory : List ℕ) → IsPoint m rooms q → wants (config_at m p) ≡ Goes (state_at m q) → IsDoneAt m rooms spare p memory stepped.Ran q memory
   executed-goes q memory point goes = (
     point,
-    record { event = Silent; made = ap (answered (λ pages. nat_le pages spare) memory) goes; answered = λ running. tt },
+    record { event = Silent; made = λ place. ap (answered (λ pages. nat_le pages spare) place memory) goes; answered = λ running. tt },
   )
 
   -- ---- unreachable
@@ -75,7 +75,8 @@ module _ {m : Module} {rooms : Rooms} (spare : ℕ) (executed : IsExecuted m) {p
       let code : code_at m p.function p.sequence p.index ≡ unreachable rest = code_in-instruction _ p.sequence p.index i.Unreachable found in
       record {
         event = Traps trap.Unreachable;
-        made = ap (λ (c : Config). answered (λ pages. nat_le pages spare) memory (wants c)) (config-over is inside (unreachable rest) is.own code refl);
+        made = λ place. ap (λ (c : Config). answered (λ pages. nat_le pages spare) place memory (wants c)) (config-over is inside (unreachable rest) is.own code refl);
+        no_ask = tt;
         answered = refl;
       }
 
@@ -315,7 +316,8 @@ module _ {m : Module} {rooms : Rooms} (spare : ℕ) (executed : IsExecuted m) {p
         let ends = left-outermost m rooms p.function p.awaiting is.below (take p.first_local p.locals) (store_with m p.globals) is.own (sym is.floor_is ∙ none) in
         record {
           event = Silent;
-          made = ap (answered (λ pages. nat_le pages spare) memory) (ap wants (config-over is inside (return rest) is.own return_code refl) ∙ ap goes_if_some ends);
+          made = λ place. ap (answered (λ pages. nat_le pages spare) place memory) (ap wants (config-over is inside (return rest) is.own return_code refl) ∙ ap goes_if_some ends);
+          no_ask = tt;
           answered = tt;
         }
 

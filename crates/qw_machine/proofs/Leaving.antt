@@ -104,7 +104,7 @@ done-left m rooms spare p q r memory after executed is same = (
   is,
   record {
     event = executed.1.event;
-    made = executed.1.made ∙ ap (λ (x : State). let n : Next = record { event = executed.1.event; state = x; memory = after } in Some n) same;
+    made = λ place. executed.1.made place ∙ ap (λ (x : State). let n : Next = record { event = executed.1.event; state = x; memory = after } in Some n) same;
     answered = executed.1.answered;
   },
 )

@@ -9,7 +9,6 @@ mod Descents
 mod Entering
 mod Followed
 mod Functions
-mod Imported
 mod InitialValues
 mod Instances
 mod Jumps

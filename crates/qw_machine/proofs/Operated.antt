@@ -189,18 +189,18 @@ module _ {m : Module} {rooms : Rooms} (spare : ℕ) {p : Point} (is : IsPoint m 
   -- what was done of a typed want over all operands is the configuration's step
   executed-want : (w : OpWant) → OpWantTyped w op_is.0 scope → (memory : List ℕ) (answer : Operated) (after : Held) →
       IsDone (over is.below w) (record { operands = p.operands; globals = p.globals; locals = values; memory = memory }) spare answer after →
-      next (λ pages. nat_le pages spare) (config_at m p) memory ≡ answered (λ pages. nat_le pages spare) memory (then_wants w own_config rest) →
+      ((place : ℕ → ℕ) → next (λ pages. nat_le pages spare) place (config_at m p) memory ≡ answered (λ pages. nat_le pages spare) place memory (then_wants w own_config rest)) →
       IsDoneAt m rooms spare p memory (answer_of answer) (operated_at after) after.memory
   executed-want Stuck' typed memory answer after done steps = absurd typed
   executed-want (Leaves left changed) typed memory answer after done steps =
       rw (done.0, done.1) (
         after_it-is left p.globals changed typed.0 is.globals_are typed.1,
-        record { event = Silent; made = steps ∙ rw (state-is left p.globals changed) refl; answered = λ running. tt },
+        record { event = Silent; made = λ place. steps place ∙ rw (state-is left p.globals changed) refl; answered = λ running. tt },
       )
   executed-want (Sets left changed) typed memory answer after done steps =
       rw (done.0, done.1) (
         after_it-is left changed values typed.0 typed.1 is.locals_are,
-        record { event = Silent; made = steps ∙ rw (state-is left changed values) refl; answered = λ running. tt },
+        record { event = Silent; made = λ place. steps place ∙ rw (state-is left changed values) refl; answered = λ running. tt },
       )
   executed-want (Reads address width make) typed memory answer after done steps = ⊎_elim
       (λ inside.
@@ -208,28 +208,28 @@ module _ {m : Module} {rooms : Rooms} (spare : ℕ) {p : Point} (is : IsPoint m 
       let n : ℕ = number_at memory address width in
       rw (d.0, d.1) (
         after_it-is (make n) p.globals values (typed n d.2) is.globals_are is.locals_are,
-        record { event = Loads address width; made = steps ∙ rw (inside, state-is (make n) p.globals values) refl; answered = λ running. tt },
+        record { event = Loads address width; made = λ place. steps place ∙ rw (inside, state-is (make n) p.globals values) refl; answered = λ running. tt },
       ))
       (λ outside.
       let d = rw outside at done in
-      rw (d.0, d.1) (record { event = Traps trap.OutOfBounds; made = steps ∙ rw outside refl; answered = refl }))
+      rw (d.0, d.1) (record { event = Traps trap.OutOfBounds; made = λ place. steps place ∙ rw outside refl; no_ask = tt; answered = refl }))
       (cases_Bool (nat_le (address + width) (length memory)))
   executed-want (Writes address width value left) typed memory answer after done steps = ⊎_elim
       (λ inside.
       let d = rw inside at done in
       rw (d.0, d.1) (
         after_it-is left p.globals values typed is.globals_are is.locals_are,
-        record { event = Stores address width; made = steps ∙ rw (inside, state-is left p.globals values) refl; answered = λ running. tt },
+        record { event = Stores address width; made = λ place. steps place ∙ rw (inside, state-is left p.globals values) refl; answered = λ running. tt },
       ))
       (λ outside.
       let d = rw outside at done in
-      rw (d.0, d.1) (record { event = Traps trap.OutOfBounds; made = steps ∙ rw outside refl; answered = refl }))
+      rw (d.0, d.1) (record { event = Traps trap.OutOfBounds; made = λ place. steps place ∙ rw outside refl; no_ask = tt; answered = refl }))
       (cases_Bool (nat_le (address + width) (length memory)))
   executed-want (Sizes make) typed memory answer after done steps =
       let n : ℕ = pages_of memory in
       rw (done.0, done.1) (
         after_it-is (make n) p.globals values (typed n done.2) is.globals_are is.locals_are,
-        record { event = Silent; made = steps ∙ rw (state-is (make n) p.globals values) refl; answered = λ running. tt },
+        record { event = Silent; made = λ place. steps place ∙ rw (state-is (make n) p.globals values) refl; answered = λ running. tt },
       )
   executed-want (Requests pages make) typed memory answer after done steps = ⊎_elim
       (λ granted.
@@ -240,7 +240,7 @@ module _ {m : Module} {rooms : Rooms} (spare : ℕ) {p : Point} (is : IsPoint m 
         after_it-is (make n) p.globals values (typed n small) is.globals_are is.locals_are,
         record {
           event = Grows pages true;
-          made = steps ∙ rw (granted, le-leb (pages_of memory + pages) most_pages d.2, state-is (make n) p.globals values) refl;
+          made = λ place. steps place ∙ rw (granted, le-leb (pages_of memory + pages) most_pages d.2, state-is (make n) p.globals values) refl;
           answered = λ running. (refl, refl);
         },
       ))
@@ -248,11 +248,11 @@ module _ {m : Module} {rooms : Rooms} (spare : ℕ) {p : Point} (is : IsPoint m 
       let d = rw refused at done in
       rw (d.0, d.1) (
         after_it-is (make refusal) p.globals values (typed refusal (omega arith)) is.globals_are is.locals_are,
-        record { event = Grows pages false; made = steps ∙ rw (refused, state-is (make refusal) p.globals values) refl; answered = λ running. refl },
+        record { event = Grows pages false; made = λ place. steps place ∙ rw (refused, state-is (make refusal) p.globals values) refl; answered = λ running. refl },
       ))
       (cases_Bool (nat_le pages spare))
   executed-want (Fails' why) typed memory answer after done steps =
-      rw (done.0, done.1) (record { event = Traps why; made = steps; answered = refl })
+      rw (done.0, done.1) (record { event = Traps why; made = steps; no_ask = tt; answered = refl })
 
   -- an operator done is the configuration's step
   pub executed-operator : (memory : List ℕ) (answer : Operated) (after : Held) →
@@ -265,4 +265,4 @@ module _ {m : Module} {rooms : Rooms} (spare : ℕ) {p : Point} (is : IsPoint m 
       (op_wants-typed scope operator is.before op_is.0 op_is.1 p.globals is.own values is.globals_are is.own_are is.locals_are)
       memory answer after
       (subst (λ (w : OpWant). IsDone w (record { operands = p.operands; globals = p.globals; locals = values; memory = memory }) spare answer after) same done)
-      (ap (λ (c : Config). next (λ pages. nat_le pages spare) c memory) (config-over is within (op operator rest) is.own code refl)))
+      (λ place. ap (λ (c : Config). next (λ pages. nat_le pages spare) place c memory) (config-over is within (op operator rest) is.own code refl)))

@@ -11,7 +11,6 @@ use Rattle.qw_valid.specs.declared.heights.Heights.{Heights}
 use Rattle.qw_valid.specs.ModuleHeights.{HaveHeights}
 use Rattle.qw_machine.specs.declared.room.Rooms.{Rooms}
 use Rattle.qw_machine.specs.declared.stepped.RunEnd.{RunEnd}
-use Rattle.qw_machine.specs.declared.stepped.RunEnd.TheVariants as end
 use Rattle.qw_module.specs.Typing.{Signature}
 use Rattle.qw_module.specs.Soundness.{AreOf, raise_signature, IsClosureOf}
 use Rattle.qw_module.specs.Start.{closure_of, body_of, begun, initial_value}
@@ -21,6 +20,7 @@ use Rattle.qw_machine.specs.Inner.Points.{Point, state_at, in_body, first_point,
 use Rattle.qw_machine.specs.Inner.Rooms.{bounds_of, locals_of, needed_below, needed, HasRoom, rooms_of}
 use Rattle.qw_machine.specs.Inner.Placed.{IsExecuted, IsPoint, IsRunning}
 use Rattle.qw_machine.specs.Inner.Activities.{IsLeft}
+use Rattle.qw_machine.specs.Inner.Ended.{end_by}
 use Rattle.qw_machine.specs.Inner.Held.{state_of, IsHeld}
 use Rattle.qw_machine.proofs.Begins.{one_type, closure_is, first_globals-are}
 use Rattle.qw_machine.proofs.Bodies.{body-room, IsBegun, begun-point, begun-state}
@@ -43,11 +43,6 @@ run-there m number shaped = there (slice_get m.functions.items number) refl shap
       (function : Function) × (slice_get m.functions.items number ≡ Some function)
   there None same run = absurd run
   there (Some function) same run = (function, same)
-
--- how a call has ended that goes on, and one that is over at once
-abbrev pub first_end : Bool → Option RunEnd
-first_end true = None
-first_end false = Some end.Returned
 
 -- the values that globals begin with
 abbrev pub first_globals : Module → List ℕ
@@ -147,16 +142,17 @@ module _ (m : Module) (number : ℕ) (function : Function) (executed : IsExecute
       -- what the instance stands for once what is finished is left
       module _ (imported : ℕ) (imported_is : imported ≡ length (imported_functions m)) (activity : Activity) (ended : Option RunEnd) where
         abbrev made : Inside
-        made = record { valid = m; imported = imported; ended = ended; activity = activity }
+        made = record { valid = m; imported = imported; ended = ended; asked = None; activity = activity }
 
-        pub started : (runs : Bool) → ended ≡ first_end runs → rooms_of activity ≡ rooms → IsLeft m rooms first runs (point_of activity) →
+        pub started : (runs : Bool) → ended ≡ end_by runs → rooms_of activity ≡ rooms → IsLeft m rooms first runs (point_of activity) →
             IsHeld made × (state_of made ≡ begun m number argument)
         started true told same left = rw told (
           record {
             executed = executed;
             imported = imported_is;
             running = subst (λ (r : Rooms). IsRunning m r (point_of activity)) (sym same) left.0;
+            asks = tt;
           },
           sym left.1 ∙ begun-is,
         )
-        started false told same left = rw told (record { executed = executed; imported = imported_is; running = tt }, sym left ∙ begun-is)
+        started false told same left = rw told (record { executed = executed; imported = imported_is; running = tt; asks = tt }, sym left ∙ begun-is)

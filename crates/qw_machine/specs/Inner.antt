@@ -3,6 +3,7 @@ pub mod Activities
 pub mod CalledCode
 pub mod Ended
 pub mod Held
+pub mod Hosts
 pub mod Numeric
 pub mod Operated
 pub mod Placed

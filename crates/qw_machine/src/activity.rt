@@ -7,15 +7,16 @@ ghost use Rattle.qw_module.specs.Syntax.{labels_in, IsNumbered};
 ghost use Rattle.qw_module.specs.Execution.{chosen};
 ghost use Rattle.qw_module.specs.Start.{body_of, closure_of, initial_value};
 ghost use Rattle.qw_module.specs.Validity.{sequences_of, code_of_body, declared_types, imported_functions, IsValidGlobal};
-ghost use Rattle.qw_machine.specs.Inner.Points.{Point, at_index, called_at, entered, first_point, has_result, in_body, instructions_at, point_of, resumed, under};
+ghost use Rattle.qw_machine.specs.Inner.Points.{Point, after_answer, at_index, called_at, entered, first_point, has_result, in_body, instructions_at, point_of, resumed, under};
 ghost use Rattle.qw_machine.specs.Inner.Ended.{answer_of};
 ghost use Rattle.qw_machine.specs.Inner.Rooms.{rooms_of};
 ghost use Rattle.qw_machine.specs.declared.stepped.Stepped.TheVariants.{Ran};
 ghost use Rattle.qw_machine.specs.Inner.Operated.{CanOperate};
-ghost use Rattle.qw_machine.specs.Inner.Placed.{IsExecuted, IsPoint, IsRunning};
+ghost use Rattle.qw_machine.specs.Inner.Placed.{IsAsking, IsExecuted, IsPoint, IsRunning};
 ghost use Rattle.qw_machine.specs.Inner.Activities.{CanJump, CanLeave, IsDoneAt, IsHalted, IsJump, IsLeft, IsReturn, IsRun, IsStepped};
 
 use crate::blocks::{Halted, at_once, blocks};
+use crate::hosts::{Host, linked_host};
 use crate::numbers::value_of;
 use crate::operators::{Operated, operate};
 use crate::room::Rooms;
@@ -347,10 +348,43 @@ impl Activity {
             }
             Instr::Call(index) => match (index as usize).checked_sub(imported) {
                 Some(number) => self.invoke(program, number),
-                None => return Stepped::Raised(self.operands.pop() as u32),
+                None => return self.call_host(program, index as usize),
             },
         }
         Stepped::Ran
+    }
+
+    /// What the call of an imported function, which is next, comes to: `raise` ends the run, and `pages` asks the host and stays next
+    /// until it has answered.
+    fn call_host(&self, program: &Module, index: usize) -> Stepped
+        requires executed { IsExecuted program.now }
+        requires point { IsPoint program.now (rooms_of self.now) (point_of self.now) }
+        requires calls { slice_get (instructions_at program.now self.now.function self.now.sequence) self.now.index ≡ Some (Instr.Call index) }
+        requires imported { index < length (imported_functions program.now) }
+        requires index { self.now.index < 2 ^ 64 - 1 }
+        ensures { (spare : ℕ) (memory : List ℕ) → IsDoneAt program.now (rooms_of self.now) spare (point_of self.now) memory result (point_of self.now) memory }
+    {
+        let host = linked_host(&program.imports, index).unwrap();
+        let argument = self.operands.top() as u32;
+        match host {
+            Host::Raise => Stepped::Raised(argument),
+            Host::Pages => Stepped::Asked { pages: argument },
+        }
+    }
+
+    /// Leaves what the host answers the call of `pages` that is next (4.4.7), and what this finishes. Answers whether the run goes on:
+    /// `run` wasn't left.
+    pub(crate) fn answer(&mut self, program: &Module, value: u32) -> bool
+        requires executed { IsExecuted program.now }
+        requires point { IsRunning program.now (rooms_of self.old) (point_of self.old) }
+        requires asks { (pages : ℕ) × IsAsking program.now (point_of self.old) pages }
+        ensures left { IsLeft program.now (rooms_of self.old) (after_answer (point_of self.old) value) result (point_of self.new) }
+        ensures rooms { rooms_of self.new ≡ rooms_of self.old }
+    {
+        let _ = self.operands.pop();
+        self.operands.push(u64::from(value));
+        self.index += 1;
+        self.leave_finished(program)
     }
 
     /// Leaves the labels and frames whose sequences are finished (4.4.6 and 4.4.7). Answers whether the run goes on: `run`
@@ -384,7 +418,7 @@ impl Activity {
             → IsStepped program.now (rooms_of self.old) spare p memory result (point_of self.new) after }
         ensures rooms { rooms_of self.new ≡ rooms_of self.old }
     {
-        if done.end().is_some() {
+        if done.halts() {
             return done;
         }
         if !self.leave_finished(program) {
@@ -487,7 +521,8 @@ impl Activity {
         Run { steps, last }
     }
 
-    /// Steps one after another, at most so many, up to the first that comes to another answer than `Ran`.
+    /// Steps one after another, at most so many, up to the first that comes to another answer than `Ran`. One that asks the host is
+    /// counted.
     pub(crate) fn run(
         &mut self,
         program: &Module,

@@ -1,6 +1,7 @@
 //! The machine that executes a module, instruction by instruction.
 //!
-//! - [`machine::Instance`]: a call of a module's `run`; its `step` is exactly the step of the standard.
+//! - [`machine::Instance`]: a call of a module's `run`; its `step` is exactly the step of the standard, and its `give` ends one that asks
+//!   the host for pages.
 //! - [`stepped::Stepped`]: what a step came to.
 //! - [`laws`]: calls of valid modules begin typed.
 #![tactic(auto)]
@@ -10,6 +11,7 @@ mod activity;
 mod blocks;
 mod descending;
 mod following;
+mod hosts;
 pub mod laws;
 pub mod machine;
 mod numbers;

@@ -1,7 +1,8 @@
 //! The machine: executes an instance's `run` instruction by instruction (WebAssembly Core Specification
 //! 1.0, 4.4), as the step relation of qw_module's `specs/Execution` says.
 
-ghost use Rattle.std.specs.Prelude.{◌≡◌, ℕ, ◌+◌, ◌*◌, ◌≤◌, ◌↔◌, length, IfOk};
+ghost use Rattle.std.specs.Prelude.{◌≡◌, ℕ, ◌+◌, ◌*◌, ◌<◌, ◌≤◌, ◌↔◌, None, Some, length, unwrap_or, IfOk, IfSome};
+ghost use Rattle.std.specs.Bool.{MatchBool};
 ghost use Rattle.qw_linear.specs.Memory.{page};
 ghost use Rattle.qw_module.specs.Validity.{IsDescending, IsShaped, IsValid};
 ghost use Rattle.qw_machine.specs.Descending.{IsFirstAscending};
@@ -19,6 +20,9 @@ use std::alloc::Global;
 use std::marker::Model;
 use thiserror::Error;
 
+/// What a call of `pages` leaves where the host gives none: -1, as a growth that is refused (4.4.4, `memory.grow`).
+const REFUSAL: u32 = u32::MAX;
+
 /// Why a module isn't called.
 #[derive(Clone, Copy, Debug, PartialEq, Eq, Error)]
 pub enum InstanceFault {
@@ -31,8 +35,8 @@ pub enum InstanceFault {
     NoMemory,
 }
 
-/// A valid module whose `run` was called, and where the call is. Contracts see a [`Called`](specs/Instance): the module
-/// and the state.
+/// A valid module whose `run` was called, and where the call is. Contracts see a [`Called`](specs/Instance): the module,
+/// the state, and for how many pages the host was asked while it owes the answer.
 #[derive(Drop)]
 pub struct Instance {
     valid: ValidModule,
@@ -40,6 +44,8 @@ pub struct Instance {
     imported: usize,
     /// `None` as long as the run goes on.
     ended: Option<RunEnd>,
+    /// For how many pages the host was asked, until it has answered. The activity is at the call that asks.
+    asked: Option<u32>,
     activity: Activity,
 }
 
@@ -59,10 +65,11 @@ impl Model for Instance {
 }
 
 impl Instance {
-    ghost use Rattle.qw_machine.specs.Instance.{IsLast, Runs, Went};
+    ghost use Rattle.qw_machine.specs.Instance.{AsksFor, Comes, ComesBy, IsLast, asked_by};
     ghost use Rattle.qw_machine.specs.declared.stepped.Stepped.TheVariants.{Ran};
     ghost use Rattle.qw_module.specs.Start.{begun};
-    ghost use Rattle.qw_module.specs.Execution.{IsOver, Config, Running};
+    ghost use Rattle.qw_module.specs.Execution.{IsOver, Config, State, Returned, Running, refusal};
+    ghost use Rattle.qw_module.specs.Step.{AsksPlace, wants};
 
     /// Calls the `run` of a module with an argument.
     ///
@@ -72,7 +79,8 @@ impl Instance {
     /// function calls one that isn't below it; and `NoMemory` for want of memory.
     pub fn new(alloc: Global, valid: ValidModule, argument: u32) -> Result<Self, InstanceFault>
         ensures begun { (number : ℕ) → IsShaped valid number → IsDescending valid
-            → IfOk result (λ instance. instance ≡ record { program = valid; state = begun valid number argument }) }
+            → IfOk result (λ instance. instance ≡ record { program = valid; state = begun valid number argument; asked = None }) }
+        ensures owes_none { IfOk result (λ instance. instance.asked ≡ None) }
         ensures not_shaped { (result ≡ Err InstanceFault.NotShaped) ↔ ((number : ℕ) → IsShaped valid number → ⊥) }
         ensures not_descending { (func : ℕ) → (result ≡ Err (InstanceFault.NotDescending func)) ↔ (((number : ℕ) × IsShaped valid number) × IsFirstAscending valid func) }
     {
@@ -93,7 +101,7 @@ impl Instance {
     ) -> Result<Self, NoMemory>
         requires shaped { IsShaped valid number }
         requires descends { IsDescending valid }
-        ensures { IfOk result (λ instance. instance ≡ record { program = valid; state = begun valid number argument }) }
+        ensures { IfOk result (λ instance. instance ≡ record { program = valid; state = begun valid number argument; asked = None }) }
     {
         let module = valid.module();
         let rooms = needed_rooms(module, valid.heights()).ok_or(NoMemory)?;
@@ -103,7 +111,8 @@ impl Instance {
         Ok(Instance {
             valid,
             imported,
-            ended: if runs { None } else { Some(RunEnd::Returned) },
+            ended: RunEnd::after_leaving(runs),
+            asked: None,
             activity,
         })
     }
@@ -121,14 +130,17 @@ impl Instance {
         }
     }
 
-    /// Executes one instruction, and leaves what it finishes. A request is granted exactly where it is for at most `spare`
-    /// pages. After `Returned`, `Raised` or `Trapped` nothing changes any more, and the answer is the same again. It takes no
+    /// Executes one instruction, and leaves what it finishes. A growth is granted exactly where it is for at most `spare`
+    /// pages. A call of the imported function `pages` isn't executed yet: the answer is `Asked`, and [`give`](Instance::give) ends
+    /// the step. After `Returned`, `Raised` or `Trapped` nothing changes any more, and the answer is the same again. It takes no
     /// memory.
     pub fn step(&mut self, memory: &mut Linear, spare: u32) -> Stepped
-        requires { length memory.old.octets + spare * page ≤ memory.old.reserved * page }
+        requires none_owed { self.old.asked ≡ None }
+        requires room { length memory.old.octets + spare * page ≤ memory.old.reserved * page }
         ensures step { (c : Config) → self.old.state ≡ Running c
-            → Went spare c memory.old.octets self.new.state memory.new.octets result }
+            → Comes spare c memory.old.octets self.new.state memory.new.octets result }
         ensures over { IsOver self.old.state → (self.new ≡ self.old) × (memory.new ≡ memory.old) × IsLast result self.old.state }
+        ensures asked { self.new.asked ≡ asked_by result }
         ensures program { self.new.program ≡ self.old.program }
         ensures reserved { memory.new.reserved ≡ memory.old.reserved }
     {
@@ -139,19 +151,23 @@ impl Instance {
             .activity
             .step(self.valid.module(), self.imported, memory, spare);
         self.ended = stepped.end();
+        self.asked = stepped.asked();
         stepped
     }
 
     /// Executes instructions one after another, as so many calls of [`step`](Instance::step): at most `most`, and none after one
-    /// whose answer isn't `Ran`. Answers how many they were and what the last of them came to, `Ran` where there was none. It takes
-    /// no memory.
+    /// whose answer isn't `Ran`. Answers how many they were and what the last of them came to, `Ran` where there was none. Where the
+    /// host is asked for pages, the step that asks isn't counted, and fewer than `most` were made. It takes no memory.
     pub fn run(&mut self, memory: &mut Linear, spare: u32, most: u64) -> Run
-        requires { length memory.old.octets + spare * page ≤ memory.old.reserved * page }
+        requires none_owed { self.old.asked ≡ None }
+        requires room { length memory.old.octets + spare * page ≤ memory.old.reserved * page }
         ensures runs { (c : Config) → self.old.state ≡ Running c
-            → Runs spare result.steps c memory.old.octets self.new.state memory.new.octets result.last }
+            → ComesBy spare result.steps c memory.old.octets self.new.state memory.new.octets result.last }
         ensures few { result.steps ≤ most }
         ensures all { (c : Config) → self.old.state ≡ Running c → result.last ≡ Ran → result.steps ≡ most }
+        ensures before_most { IfSome (asked_by result.last) (λ pages. result.steps < most) }
         ensures over { IsOver self.old.state → (self.new ≡ self.old) × (memory.new ≡ memory.old) × (result.steps ≡ 0) × IsLast result.last self.old.state }
+        ensures asked { self.new.asked ≡ asked_by result.last }
         ensures program { self.new.program ≡ self.old.program }
         ensures reserved { memory.new.reserved ≡ memory.old.reserved }
     {
@@ -165,6 +181,26 @@ impl Instance {
             .activity
             .run(self.valid.module(), self.imported, memory, spare, most);
         self.ended = run.last.end();
-        run
+        self.asked = run.last.asked();
+        run.made()
+    }
+
+    /// Tells what the host gives where it was asked for pages: the number of the first of them, or `None` where it gives none. It ends
+    /// the step that asked. Answers whether the run goes on: `run` wasn't left. It takes no memory.
+    pub fn give(&mut self, first: Option<u32>) -> bool
+        requires owed { (pages : ℕ) × (self.old.asked ≡ Some pages) }
+        ensures asks { IfSome self.old.asked (λ pages. (c : Config) × (self.old.state ≡ Running c) × AsksFor pages c) }
+        ensures given { (c : Config) (pages : ℕ) (make : ℕ → State) → self.old.state ≡ Running c → wants c ≡ AsksPlace pages make
+            → self.new.state ≡ make (unwrap_or first refusal) }
+        ensures goes { MatchBool result ((c : Config) × (self.new.state ≡ Running c)) (self.new.state ≡ Returned) }
+        ensures answered { self.new.asked ≡ None }
+        ensures program { self.new.program ≡ self.old.program }
+    {
+        let goes = self
+            .activity
+            .answer(self.valid.module(), first.unwrap_or(REFUSAL));
+        self.ended = RunEnd::after_leaving(goes);
+        self.asked = None;
+        goes
     }
 }

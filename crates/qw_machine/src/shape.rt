@@ -1,24 +1,31 @@
-//! Whether a module has the shape that is executed: it imports the memory and `raise`, and exports a
-//! function of its own as `run`; every function that it imports, and `run`, takes one i32 and leaves nothing.
+//! Whether a module has the shape that is executed: it imports the memory and `raise`, and may import `pages`, each with the type that
+//! it has, and exports a function of its own as `run`, which takes one i32 and leaves nothing.
 
-ghost use Rattle.std.specs.Prelude.{◌≡◌, ◌↔◌, ℕ, length, IsTrue, MatchOption, IfNone, IfSome, All, Any, Contains};
-ghost use Rattle.qw_module.specs.Validity.{imported_function, imported_functions, IsOneI32, IsShaped, TakesOneI32};
+ghost use Rattle.std.specs.Prelude.{◌≡◌, ◌↔◌, ℕ, [], ◌∷◌, length, IsTrue, MatchOption, IfNone, IfSome, All, Any, Contains};
+ghost use Rattle.qw_module.specs.Validity.{imported_functions, IsI32ToI32, IsLinked, IsOneI32, IsShaped, TakesAndLeavesI32, TakesOneI32};
 ghost use Rattle.qw_machine.specs.Inner.Shape.{ImportsMemory, ImportsRaise, ExportsNoRun, ExportsRun};
 
 use qw_module::instruction::ValType;
 use qw_module::module::{Export, ExportKind, FuncType, Import, Module};
 use qw_valid::imports::imported_functions;
 
+/// Whether these types are one i32.
+fn are_one_i32(types: &[ValType]) -> bool
+    ensures { IsTrue result ↔ (types.now ≡ ValType.I32 ∷ []) }
+{
+    matches!(*types, [ValType::I32])
+}
+
 fn takes_one_i32(ty: &FuncType) -> bool
     ensures { IsTrue result ↔ TakesOneI32 ty.now }
 {
-    if !ty.results.is_empty() {
-        return false;
-    }
-    match ty.params.as_slice() {
-        [ValType::I32] => true,
-        _ => false,
-    }
+    are_one_i32(&ty.params) && ty.results.is_empty()
+}
+
+fn takes_and_leaves_i32(ty: &FuncType) -> bool
+    ensures { IsTrue result ↔ TakesAndLeavesI32 ty.now }
+{
+    are_one_i32(&ty.params) && are_one_i32(&ty.results)
 }
 
 fn is_one_i32(module: &Module, ty: u32) -> bool
@@ -28,6 +35,15 @@ fn is_one_i32(module: &Module, ty: u32) -> bool
         return false;
     };
     takes_one_i32(ty)
+}
+
+fn is_i32_to_i32(module: &Module, ty: u32) -> bool
+    ensures { IsTrue result ↔ IsI32ToI32 «module».now ty }
+{
+    let Some(ty) = module.types.get(ty as usize) else {
+        return false;
+    };
+    takes_and_leaves_i32(ty)
 }
 
 fn imports_memory(imports: &[Import]) -> bool
@@ -46,29 +62,30 @@ fn imports_function(imports: &[Import]) -> bool
         .any(|import| matches!(import, Import::Raise(_)))
 }
 
-/// Whether an import is no function, or one that takes one i32 and leaves nothing.
-fn fits_raise(module: &Module, import: Import) -> bool
-    ensures { IsTrue result ↔ IfSome (imported_function import) (IsOneI32 «module».now) }
+/// Whether an import is of the type of what it is linked to.
+fn is_linked(module: &Module, import: Import) -> bool
+    ensures { IsTrue result ↔ IsLinked «module».now import }
 {
     match import {
         Import::Raise(ty) => is_one_i32(module, ty),
+        Import::Pages(ty) => is_i32_to_i32(module, ty),
         Import::Memory(_) => true,
     }
 }
 
-fn all_fit_raise(module: &Module) -> bool
-    ensures { IsTrue result ↔ All (λ import. IfSome (imported_function import) (IsOneI32 «module».now)) «module».now.imports.items }
+fn all_are_linked(module: &Module) -> bool
+    ensures { IsTrue result ↔ All (IsLinked «module».now) «module».now.imports.items }
 {
     module
         .imports
         .iter()
-        .all(|import| fits_raise(module, *import))
+        .all(|import| is_linked(module, *import))
 }
 
 fn imports_raise(module: &Module) -> bool
     ensures { IsTrue result ↔ ImportsRaise «module».now }
 {
-    imports_function(&module.imports) && all_fit_raise(module)
+    imports_function(&module.imports) && all_are_linked(module)
 }
 
 /// The number of the function that is exported as `run` here, `imported` being how many come before the

@@ -1,7 +1,8 @@
 //! What a step comes to, and how a run ends.
 
-ghost use Rattle.std.specs.Prelude.{◌≡◌};
-ghost use Rattle.qw_machine.specs.Inner.Ended.{run_end_of};
+ghost use Rattle.std.specs.Prelude.{◌≡◌, ◌≤◌, ◌||◌, is_some, IfSome};
+ghost use Rattle.qw_machine.specs.Instance.{asked_by};
+ghost use Rattle.qw_machine.specs.Inner.Ended.{end_by, is_over, made_of, run_end_of};
 
 use crate::operators::Operated;
 use qw_module::trap::Trap;
@@ -14,6 +15,9 @@ pub enum Stepped {
     Grew { at: u32, pages: u32 },
     /// A request for so many pages was refused.
     Refused { pages: u32 },
+    /// The host is asked for so many pages, and the step is made when it has answered
+    /// ([`Instance::give`](crate::machine::Instance::give)).
+    Asked { pages: u32 },
     /// This step left `run`, whatever its instruction.
     Returned,
     /// `raise` was called with this code.
@@ -28,11 +32,32 @@ impl Stepped {
         ensures { result ≡ run_end_of self }
     {
         match self {
-            Stepped::Ran | Stepped::Grew { .. } | Stepped::Refused { .. } => None,
+            Stepped::Ran | Stepped::Grew { .. } | Stepped::Refused { .. } | Stepped::Asked { .. } =>
+                None,
             Stepped::Returned => Some(RunEnd::Returned),
             Stepped::Raised(code) => Some(RunEnd::Raised(code)),
             Stepped::Trapped(why) => Some(RunEnd::Trapped(why)),
         }
+    }
+
+    /// For how many pages the host is asked, if it is.
+    pub(crate) fn asked(self) -> Option<u32>
+        ensures { result ≡ asked_by self }
+    {
+        match self {
+            Stepped::Asked { pages } => Some(pages),
+            _ => None,
+        }
+    }
+
+    /// Whether an instruction that came to this finishes nothing: the run has ended, or the host is asked.
+    pub(crate) fn halts(self) -> bool
+        ensures { result ≡ (is_over self || is_some (asked_by self)) }
+    {
+        !matches!(
+            self,
+            Stepped::Ran | Stepped::Grew { .. } | Stepped::Refused { .. }
+        )
     }
 }
 
@@ -53,6 +78,18 @@ impl Run {
             last: Stepped::Ran,
         }
     }
+
+    /// The steps that were made, of those counted: where the last one asks the host, it isn't made yet.
+    pub(crate) fn made(self) -> Self
+        requires { IfSome (asked_by self.last) (λ pages. 1 ≤ self.steps) }
+        ensures { result ≡ record { steps = made_of self; last = self.last } }
+    {
+        let waits = u64::from(self.last.asked().is_some());
+        Run {
+            steps: self.steps - waits,
+            last: self.last,
+        }
+    }
 }
 
 /// How a run has ended.
@@ -61,6 +98,15 @@ pub(crate) enum RunEnd {
     Returned,
     Raised(u32),
     Trapped(Trap),
+}
+
+impl RunEnd {
+    /// How the run has ended after what was finished was left: not where it goes on, else by its return.
+    pub(crate) fn after_leaving(goes: bool) -> Option<Self>
+        ensures { result ≡ end_by goes }
+    {
+        if goes { None } else { Some(RunEnd::Returned) }
+    }
 }
 
 ghost use Rattle.qw_machine.specs.Inner.Ended.{answer_of};

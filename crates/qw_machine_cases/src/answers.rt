@@ -2,7 +2,7 @@
 
 use crate::frames::{BARE, Frame, MANY, USUAL, checked, module_of};
 use crate::refusal::Refusal;
-use crate::runs::{answers_of, call_of, one_page, value_of};
+use crate::runs::{answers_of, asks_of, call_of, one_page, value_of};
 use crate::words::{number_of, put_octets, short_number};
 use qw_binary::decode::decode;
 use qw_binary::encode::encode;
@@ -23,6 +23,7 @@ pub fn answer(alloc: Global, kind: &str, input: &str) -> Result<String, Refusal>
         "i32" | "i64" => value_of(alloc, &mut one_page(alloc)?, kind, input),
         "memory" => over_octets(alloc, input),
         "steps" => steps(alloc, input),
+        "asks" => asks(alloc, input),
         _ => Err(Refusal::NotRow),
     }
 }
@@ -106,6 +107,18 @@ fn steps(alloc: Global, input: &str) -> Result<String, Refusal> {
     let (argument, bodies) = first(rest)?;
     let mut memory = one_page(alloc)?;
     let answers = answers_of(alloc, &mut memory, bodies, short_number(argument)?)?;
+    let left = memory.load64(number_of(at)?).ok_or(Refusal::NotRow)?;
+    let pages = memory.size();
+    Ok(format!(in alloc; "{answers}{pages} pages, {left:#X}")?)
+}
+
+fn asks(alloc: Global, input: &str) -> Result<String, Refusal> {
+    let (most, rest) = first(input)?;
+    let (at, rest) = first(rest)?;
+    let (argument, bodies) = first(rest)?;
+    let mut memory = one_page(alloc)?;
+    let most = short_number(most)?;
+    let answers = asks_of(alloc, &mut memory, most, bodies, short_number(argument)?)?;
     let left = memory.load64(number_of(at)?).ok_or(Refusal::NotRow)?;
     let pages = memory.size();
     Ok(format!(in alloc; "{answers}{pages} pages, {left:#X}")?)

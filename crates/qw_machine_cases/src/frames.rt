@@ -146,11 +146,11 @@ fn put_function_types(out: &mut Vec<u8>, alloc: Global, helpers: u32) -> Result<
     put_section(out, 0x03, &types)
 }
 
-/// The last body's function, exported as `run` (5.5.10).
-fn put_run(out: &mut Vec<u8>, alloc: Global, helpers: u32) -> Result<(), AllocError> {
+/// The function of an index, exported as `run` (5.5.10).
+fn put_run(out: &mut Vec<u8>, alloc: Global, index: u32) -> Result<(), AllocError> {
     let mut exports = Vec::new(alloc);
     exports.extend_from_slice(b"\x01\x03run\x00")?;
-    put_short(&mut exports, helpers.saturating_add(1))?;
+    put_short(&mut exports, index)?;
     put_section(out, 0x07, &exports)
 }
 
@@ -174,20 +174,55 @@ fn put_codes(
     Ok(())
 }
 
-/// A module of the shape that is executed. Its functions are `raise`; those of the bodies before the last one, each from two i64 to one; and
-/// `run`, whose body is the last one between octets. Its globals are an i64 that begins as 5 and may be set, and an i32 that is 9.
-pub fn called(alloc: Global, bodies: &str, around: (&[u8], &[u8])) -> Result<Vec<u8>, Refusal> {
+/// What a module that is called imports.
+#[derive(Clone, Copy)]
+pub struct Linked {
+    /// The section of its types: the first one, of `raise` and of `run`, from i32 to nothing, and the second one from two i64 to one.
+    types: &'static [u8],
+    /// The section of imports.
+    imports: &'static [u8],
+    /// How many functions it imports.
+    functions: u32,
+}
+
+/// A memory and `raise`.
+pub const RAISING: Linked = Linked {
+    types: &[
+        0x01, 0x0B, 0x02, 0x60, 0x01, 0x7F, 0x00, 0x60, 0x02, 0x7E, 0x7E, 0x01, 0x7E,
+    ],
+    imports: IMPORTS,
+    functions: 1,
+};
+
+/// `pages`, from i32 to i32, then a memory and `raise`.
+pub const ASKING: Linked = Linked {
+    types: &[
+        0x01, 0x10, 0x03, 0x60, 0x01, 0x7F, 0x00, 0x60, 0x02, 0x7E, 0x7E, 0x01, 0x7E, 0x60, 0x01,
+        0x7F, 0x01, 0x7F,
+    ],
+    imports:
+        b"\x02\x21\x03\x01q\x05pages\x00\x02\x01q\x06memory\x02\x00\x01\x01q\x05raise\x00\x00",
+    functions: 2,
+};
+
+/// A module of the shape that is executed. Its functions are those that it imports; those of the bodies before the last one, each from two
+/// i64 to one; and `run`, whose body is the last one between octets. Its globals are an i64 that begins as 5 and may be set, and an i32 that is 9.
+pub fn called(
+    alloc: Global,
+    linked: Linked,
+    bodies: &str,
+    around: (&[u8], &[u8]),
+) -> Result<Vec<u8>, Refusal> {
     let helpers = helpers_of(bodies);
     let mut out = Vec::new(alloc);
     out.extend_from_slice(&HEADER)?;
-    out.extend_from_slice(&[0x01, 0x0B, 0x02, 0x60, 0x01, 0x7F, 0x00])?;
-    out.extend_from_slice(&[0x60, 0x02, 0x7E, 0x7E, 0x01, 0x7E])?;
-    out.extend_from_slice(IMPORTS)?;
+    out.extend_from_slice(linked.types)?;
+    out.extend_from_slice(linked.imports)?;
     put_function_types(&mut out, alloc, helpers)?;
     out.extend_from_slice(&[
         0x06, 0x0B, 0x02, 0x7E, 0x01, 0x42, 0x05, 0x0B, 0x7F, 0x00, 0x41, 0x09, 0x0B,
     ])?;
-    put_run(&mut out, alloc, helpers)?;
+    put_run(&mut out, alloc, helpers.saturating_add(linked.functions))?;
     put_codes(&mut out, alloc, bodies, around)?;
     Ok(out)
 }

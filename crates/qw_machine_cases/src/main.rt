@@ -15,7 +15,9 @@
 //!   each ended by `;`, are the functions that can be called, from 1 on, each from two i64 to one;
 //! - `memory AT OCTETS RESULT BODIES`: the same over a page with these eight octets at this address, and what they are afterwards;
 //! - `steps AT ARGUMENT BODIES`: each answer of a run that isn't `Ran`, with the number of steps that it took and how the run has ended then, up to
-//!   the second one after its end; and the pages of the memory and eight of its octets afterwards.
+//!   the second one after its end; and the pages of the memory and eight of its octets afterwards;
+//! - `asks MOST AT ARGUMENT BODIES`: the same of a module that imports `pages` as function 0 and `raise` as function 1, at most so many
+//!   steps at a time; the host gives the memory's next page, of which there is one.
 #![tactic(auto)]
 
 mod answers;

@@ -16,6 +16,12 @@ const SEQUENCES: [&[&[Instr]]; 4] = [
     &[&[], &[], &[BLOCK1, BLOCK0]],
 ];
 
+/// Imports of which one stands twice, at different types and at the same one.
+const TWICE: [[Import; 2]; 2] = [
+    [Import::Raise(0), Import::Raise(1)],
+    [Import::Pages(0), Import::Pages(0)],
+];
+
 /// Fails where a module is written, or for another fault isn't.
 fn check_not_spelled(alloc: Global, module: &Module) -> Result<(), Fail> {
     let fault = encode(alloc, module).err();
@@ -25,7 +31,7 @@ fn check_not_spelled(alloc: Global, module: &Module) -> Result<(), Fail> {
     Err(Fail::new(format_args!("{fault:?}")))
 }
 
-/// Modules that no octets spell: by their sequences, and one that imports `raise` twice.
+/// Modules that no octets spell: by their sequences, and those that import `raise` or `pages` twice.
 #[test]
 fn not_spelled(rt: HostRuntime) -> Result<(), Fail> {
     for &sequences in &SEQUENCES {
@@ -33,6 +39,9 @@ fn not_spelled(rt: HostRuntime) -> Result<(), Fail> {
         add_function(rt.alloc(), &mut module, 0, sequences)?;
         check_not_spelled(rt.alloc(), &module)?;
     }
-    let twice = plain_module(rt.alloc(), &[Import::Raise(0), Import::Raise(1)])?;
-    check_not_spelled(rt.alloc(), &twice)
+    for imports in &TWICE {
+        let module = plain_module(rt.alloc(), imports)?;
+        check_not_spelled(rt.alloc(), &module)?;
+    }
+    Ok(())
 }

@@ -90,7 +90,7 @@ fn ends_so(
     k: usize,
     way: Way,
 ) -> Result<bool, NoMemory> {
-    if bench.len() <= k {
+    if bench.len() <= k || bench.released(k) {
         return Ok(false);
     }
     match bench.ended(k) {

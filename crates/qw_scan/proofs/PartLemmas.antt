@@ -100,10 +100,12 @@ module _ (whole : List ℕ) (o : Outline) (t : Tables) (d : Describes whole o t)
   import_valid : (n : ℕ) → n ≡ length m.types.items → (x : Import) → IsImportOf n x → IsValidImport m x
   import_valid n few (import.Memory limits) valid = valid
   import_valid n few (import.Raise type) valid = omega (arith, few, valid)
+  import_valid n few (import.Pages type) valid = omega (arith, few, valid)
 
   import_of : (n : ℕ) → n ≡ length m.types.items → (x : Import) → IsValidImport m x → IsImportOf n x
   import_of n few (import.Memory limits) valid = valid
   import_of n few (import.Raise type) valid = omega (arith, few, valid)
+  import_of n few (import.Pages type) valid = omega (arith, few, valid)
 
   pub imports_told : (n : ℕ) (h : Bool) → n ≡ length t.types.items → IsTrue h ↔ All (IsImportOf n) t.imports.items → IsTrue h ↔ PartHolds m part.Imports
   imports_told n h few told =

@@ -1,22 +1,17 @@
 -- The indices of functions' types and the types of globals, read again.
-use Rattle.std.proofs.Common.{◌≡◌, ℕ, zero, suc, List, [], ◌∷◌, ◌++◌, ◌+◌, ◌<◌, ◌≤◌, length, get_or, drop, map, Option, Some, None, Result, Ok, refl, sym, ap, subst, ◌∙◌, append_assoc}
-use Rattle.std.specs.List.{filter_map}
-use Rattle.std.proofs.lemmas.List.{append-nil, map_push, at_drop_more, drop_all}
+use Rattle.std.proofs.Common.{◌≡◌, ℕ, zero, suc, List, [], ◌∷◌, ◌++◌, drop, map, Option, Some, None, Result, Ok, refl, sym, ap, subst, ◌∙◌}
+use Rattle.std.proofs.lemmas.List.{map_push}
 use Rattle.qw_octet_grammar.specs.declared.fault.BinaryFault.{BinaryFault}
 use Rattle.qw_octet_grammar.specs.Grammar.{Grammar, is}
 use Rattle.qw_octet_grammar.specs.Numbers.{u32}
 use Rattle.qw_octet_grammar.specs.Vectors.{counted, one_more, vector}
 use Rattle.qw_octet_grammar.specs.Reading.{◌>>=◌, read}
 use Rattle.qw_octet_grammar.proofs.GrammarLaws.{ok_is}
-use Rattle.qw_module.specs.declared.module.Limits.{Limits}
-use Rattle.qw_module.specs.declared.module.Import.{Import}
-use Rattle.qw_module.specs.declared.module.Import.TheVariants as import
 use Rattle.qw_module.specs.Typing.{GlobalType}
-use Rattle.qw_module.specs.Validity.{imported_function}
 use Rattle.qw_binary.specs.Types.{val_type, mutability}
 use Rattle.qw_binary.specs.Instructions.{expression}
 use Rattle.qw_binary.specs.Contents.{GlobalContents}
-use Rattle.qw_binary.specs.Sections.{imports, global_from, global}
+use Rattle.qw_binary.specs.Sections.{global_from, global}
 use Rattle.qw_scan.specs.Read.{mapped, passed_over, HasRead}
 use Rattle.qw_scan.specs.Inner.Outlines.{values_of, values_at, IsThere}
 use Rattle.qw_scan.specs.Inner.Offsets.{kind_from, global_kind}
@@ -37,26 +32,6 @@ values_there g whole at n xs rest at_is e = ap (values_at g whole) at_is ∙ ap 
 pub nothing_there : {A : Type 0} (g : Grammar (List A)) (whole : List ℕ) (at : Option ℕ) → at ≡ None → values_at g whole at ≡ []
 unfolding values_at
 nothing_there g whole at none = ap (values_at g whole) none
-
--- ---- the imported functions
-
-abbrev of_imported : List Import → List ℕ
-of_imported imports = filter_map imported_function imports
-
-module _ (imports : List Import) (i : ℕ) (none : Import) (found total : List ℕ) where
-  -- one more is a function
-  pub one_imported : (index : ℕ) → i < length imports → get_or imports i none ≡ import.Raise index → found ++ of_imported (drop i imports) ≡ total → (found ++ index ∷ []) ++ of_imported (drop (i + 1) imports) ≡ total
-  one_imported index lt one_is so_far =
-      append_assoc found (index ∷ []) (of_imported (drop (i + 1) imports))
-      ∙ ap (λ (ns : List ℕ). found ++ ns) (sym (at_drop_more of_imported imports i none lt ∙ ap (λ (one : Import). of_imported (one ∷ drop (i + 1) imports)) one_is)) ∙ so_far
-
-  -- one more is the memory
-  pub none_imported : (limits : Limits) → i < length imports → get_or imports i none ≡ import.Memory limits → found ++ of_imported (drop i imports) ≡ total → found ++ of_imported (drop (i + 1) imports) ≡ total
-  none_imported limits lt one_is so_far =
-      ap (λ (ns : List ℕ). found ++ ns) (sym (at_drop_more of_imported imports i none lt ∙ ap (λ (one : Import). of_imported (one ∷ drop (i + 1) imports)) one_is)) ∙ so_far
-
-  pub all_imported : length imports ≤ i → found ++ of_imported (drop i imports) ≡ total → found ≡ total
-  all_imported le so_far = sym (append-nil found) ∙ ap (λ (left : List Import). found ++ of_imported left) (sym (drop_all i imports le)) ∙ so_far
 
 -- ---- the indices of functions' types
 

@@ -31,7 +31,7 @@ fn is_import(import: Import, types: usize) -> bool
 {
     match import {
         Import::Memory(limits) => is_memory(limits),
-        Import::Raise(ty) => (ty as usize) < types,
+        Import::Raise(ty) | Import::Pages(ty) => (ty as usize) < types,
     }
 }
 

@@ -114,14 +114,24 @@ pub(crate) fn imports_of(alloc: Global, octets: &[u8], at: Option<usize>) -> Opt
     Some(imports)
 }
 
+/// The index of an imported function's type.
+fn function_of(import: Import) -> Option<u32>
+    ensures { result ≡ imported_function import }
+{
+    match import {
+        Import::Raise(ty) | Import::Pages(ty) => Some(ty),
+        Import::Memory(_) => None,
+    }
+}
+
 /// These numbers, and behind them the indices of the types of the imported functions. `None` is want of memory.
 fn with_imported(numbers: Vec<u32>, imports: &[Import]) -> Option<Vec<u32>>
     ensures { IfSome result (λ v. v.items ≡ numbers.items ++ filter_map imported_function imports.now) }
 {
     let mut found = numbers;
     for import in imports {
-        if let Import::Raise(ty) = import {
-            found.push(*ty).ok()?;
+        if let Some(ty) = function_of(*import) {
+            found.push(ty).ok()?;
         }
     }
     Some(found)

@@ -1,11 +1,11 @@
 //! The result rows of an instance in the report, in the order of ORDER BY. Rows that are sorted are in memory as values, all of them;
 //! without keys none is.
 
-ghost use Rattle.std.specs.Prelude.{◌≡◌, ◌++◌, List, ℕ, IfOk, OnOk, Some};
+ghost use Rattle.std.specs.Prelude.{◌≡◌, ◌++◌, List, ℕ, IfOk, OnOk, Some, false};
 ghost use Rattle.qw_types.specs.declared.value.Val.{Val};
 ghost use Rattle.qw_map.specs.Turns.{Done};
 ghost use Rattle.qw_order.specs.Order.{AreSorted};
-ghost use Rattle.qw_bench.specs.Bench.{end_in};
+ghost use Rattle.qw_bench.specs.Bench.{end_in, released_in};
 ghost use Rattle.qw_bench.specs.Standing.{rows_in};
 ghost use Rattle.qw_sink.specs.Sink.{line_of, printed_row, report_of_rows, text_of_rows};
 ghost use Rattle.qw_sink.specs.Inner.Sink.{HasWritten};
@@ -22,8 +22,8 @@ use qw_order::order::order;
 use qw_types::{NoMemory, Row, Val};
 use std::alloc::Global;
 
-/// A report with the part of a query of this number, from 1 on, whose instance is done: `QUERY k ROWS r`, and its result rows under
-/// their header in the order of the keys; without keys as they were received.
+/// A report with the part of a query of this number, from 1 on, whose instance is done and not released: `QUERY k ROWS r`, and its
+/// result rows under their header in the order of the keys; without keys as they were received.
 ///
 /// # Errors
 ///
@@ -37,7 +37,8 @@ pub fn with_ordered_rows(
     bench: &Bench,
     i: usize,
 ) -> Result<Vec<u8>, NoMemory>
-    requires { end_in bench.now.shared i ≡ Some Done }
+    requires done { end_in bench.now.shared i ≡ Some Done }
+    requires held { released_in bench.now.shared i ≡ false }
     ensures { IfOk result (λ text. (rows printed : List (List Val)) × (rows_in bench.now i ≡ Some rows) × AreSorted keys.now rows printed
         × (text.items ≡ report.items ++ report_of_rows number header.now printed)) }
 {

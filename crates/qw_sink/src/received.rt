@@ -1,13 +1,13 @@
 //! The result rows of an instance in the report: each cell goes from the memory into its line, so that a row takes no memory of
 //! its own.
 
-ghost use Rattle.std.specs.Prelude.{◌≡◌, ◌+◌, ◌*◌, ◌<◌, ◌≤◌, ◌^◌, ◌++◌, List, ℕ, length, IfOk, OnOk, IsSome, Some};
+ghost use Rattle.std.specs.Prelude.{◌≡◌, ◌+◌, ◌*◌, ◌<◌, ◌≤◌, ◌^◌, ◌++◌, List, ℕ, length, IfOk, OnOk, IsSome, Some, false};
 ghost use Rattle.std.specs.List.{AllByRecursion};
 ghost use Rattle.qw_types.specs.declared.value.Val.{Val};
 ghost use Rattle.qw_map.specs.Areas.{Area, World};
 ghost use Rattle.qw_map.specs.Layout.{cells_at, rows_at, rows_from};
 ghost use Rattle.qw_map.specs.Turns.{Done, LiesWithin};
-ghost use Rattle.qw_bench.specs.Bench.{end_in};
+ghost use Rattle.qw_bench.specs.Bench.{end_in, released_in};
 ghost use Rattle.qw_bench.specs.Standing.{rows_in};
 ghost use Rattle.qw_sink.specs.Sink.{line_of, printed_row, report_of_rows, text_of_rows};
 ghost use Rattle.qw_sink.specs.Inner.Sink.{HasWritten};
@@ -22,8 +22,8 @@ use qw_map::layout::{CELL_OFFSET, CELL_SIZE, Layout};
 use qw_types::{Kind, NoMemory};
 use std::alloc::Global;
 
-/// A report with the part of a query of this number, from 1 on, whose instance is done: `QUERY k ROWS r`, and its result rows under
-/// their header.
+/// A report with the part of a query of this number, from 1 on, whose instance is done and not released: `QUERY k ROWS r`, and its
+/// result rows under their header.
 ///
 /// # Errors
 ///
@@ -36,7 +36,8 @@ pub fn with_rows(
     bench: &Bench,
     i: usize,
 ) -> Result<Vec<u8>, NoMemory>
-    requires { end_in bench.now.shared i ≡ Some Done }
+    requires done { end_in bench.now.shared i ≡ Some Done }
+    requires held { released_in bench.now.shared i ≡ false }
     ensures { IfOk result (λ text. (rows : List (List Val)) × (rows_in bench.now i ≡ Some rows)
         × (text.items ≡ report.items ++ report_of_rows number header.now rows)) }
 {

@@ -1,11 +1,11 @@
 //! The result rows of an instance, read from the memory.
 
-ghost use Rattle.std.specs.Prelude.{◌≡◌, ◌+◌, ◌<◌, ◌≤◌, ◌^◌, ◌*◌, List, length, IfOk, IsSome, Some};
+ghost use Rattle.std.specs.Prelude.{◌≡◌, ◌+◌, ◌<◌, ◌≤◌, ◌^◌, ◌*◌, List, length, IfOk, IsSome, Some, false};
 ghost use Rattle.std.specs.List.{AllByRecursion};
 ghost use Rattle.qw_map.specs.Areas.{Area, World};
 ghost use Rattle.qw_map.specs.Turns.{Done, LiesWithin};
 ghost use Rattle.qw_map.specs.Layout.{cells_at, rows_at, rows_from};
-ghost use Rattle.qw_bench.specs.Bench.{end_in};
+ghost use Rattle.qw_bench.specs.Bench.{end_in, released_in};
 ghost use Rattle.qw_bench.specs.Standing.{rows_in};
 
 use crate::cells::{cell_at, chain_at, owned};
@@ -15,9 +15,10 @@ use qw_map::layout::{CELL_OFFSET, CELL_SIZE, Layout};
 use qw_types::{Kind, NoMemory, Row};
 use std::alloc::Global;
 
-/// The result rows of an instance that is done. The error is want of memory.
+/// The result rows of an instance that is done and not released. The error is want of memory.
 pub fn received(alloc: Global, bench: &Bench, i: usize) -> Result<Vec<Row>, NoMemory>
-    requires { end_in bench.now.shared i ≡ Some Done }
+    requires done { end_in bench.now.shared i ≡ Some Done }
+    requires held { released_in bench.now.shared i ≡ false }
     ensures { IfOk result (λ rows. rows_in bench.now i ≡ Some rows.items) }
 {
     rows_of(alloc, bench.memory(), bench.descriptor(i), bench.layout(i))

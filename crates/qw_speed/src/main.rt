@@ -2,7 +2,7 @@
 //! loops stand as text in `data/NAME.wat`, for another engine.
 #![tactic(auto)]
 
-ghost use Rattle.std.specs.Prelude.{◌*◌, ◌≤◌, length};
+ghost use Rattle.std.specs.Prelude.{◌≡◌, ◌*◌, ◌≤◌, None, length};
 ghost use Rattle.qw_linear.specs.Memory.{page};
 
 mod loops;
@@ -19,7 +19,8 @@ use std::{env, io};
 
 /// How many instructions a run takes, or `None` where it ends otherwise than by returning, and at most so many.
 fn instructions(instance: &mut Instance, memory: &mut Linear, most: u64) -> Option<u64>
-    requires { length memory.old.octets ≤ memory.old.reserved * page }
+    requires none_owed { instance.old.asked ≡ None }
+    requires room { length memory.old.octets ≤ memory.old.reserved * page }
 {
     let run = instance.run(memory, 0, most);
     match run.last {

@@ -68,3 +68,4 @@ fn kept_numbers(
 
 mod columns;
 mod orders;
+mod tenants;

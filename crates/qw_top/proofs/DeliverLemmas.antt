@@ -6,7 +6,7 @@ use Rattle.qw_io.specs.Faults.{IsCounted}
 use Rattle.qw_io.specs.declared.fault.IoFault.{IoFault}
 use Rattle.qw_io.specs.declared.fault.IoFault.TheVariants.{Failed, NoMemory as NoMemoryToWrite}
 use Rattle.qw_map.specs.Turns.{End}
-use Rattle.qw_bench.specs.Bench.{end_in}
+use Rattle.qw_bench.specs.Bench.{end_in, released_in}
 use Rattle.qw_bench.specs.Standing.{Standing}
 use Rattle.qw_top.specs.Causes.{Cause}
 use Rattle.qw_top.specs.Delivered.{CommandNotes, LeavesBench, Reports, RunLeaves, ShowsEnds, ends_below, is_exception, is_pages, is_steps, status_of_ends}
@@ -20,7 +20,7 @@ use Rattle.qw_top.specs.declared.status.Status.TheVariants.{Done, ReadFailed, Wr
 use Rattle.qw_top.specs.Inner.Reports.{AreBlocks}
 use Rattle.qw_top.specs.Inner.Sinks.{CountsWrite, write_fault_of}
 use Rattle.qw_top.specs.Inner.Stages.{HasAsked, IsReport, Ran, Writes}
-use Rattle.qw_top.proofs.RunLemmas.{exception_raised, many_instances, pages_met, shows_run, some_report, steps_met}
+use Rattle.qw_top.proofs.RunLemmas.{exception_raised, many_instances, pages_met, shows_run, some_report, steps_met, unreleased}
 use Rattle.qw_top.proofs.StoppedLemmas.{TookFront-none, TookFront-whole}
 
 -- ---- a report
@@ -60,6 +60,9 @@ module _ (queries : List Asked) (b : Standing) (ran : Ran queries b) where
 
   pub ran_ended : (k : ℕ) → k < length queries → IsSome (end_in b.shared k)
   ran_ended k within = ran.run.ended k within
+
+  pub ran_held : (k : ℕ) → released_in b.shared k ≡ false
+  ran_held k = unreleased ran.limits ran.quantum ran.tables queries b ran.run k
 
   pub ran_shows : (counts : Bool) (text : List ℕ) → AreBlocks counts queries b 0 text → ShowsEnds counts ran.tables queries b 0 text
   ran_shows counts text are = shows_run counts ran.limits ran.quantum ran.tables queries b ran.run text are

@@ -18,12 +18,13 @@ use Rattle.qw_map.specs.Layout.{rows_at}
 use Rattle.qw_map.specs.Turns.{End, Done as EndedDone, Exception, Pages, Steps, Trap, Instance, IsWhole, Shared, end_at, end_of_refusal}
 use Rattle.qw_promise.specs.Compiled.{Answers, IsCompiled, bound, raised_for}
 use Rattle.qw_whole.specs.WholePromises.{promise_of_whole, whole_pages}
-use Rattle.qw_bench.specs.Bench.{AreServing, IsAt, Program, Serves, Task, end_in, rows_in_tables}
+use Rattle.qw_bench.specs.Bench.{AreServing, IsAt, Program, Serves, Task, end_in, released_in, rows_in_tables}
 use Rattle.qw_bench.specs.Standing.{Standing, AreTasksOf, rows_in}
 use Rattle.qw_bench.specs.declared.bench.Limits.{Limits}
 use Rattle.qw_map.proofs.TurnFacts.{found-in as there}
 use Rattle.qw_bench.proofs.Serving.{turns-serving}
 use Rattle.qw_bench.proofs.Starting.{compiled-answers, start-serving}
+use Rattle.qw_bench.proofs.Unreleased.{rounds-unreleased}
 use Rattle.qw_order.proofs.SortedLemmas as sorting
 use Rattle.qw_sink.specs.Sink.{report_of_exception, report_of_pages, report_of_rows, report_of_steps}
 use Rattle.qw_top.specs.Delivered.{counts_line, HasRun, IsProgramOf, ShowsEnd, ShowsEnds, ends_below, is_exception, is_pages, is_steps, status_of_ends}
@@ -84,6 +85,7 @@ pub record EndedAs (limits : Limits) (tables : List Contents) (asked : Asked) (b
   pub steps : t.steps ≡ limits.steps
   pub number : ℕ
   pub shaped : IsShaped t.program.module' number
+  pub held : i.released ≡ false
   pub at : IsAt (promise_of_whole asked.whole) (rows_in_tables tables) b.shared.common.memory t number i i.end
 
 pub end_is : (s : Shared) (k : ℕ) (i : Instance) → slice_get s.instances k ≡ Some i → end_in s k ≡ i.end
@@ -96,6 +98,11 @@ module _ (limits : Limits) (quantum : ℕ) (tables : List Contents) (queries : L
 
   pub many_instances : length b.shared.instances ≡ length queries
   many_instances = serving.many ∙ many_tasks limits queries run.programs b.tasks run.compiled run.tasks
+
+  -- rounds of turns have released nobody
+  pub unreleased : (k : ℕ) → released_in b.shared k ≡ false
+  unreleased k =
+      subst (λ (s : Shared). released_in s k ≡ false) (sym run.turned) (rounds-unreleased tables b.tasks quantum run.given run.start run.began run.rounds k)
 
   pub ended_as : (k : ℕ) (asked : Asked) → slice_get queries k ≡ Some asked → k < length queries → EndedAs limits tables asked b k
   ended_as k asked found within =
@@ -114,6 +121,7 @@ module _ (limits : Limits) (quantum : ℕ) (tables : List Contents) (queries : L
         steps = one.steps;
         number = answers.0;
         shaped = answers.1;
+        held = rw i.1 at (unreleased k);
         at = subst (λ (s : Shared). IsAt (promise_of_whole asked.whole) (rows_in_tables tables) s.common.memory one.t answers.0 i.0 i.0.end) (sym run.turned) answers.2;
       }
 
@@ -158,7 +166,7 @@ module _ (limits : Limits) (tables : List Contents) (asked : Asked) (b : Standin
   shows_block block is =
       let end = end_is b.shared k one.i one.found in
       subst (λ (o : Option End). ShowsEnd tables asked b k o block) (sym end)
-      (shows_at one.i.end one.at.answers block (subst (λ (o : Option End). IsBlock asked b k o block) end is))
+      (shows_at one.i.end (one.at.answers one.held) block (subst (λ (o : Option End). IsBlock asked b k o block) end is))
 
 -- the blocks of queries show their ends, where each shows its own
 shows_blocks : (counts : Bool) (tables : List Contents) (b : Standing) (queries : List Asked) (k : ℕ) (text : List ℕ) →
@@ -211,7 +219,7 @@ module _ (limits : Limits) (tables : List Contents) (asked : Asked) (b : Standin
   some_block : IsSome (end_in b.shared k) → (block : List ℕ) × ShowsEnd tables asked b k (end_in b.shared k) block
   some_block some =
       let end = end_is b.shared k one.i one.found in
-      let h = some_at one.i.end (subst (λ (o : Option End). IsSome o) end some) one.at.answers in
+      let h = some_at one.i.end (subst (λ (o : Option End). IsSome o) end some) (one.at.answers one.held) in
       (h.0, subst (λ (o : Option End). ShowsEnd tables asked b k o h.0) (sym end) h.1)
 
 some_blocks : (counts : Bool) (tables : List Contents) (b : Standing) (queries : List Asked) (k : ℕ) →
@@ -344,7 +352,7 @@ module _ (limits : Limits) (quantum : ℕ) (tables : List Contents) (queries : L
 
   -- what is answered of the end of one of them
   answers_at : (p : Option End → Bool) (h : OneEnd p) (end : End) → h.one.i.end ≡ Some end → AnswersTo limits tables h.asked b h.k h.one end
-  answers_at p h end is = subst (λ (o : Option End). IfSome o (AnswersTo limits tables h.asked b h.k h.one)) is h.one.at.answers
+  answers_at p h end is = subst (λ (o : Option End). IfSome o (AnswersTo limits tables h.asked b h.k h.one)) is (h.one.at.answers h.one.held)
 
   -- a limit of pages that was met is below the page bound of a query
   pub pages_met : status_of_ends ends ≡ PageLimitMet → (asked : Asked) × Contains queries asked × (limits.pages < whole_pages asked.whole (rows_in_tables tables))

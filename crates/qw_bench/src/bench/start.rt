@@ -1,15 +1,15 @@
 //! What a bench begins with: the memory of tables, and the seats of its instances.
 
-ghost use Rattle.std.specs.Prelude.{◌≡◌, ◌+◌, ◌*◌, ◌<◌, ◌≤◌, ◌^◌, ℕ, List, length, map, IfOk};
+ghost use Rattle.std.specs.Prelude.{◌≡◌, ◌+◌, ◌*◌, ◌<◌, ◌≤◌, ◌^◌, ℕ, List, None, length, map, IfOk};
 ghost use Rattle.std.specs.List.{AllByRecursion};
 ghost use Rattle.qw_types.specs.Contents.{AreLoaded};
 ghost use Rattle.qw_linear.specs.Memory.{AreOctets, page, SameBelow};
 ghost use Rattle.qw_map.specs.Columns.{Holds, column_pages, map_of};
 ghost use Rattle.qw_module.specs.Start.{begun};
 ghost use Rattle.qw_module.specs.Validity.{IsDescending, IsShaped};
-ghost use Rattle.qw_bench.specs.Bench.{ArePlaced, Program};
-ghost use Rattle.qw_bench.specs.Standing.{AreLimits};
-ghost use Rattle.qw_bench.specs.Inner.FirstSeats.{AreFirstSeats, AreInMap, IsAddressable, IsFirstSeat};
+ghost use Rattle.qw_bench.specs.Bench.{ArePlaced, IsColumnIn, Program};
+ghost use Rattle.qw_bench.specs.Standing.{AreLimits, total_pages};
+ghost use Rattle.qw_bench.specs.Inner.FirstSeats.{AreFirstSeats, AreInMap, Begins, IsAddressable, IsFirstSeat};
 
 use crate::bench::{Ended, Grant, Job, Limits, MAX_JOBS, Seat};
 use crate::first_page::begin_page;
@@ -24,16 +24,39 @@ use qw_types::schema::MAX_TABLES;
 use qw_valid::valid::ValidModule;
 use std::alloc::Global;
 
+/// The seats of jobs under limits, over tables whose columns are placed in an empty memory, which may grow to the pages of all.
+///
+/// # Errors
+///
+/// [`NoMemory`] where that does not fit memory.
+pub(super) fn seats_over_tables(
+    alloc: Global,
+    loaded: Vec<Loaded>,
+    jobs: Vec<Job>,
+    limits: &[Limits],
+    memory: &mut Linear,
+) -> Result<Vec<Seat>, NoMemory>
+    requires tables { length loaded.items ≤ MAX_TABLES }
+    requires jobs { length jobs.items ≤ MAX_JOBS }
+    requires many { length limits.now ≡ length jobs.items }
+    requires limits { AllByRecursion AreLimits limits.now }
+    requires columns { AllByRecursion (λ (program : Program). AllByRecursion (IsColumnIn loaded.items) program.layout.columns) jobs.items }
+    requires empty { length memory.old.octets ≡ 0 }
+    requires pages { (memory.old.reserved ≡ total_pages loaded.items limits.now) × (memory.old.reserved ≤ MAX_PAGES) }
+    ensures begins { IfOk result (λ seats. Begins loaded.items jobs.items limits.now memory.new seats.items) }
+    ensures reserved { memory.new.reserved ≡ memory.old.reserved }
+{
+    let map = place_all(alloc, loaded, memory)?;
+    let seats = first_seats(alloc, jobs, limits, &map, memory)?;
+    Ok(seats)
+}
+
 /// Places the columns of tables in an empty memory, which may grow to their pages. Answers where they stand.
 ///
 /// # Errors
 ///
 /// [`NoMemory`] where that does not fit memory.
-pub(super) fn place_all(
-    alloc: Global,
-    loaded: Vec<Loaded>,
-    memory: &mut Linear,
-) -> Result<ColumnMap, NoMemory>
+fn place_all(alloc: Global, loaded: Vec<Loaded>, memory: &mut Linear) -> Result<ColumnMap, NoMemory>
     requires tables { length loaded.items ≤ MAX_TABLES }
     requires empty { length memory.old.octets ≡ 0 }
     requires room { column_pages loaded.items ≤ memory.old.reserved }
@@ -56,7 +79,7 @@ pub(super) fn place_all(
 /// # Errors
 ///
 /// [`NoMemory`] where they do not fit memory.
-pub(super) fn first_seats(
+fn first_seats(
     alloc: Global,
     jobs: Vec<Job>,
     limits: &[Limits],
@@ -127,6 +150,7 @@ fn first_seat(
         refused: None,
         ran: 0,
         ended,
+        released: false,
     })
 }
 
@@ -156,7 +180,7 @@ fn first_instance(alloc: Global, valid: ValidModule, descriptor: u32) -> Result<
     requires shaped { (number : ℕ) × IsShaped valid number }
     requires descends { IsDescending valid }
     ensures { (number : ℕ) → IsShaped valid number
-        → IfOk result (λ instance. instance ≡ record { program = valid; state = begun valid number descriptor }) }
+        → IfOk result (λ instance. instance ≡ record { program = valid; state = begun valid number descriptor; asked = None }) }
 {
     match Instance::new(alloc, valid, descriptor) {
         Ok(instance) => Ok(instance),

@@ -1,6 +1,6 @@
--- Mirrors `Activity::execute`, `leave_finished`, `step` and `run`, `following`, `filled`, `turned` and `blocks`: what the machine does at an
+-- Mirrors `Activity::execute`, `answer`, `leave_finished`, `step` and `run`, `following`, `filled`, `turned` and `blocks`: what the machine does at an
 -- instruction, and what its steps answer.
-use Rattle.std.specs.Prelude.{◌≡◌, ◌≢◌, ◌==◌, ℕ, ◌+◌, ◌≤◌, nat_le, Bool, true, false, List, ◌∷◌, ◌++◌, length, take, drop, Option, None, Some, slice_get, ◌-◌}
+use Rattle.std.specs.Prelude.{◌≡◌, ◌≢◌, ◌==◌, ℕ, zero, suc, ◌+◌, ◌≤◌, nat_le, Bool, true, false, List, ◌∷◌, ◌++◌, length, take, drop, Option, None, Some, slice_get, ◌-◌, IfSome, MatchOption}
 use Rattle.std.specs.Bool.{MatchBool}
 use Rattle.qw_module.specs.declared.instruction.ValType.{ValType}
 use Rattle.qw_module.specs.declared.instruction.Instr.{Instr}
@@ -21,9 +21,9 @@ use Rattle.qw_module.specs.Step.{next}
 use Rattle.qw_machine.specs.Inner.Points.{Point, under, config_at, state_at, resumed, instructions_at, with_held, placed}
 use Rattle.qw_machine.specs.Inner.Stacked.{Stacked}
 use Rattle.qw_machine.specs.declared.room.Rooms.{Rooms}
-use Rattle.qw_machine.specs.Inner.Placed.{IsExecuted, IsPoint, IsRunning}
+use Rattle.qw_machine.specs.Inner.Placed.{IsExecuted, IsAsking, IsPoint, IsRunning}
 use Rattle.qw_machine.specs.Inner.Ended.{run_end_of, is_over, state_after, WhileRunning}
-use Rattle.qw_machine.specs.Instance.{IsAnswer, Went, Runs}
+use Rattle.qw_machine.specs.Instance.{AsksFor, Comes, IsAnswer, Runs, Went, asked_by}
 
 -- there is a label of this index, and on the operands below it what a branch takes
 abbrev pub CanJump : ℕ → Point → Type 0
@@ -57,30 +57,41 @@ pub record IsReturn (p q : Point) : Type 0 where
 -- a step that goes on.
 pub record WentOn (spare : ℕ) (c : Config) (before : List ℕ) (state : State) (after : List ℕ) (answer : Stepped) : Type 0 where
   pub event : Event
-  pub made : next (λ pages. nat_le pages spare) c before ≡ Some (record { event = event; state = state; memory = after })
+  pub made : (place : ℕ → ℕ) → next (λ pages. nat_le pages spare) place c before ≡ Some (record { event = event; state = state; memory = after })
   pub answered : (running : Config) → IsAnswer answer before event (Running running)
 
--- The instruction at a point was executed: it went on to the point q, what is finished not left yet, or it ended the run.
+-- The instruction at a point was executed: it went on to the point q, what is finished not left yet, or it ended the run; or it calls
+-- the host for pages, and nothing happened yet.
 abbrev pub IsDoneAt : Module → Rooms → (spare : ℕ) → (p : Point) → (memory : List ℕ) → Stepped → (q : Point) → (after : List ℕ) → Type 0
 IsDoneAt m rooms spare p memory answer q after =
-    MatchBool (is_over answer)
+    MatchOption (asked_by answer)
+    (MatchBool (is_over answer)
     (Went spare (config_at m p) memory (state_after (run_end_of answer) (state_at m q)) after answer)
-    (IsPoint m rooms q × WentOn spare (config_at m p) memory (state_at m q) after answer)
+    (IsPoint m rooms q × WentOn spare (config_at m p) memory (state_at m q) after answer))
+    (λ pages. IsRunning m rooms p × IsAsking m p pages × AsksFor pages (config_at m p) × (q ≡ p) × (after ≡ memory))
 
 -- What is finished was left: the point q runs on, or `run` was left.
 abbrev pub IsLeft : Module → Rooms → (p : Point) → (runs : Bool) → (q : Point) → Type 0
 IsLeft m rooms p true q = IsRunning m rooms q × (state_at m p ≡ state_at m q)
 IsLeft m rooms p false q = state_at m p ≡ Returned
 
--- A step from a point went to the point q, or ended the run, as its configuration does.
+-- A step from a point went to the point q, or ended the run, as its configuration does; or it asks the host.
 pub record IsStepped (m : Module) (rooms : Rooms) (spare : ℕ) (p : Point) (memory : List ℕ) (answer : Stepped) (q : Point) (after : List ℕ) : Type 0 where
   pub running : WhileRunning (run_end_of answer) (IsRunning m rooms q)
-  pub went : Went spare (config_at m p) memory (state_after (run_end_of answer) (state_at m q)) after answer
+  pub asks : IfSome (asked_by answer) (IsAsking m q)
+  pub went : Comes spare (config_at m p) memory (state_after (run_end_of answer) (state_at m q)) after answer
 
--- Steps from a point, at most so many, went to the point q, or ended the run, as its configuration's do.
+-- So many steps came one after another to an answer, the last of which may ask the host: it is counted here.
+abbrev pub Counts : (spare steps : ℕ) → Config → (before : List ℕ) → State → (after : List ℕ) → Stepped → Type 0
+Counts spare zero c before state after answer = (state ≡ Running c) × (after ≡ before) × (answer ≡ Ran)
+Counts spare (suc steps) c before state after answer =
+    (d : Config) × (between : List ℕ) × Runs spare steps c before (Running d) between Ran × Comes spare d between state after answer
+
+-- Steps from a point, at most so many, went to the point q, or ended the run, as its configuration's do; or the last one asks the host.
 pub record IsRun (m : Module) (rooms : Rooms) (spare most : ℕ) (p : Point) (memory : List ℕ) (run : Run) (q : Point) (after : List ℕ) : Type 0 where
   pub running : WhileRunning (run_end_of run.last) (IsRunning m rooms q)
-  pub runs : Runs spare run.steps (config_at m p) memory (state_after (run_end_of run.last) (state_at m q)) after run.last
+  pub asks : IfSome (asked_by run.last) (IsAsking m q)
+  pub runs : Counts spare run.steps (config_at m p) memory (state_after (run_end_of run.last) (state_at m q)) after run.last
   pub few : run.steps ≤ most
 
 -- A point runs at an index of a sequence, with these operands, for which there is this room, these globals and these locals of the

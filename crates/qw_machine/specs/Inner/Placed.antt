@@ -1,16 +1,19 @@
 -- What `Activity` keeps from step to step: what runs and what awaits is typed, and what it can need has room.
-use Rattle.std.specs.Prelude.{◌≡◌, ℕ, ◌+◌, ◌<◌, ◌≤◌, List, [], ◌∷◌, ◌++◌, length, take, drop, All}
+use Rattle.std.specs.Prelude.{◌≡◌, ℕ, ◌+◌, ◌-◌, ◌^◌, ◌<◌, ◌≤◌, List, [], ◌∷◌, ◌++◌, length, take, drop, Some, slice_get, All}
 use Rattle.qw_module.specs.declared.instruction.ValType.{ValType}
+use Rattle.qw_module.specs.declared.instruction.Instr.TheVariants as i
 use Rattle.qw_module.specs.declared.module.Module.{Module}
 use Rattle.qw_machine.specs.declared.activity.Entry.{Entry}
 use Rattle.qw_machine.specs.declared.activity.Frame.{Frame}
 use Rattle.qw_machine.specs.declared.activity.Awaiting.{Awaiting}
 use Rattle.qw_machine.specs.declared.activity.Awaiting.TheVariants.{Label, Call}
 use Rattle.qw_module.specs.Numbers.{truth}
+use Rattle.qw_module.specs.Execution.{host_pages}
+use Rattle.qw_module.specs.Start.{callees_of}
 use Rattle.qw_module.specs.Typing.{scope_of, Typed}
 use Rattle.qw_module.specs.Soundness.{AreOf, AreGlobalsOf}
 use Rattle.qw_valid.specs.Heights.{StaysWithin}
-use Rattle.qw_module.specs.Validity.{imported_functions, outside_of, IsValid, IsOneI32, IsDescending}
+use Rattle.qw_module.specs.Validity.{outside_of, IsValid, IsLinked, IsDescending}
 use Rattle.qw_machine.specs.Inner.Points.{Point, code_at, instructions_at, base_of, floor_of}
 use Rattle.qw_machine.specs.declared.room.Rooms.{Rooms}
 use Rattle.qw_machine.specs.Inner.Rooms.{locals_of, HasRoom}
@@ -18,7 +21,7 @@ use Rattle.qw_machine.specs.Inner.Rooms.{locals_of, HasRoom}
 -- what is known of a module that is executed
 pub record IsExecuted (m : Module) : Type 0 where
   pub valid : IsValid m
-  pub linked : All (IsOneI32 m) (imported_functions m)
+  pub linked : All (IsLinked m) m.imports.items
   pub descends : IsDescending m
 
 -- the code from a place of a function on, which begins on so many operands of its sequence, has at most so many operands and labels
@@ -118,3 +121,12 @@ pub record IsPoint (m : Module) (rooms : Rooms) (p : Point) : Type 0 where
 pub record IsRunning (m : Module) (rooms : Rooms) (p : Point) : Type 0 where
   pub point : IsPoint m rooms p
   pub unfinished : p.index < length (instructions_at m p.function p.sequence)
+
+-- the instruction at a point calls the host's function `pages` with so many on top
+pub record IsAsking (m : Module) (p : Point) (pages : ℕ) : Type 0 where
+  pub index : ℕ
+  pub calls : slice_get (instructions_at m p.function p.sequence) p.index ≡ Some (i.Call index)
+  pub fits : p.index < 2 ^ 64 - 1
+  pub host : slice_get (callees_of m) index ≡ Some host_pages
+  pub others : List ℕ
+  pub operands_are : p.operands ≡ pages ∷ others

@@ -193,3 +193,7 @@ first_point m function argument declared globals =
       first_local = 0;
       globals = globals;
     }) function false
+
+-- after a call whose one argument the host answered with a value
+abbrev pub after_answer : Point → (value : ℕ) → Point
+after_answer p value = record p { index = p.index + 1; operands = value ∷ drop 1 p.operands }

@@ -8,16 +8,16 @@ use Rattle.qw_module.specs.declared.module.Function.{Function}
 use Rattle.qw_module.specs.declared.module.Export.{Export}
 use Rattle.qw_module.specs.declared.module.ExportKind.TheVariants as kind
 use Rattle.qw_module.specs.declared.module.Module.{Module}
-use Rattle.qw_module.specs.Validity.{imported_functions, IsOneI32}
+use Rattle.qw_module.specs.Validity.{imported_functions, IsLinked, IsOneI32}
 
 -- the memory is imported
 abbrev pub ImportsMemory : List Import → Type 0
 ImportsMemory imports = (limits : Limits) × Contains imports (import.Memory limits)
 
--- `raise` is imported, and wherever it is, with the type that it has
+-- `raise` is imported, and each import is of the type of what it is linked to
 pub record ImportsRaise (m : Module) : Type 0 where
   pub there : (type : ℕ) × Contains m.imports.items (import.Raise type)
-  pub each : All (IsOneI32 m) (imported_functions m)
+  pub each : All (IsLinked m) m.imports.items
 
 -- this exports the module's own function of a number as `run`
 pub record ExportsRun (m : Module) (export : Export) (number : ℕ) : Type 0 where

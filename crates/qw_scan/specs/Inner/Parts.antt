@@ -24,6 +24,7 @@ HasOneResult signature = length signature.results ≤ 1
 abbrev pub IsImportOf : (types : ℕ) → Import → Type 0
 IsImportOf types (import.Memory limits) = IsValidMemory limits
 IsImportOf types (import.Raise type) = type < types
+IsImportOf types (import.Pages type) = type < types
 
 -- the outline and the tables of octets that spell a module
 pub record Describes (whole : List ℕ) (o : Outline) (t : Tables) : Type 0 where

@@ -50,14 +50,14 @@ fn file(alloc: Global) -> Result<String, AllocError> {
 
 // What an instance came to: its end, how many instructions it ran, how many pages it holds, and its rows.
 #[derive(Drop)]
-struct Came {
-    ended: Option<Ended>,
-    steps: u64,
-    pages: u32,
-    rows: Vec<Row>,
+pub(super) struct Came {
+    pub(super) ended: Option<Ended>,
+    pub(super) steps: u64,
+    pub(super) pages: u32,
+    pub(super) rows: Vec<Row>,
 }
 
-fn came_to(alloc: Global, bench: &Bench, k: usize) -> Result<Came, Fail> {
+pub(super) fn came_to(alloc: Global, bench: &Bench, k: usize) -> Result<Came, Fail> {
     if bench.len() <= k {
         return Err("no instance".into());
     }
@@ -69,9 +69,9 @@ fn came_to(alloc: Global, bench: &Bench, k: usize) -> Result<Came, Fail> {
     })
 }
 
-// The rows of an instance that is done, and none of another.
+// The rows of an instance that is done and not released, and none of another.
 fn rows_of(alloc: Global, bench: &Bench, k: usize) -> Result<Vec<Row>, NoMemory> {
-    if bench.len() <= k {
+    if bench.len() <= k || bench.released(k) {
         return Ok(Vec::new(alloc));
     }
     match bench.ended(k) {
@@ -80,7 +80,7 @@ fn rows_of(alloc: Global, bench: &Bench, k: usize) -> Result<Vec<Row>, NoMemory>
     }
 }
 
-fn is_same_end(came: &Came, other: &Came) -> bool {
+pub(super) fn is_same_end(came: &Came, other: &Came) -> bool {
     came.ended == other.ended
         && came.steps == other.steps
         && came.pages == other.pages

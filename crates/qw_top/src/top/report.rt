@@ -1,9 +1,9 @@
 //! From the turned bench of a run to the written report.
 
-ghost use Rattle.std.specs.Prelude.{◌≡◌, ◌≢◌, ◌<◌, ◌-◌, ◌^◌, ◌++◌, ℕ, List, length, map, IfOk, IsSome};
+ghost use Rattle.std.specs.Prelude.{◌≡◌, ◌≢◌, ◌<◌, ◌-◌, ◌^◌, ◌++◌, ℕ, List, length, map, false, IfOk, IsSome};
 ghost use Rattle.qw_io.specs.Faults.{IsCounted};
 ghost use Rattle.qw_bench.specs.Standing.{end_of};
-ghost use Rattle.qw_bench.specs.Bench.{end_in};
+ghost use Rattle.qw_bench.specs.Bench.{end_in, released_in};
 ghost use Rattle.qw_top.specs.Delivered.{ShowsEnds, counts_line, ends_below, status_of_ends};
 ghost use Rattle.qw_top.specs.Inner.Queries.{asked_of};
 ghost use Rattle.qw_top.specs.Inner.Reports.{AreBlocks, IsBlock, status_with};
@@ -65,6 +65,7 @@ fn blocks_of(
 ) -> Result<Vec<u8>, NoMemory>
     requires many { length queries.now ≡ length bench.now.shared.instances }
     requires ended { (k : ℕ) → k < length queries.now → IsSome (end_in bench.now.shared k) }
+    requires held { (k : ℕ) → released_in bench.now.shared k ≡ false }
     ensures { IfOk result (λ text. AreBlocks counts (map asked_of queries.now) bench.now 0 text.items) }
 {
     let mut text = Vec::new(alloc);
@@ -86,6 +87,7 @@ fn with_query(
     requires there { k < length bench.now.shared.instances }
     requires few { k < 2 ^ 64 - 1 }
     requires ended { IsSome (end_in bench.now.shared k) }
+    requires held { released_in bench.now.shared k ≡ false }
     ensures { IfOk result (λ text. (block : List ℕ) × (text.items ≡ (report.items ++ block) ++ counts_line counts bench.now k)
         × IsBlock (asked_of query.now) bench.now k (end_in bench.now.shared k) block) }
 {
@@ -108,6 +110,7 @@ fn with_block(
     requires there { k < length bench.now.shared.instances }
     requires few { k < 2 ^ 64 - 1 }
     requires ended { IsSome (end_in bench.now.shared k) }
+    requires held { released_in bench.now.shared k ≡ false }
     ensures { IfOk result (λ text. (block : List ℕ) × (text.items ≡ report.items ++ block) × IsBlock (asked_of query.now) bench.now k (end_in bench.now.shared k) block) }
 {
     match bench.ended(k) {

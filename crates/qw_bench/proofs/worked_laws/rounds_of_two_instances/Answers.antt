@@ -1,4 +1,4 @@
-use Rattle.std.proofs.Common.{◌≡◌, ℕ, List, [], ◌∷◌, ◌++◌, ◌⊎◌, inl, inr, ⊎_elim, refl, None}
+use Rattle.std.proofs.Common.{◌≡◌, ℕ, Bool, false, List, [], ◌∷◌, ◌++◌, ◌⊎◌, inl, inr, ⊎_elim, refl, None}
 use Rattle.qw_module.specs.declared.instruction.Const.TheVariants.{I32}
 use Rattle.qw_module.specs.declared.instruction.Op.TheVariants.{Const}
 use Rattle.qw_module.specs.Execution.{Running}
@@ -21,11 +21,12 @@ instance code w = record {
   most_steps = 9;
   ran = 0;
   end = None;
+  released = false;
 }
 
-module _ (w : World) (memory : List ℕ) where
+module _ (w : World) (memory : List ℕ) (free : List Bool) where
   abbrev start : Shared
-  start = record { common = record { memory = memory }; instances = instance (op (Const (I32 0)) done) w ∷ instance (op (Const (I32 0)) (op (Const (I32 0)) done)) w ∷ [] }
+  start = record { common = record { memory = memory; free = free }; instances = instance (op (Const (I32 0)) done) w ∷ instance (op (Const (I32 0)) (op (Const (I32 0)) done)) w ∷ [] }
 
   -- after a round of one instruction
   abbrev after : Shared
@@ -62,4 +63,4 @@ module _ (w : World) (memory : List ℕ) where
       (begins 1 (turn 1 1 ∷ turn 0 1 ∷ turn 1 1 ∷ []) start h)
 
 pub returns : goal.returns
-returns c = λ w memory s is. rw is (one w memory, two w memory, short w memory, turned w memory)
+returns c = λ w memory free s is. rw is (one w memory free, two w memory free, short w memory free, turned w memory free)

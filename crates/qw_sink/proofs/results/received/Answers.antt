@@ -7,7 +7,7 @@ use Rattle.qw_sink.proofs.results.received.Goals as goal
 use Rattle.qw_sink.proofs.results.received.Goals.{After-layout}
 
 done : (c : After-layout) → IsDone c.args.bench.now c.args.i
-done c = done-there c.args.bench.now c.args.i c.memory.ensures.kept c.requires
+done c = done-there c.args.bench.now c.args.i c.memory.ensures.kept c.requires.done c.requires.held
 
 found : (c : After-layout) → Leads c.args.bench.now c.args.i c.memory.ensures.kept (done c) c.layout.result.now c.memory.result.now.octets c.descriptor.result
 found c =

@@ -1,4 +1,4 @@
-use Rattle.std.proofs.Common.{◌≡◌, ℕ, ◌+◌, ◌*◌, List, length, None, refl, sym, ap, ◌∙◌, subst, arith}
+use Rattle.std.proofs.Common.{◌≡◌, ℕ, ◌+◌, ◌*◌, false, List, length, None, refl, sym, ap, ◌∙◌, subst, arith}
 use Rattle.std.specs.Prelude.{slice_index}
 use Rattle.qw_linear.specs.Linear.{Octets}
 use Rattle.qw_linear.specs.Memory.{page, grown_by, AreOctets}
@@ -63,6 +63,7 @@ seat c = record {
   refused = None;
   ran = 0;
   ended = c.match-last.ended;
+  released = false;
 }
 
 abbrev program : goal.After-from → Program
@@ -71,10 +72,10 @@ program c = record { layout = c.job.inside.layout; module' = c.job.inside.valid 
 abbrev number : goal.After-from → ℕ
 number c = c.job.invariant.shaped.0
 
-made : (c : goal.After-from) (at : length c.args.memory.now.octets ≡ 65536 * c.size.result) → c.in_ok-instance.instance ≡ record { program = c.job.inside.valid; state = begun c.job.inside.valid (number c) (length c.args.memory.now.octets) }
+made : (c : goal.After-from) (at : length c.args.memory.now.octets ≡ 65536 * c.size.result) → c.in_ok-instance.instance ≡ record { program = c.job.inside.valid; state = begun c.job.inside.valid (number c) (length c.args.memory.now.octets); asked = None }
 made c at =
     c.in_ok-instance.ensures (number c) c.job.invariant.shaped.1
-    ∙ ap (λ (d : ℕ). record { program = c.job.inside.valid; state = begun c.job.inside.valid (number c) d }) (sym at)
+    ∙ ap (λ (d : ℕ). record { program = c.job.inside.valid; state = begun c.job.inside.valid (number c) d; asked = None }) (sym at)
 
 end : (c : goal.After-from) (at : length c.args.memory.now.octets ≡ 65536 * c.size.result) → IsEndOf (seat c) (state_in (seat c)) c.match-last.ended
 end c at =
@@ -110,6 +111,8 @@ first c at are = record {
   refused = refl;
   ran = refl;
   end = end c at;
+  released = refl;
+  unasked = ap (λ (i : Called). i.asked) (made c at);
 }
 
 pub returns-clause-seat : goal.returns-clause-seat

@@ -1,4 +1,4 @@
-use Rattle.std.proofs.Common.{◌≡◌, ◌∙◌, refl, sym, ap, ℕ, List, ◌∷◌, Option, Some, length, ◌+◌, ◌<◌, arith}
+use Rattle.std.proofs.Common.{◌≡◌, ◌∙◌, refl, sym, ap, ℕ, List, ◌∷◌, Option, Some, length, ◌+◌, arith}
 use Rattle.std.proofs.lemmas.Option.{none-some}
 use Rattle.qw_module.specs.declared.instruction.Instr.TheVariants as i
 use Rattle.qw_module.specs.Execution.{chosen}
@@ -9,7 +9,7 @@ use Rattle.qw_machine.specs.Inner.Rooms.{rooms_of}
 use Rattle.qw_machine.proofs.Arrays.{instruction-there, labels-read}
 use Rattle.qw_machine.proofs.Around.{operand-room}
 use Rattle.qw_machine.proofs.Operated.{operator-ready}
-use Rattle.qw_machine.proofs.Calls.{raise-operand, raise-small, done-raise, done-call, own-there, own-operands, own-awaiting, own-locals}
+use Rattle.qw_machine.proofs.Calls.{done-call, own-there, own-operands, own-awaiting, own-locals}
 use Rattle.qw_machine.proofs.Controlled.{executed-unreachable, executed-block, executed-loop, if-operand, executed-if, executed-else, executed-without, can-jump-br, executed-br, br_if-operand, can-jump-br_if, executed-br_if, executed-br_if-not, br_table-labels, br_table-operand, can-jump-br_table, executed-br_table, executed-last, can-leave-return, executed-return}
 use Rattle.qw_machine.proofs.activity.Activity.execute.Goals as goal
 use Rattle.qw_machine.proofs.activity.Activity.execute.Goals.{then-pop-ne0, else-pop-ne0}
@@ -196,26 +196,14 @@ invoke-requires-clause-locals c =
     let own : c.in-Call.index ≡ length (imported_functions c.args.program.now) + c.in-Some-checked_sub.number = omega (arith, c.requires.imported, c.in-Some-checked_sub.ensures) in
     own-locals c.args.program.now c.requires.executed c.requires.point c.in-Call.index found c.in-Some-checked_sub.number own
 
-pub pop-requires-in-None-checked_sub : goal.pop-requires-in-None-checked_sub
-pop-requires-in-None-checked_sub c =
-    let found = instruction-there c.requires.sequence c.requires.unfinished _ c.in-Call.is in
-    let imported : c.in-Call.index < length (imported_functions c.args.program.now) = omega (arith, c.requires.imported, c.in-None-checked_sub.ensures) in
-    raise-operand c.args.program.now c.requires.executed c.requires.point c.in-Call.index found imported
+pub call_host-requires-clause-imported : goal.call_host-requires-clause-imported
+call_host-requires-clause-imported c = omega (arith, c.requires.imported, c.in-None-checked_sub.ensures)
 
-pub overflow_cast-result : goal.overflow_cast-result
-overflow_cast-result c =
-    let found = instruction-there c.requires.sequence c.requires.unfinished _ c.in-Call.is in
-    let imported : c.in-Call.index < length (imported_functions c.args.program.now) = omega (arith, c.requires.imported, c.in-None-checked_sub.ensures) in
-    let small = raise-small c.args.program.now c.requires.executed c.requires.point c.in-Call.index found imported
-    c.pop-in-None-checked_sub.result c.pop-in-None-checked_sub.new.self.values c.pop-in-None-checked_sub.ensures.popped in
-    omega (arith, small)
+pub call_host-requires-clause-calls : goal.call_host-requires-clause-calls
+call_host-requires-clause-calls c = instruction-there c.requires.sequence c.requires.unfinished _ c.in-Call.is
 
 pub returns-in-None-checked_sub-clause-done : goal.returns-in-None-checked_sub-clause-done
-returns-in-None-checked_sub-clause-done c =
-    let found = instruction-there c.requires.sequence c.requires.unfinished _ c.in-Call.is in
-    let imported : c.in-Call.index < length (imported_functions c.args.program.now) = omega (arith, c.requires.imported, c.in-None-checked_sub.ensures) in
-    done-raise c.args.program.now c.requires.executed c.requires.point c.in-Call.index found imported c.args.spare
-    c.pop-in-None-checked_sub.result c.pop-in-None-checked_sub.new.self.values c.args.memory.now.octets (point_of c.args.self.now) c.pop-in-None-checked_sub.ensures.popped
+returns-in-None-checked_sub-clause-done c = c.call_host.ensures c.args.spare c.args.memory.now.octets
 
 pub returns-in-Some-checked_sub-clause-done : goal.returns-in-Some-checked_sub-clause-done
 returns-in-Some-checked_sub-clause-done c =

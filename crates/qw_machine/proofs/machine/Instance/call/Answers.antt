@@ -1,13 +1,12 @@
-use Rattle.std.proofs.Common.{◌≡◌, ◌∙◌, sym, ap}
+use Rattle.std.proofs.Common.{◌≡◌, ◌∙◌, None, ap}
 use Rattle.qw_module.specs.Execution.{State}
 use Rattle.qw_module.specs.Validity.{IsShaped}
 use Rattle.qw_module.specs.Start.{begun}
 use Rattle.qw_machine.specs.declared.machine.Instance.TheInside.{Inside}
 use Rattle.qw_machine.specs.Inner.Held.{state_of, IsHeld}
 use Rattle.qw_machine.specs.Inner.Rooms.{needed, rooms_of}
-use Rattle.qw_machine.proofs.Starts.{executed-shaped, heights-are, run-there, first_end, started-awaiting, started-locals, started-point, started}
+use Rattle.qw_machine.proofs.Starts.{executed-shaped, heights-are, run-there, started-awaiting, started-locals, started-point, started}
 use Rattle.qw_machine.proofs.machine.Instance.call.Goals as goal
-use Rattle.qw_machine.proofs.machine.Instance.call.Goals.{then-runs, else-runs}
 
 pub begin-requires-clause-executed : goal.begin-requires-clause-executed
 begin-requires-clause-executed c =
@@ -43,14 +42,11 @@ leave_finished-runs-requires-clause-point c =
     rw (c.in_ok-activity.ensures.point run.0 run.1)
     (started-point m c.args.number run.0 executed shaped run.1 c.heights.result.now (heights-are c.heights.result.now c.args.valid m c.module-module.ensures.«module» c.heights.ensures) rooms (c.in_ok-activity.ensures.rooms ∙ enough) c.args.argument c.ranges.argument.fits)
 
-told : (c : goal.Joined-runs) → c.if-runs.result ≡ first_end c.leave_finished-runs.result
-told c = elim c.if-runs.branch [ then-runs w ↦ w.result-is ∙ sym (ap first_end w.if-runs.true) | else-runs w ↦ w.result-is ∙ sym (ap first_end w.if-runs.false) ]
-
 -- the instance that is made holds what it has to, and stands for the call's beginning
-abbrev made : goal.Joined-runs → Inside
-made c = record { valid = c.args.valid; imported = c.imported_functions-imported.result; ended = c.if-runs.result; activity = c.leave_finished-runs.new.self }
+abbrev made : goal.After-after_leaving → Inside
+made c = record { valid = c.args.valid; imported = c.imported_functions-imported.result; ended = c.after_leaving.result; asked = None; activity = c.leave_finished-runs.new.self }
 
-began : (c : goal.Joined-runs) → IsHeld (made c) × (state_of (made c) ≡ begun c.args.valid c.args.number c.args.argument)
+began : (c : goal.After-after_leaving) → IsHeld (made c) × (state_of (made c) ≡ begun c.args.valid c.args.number c.args.argument)
 began c =
     let m = c.module-module.result.now in
     let shaped : IsShaped m c.args.number = rw c.module-module.ensures.«module» c.requires.shaped in
@@ -62,10 +58,10 @@ began c =
     rw c.module-module.ensures.«module» at
     (started m c.args.number run.0 executed shaped run.1 c.heights.result.now (heights-are c.heights.result.now c.args.valid m c.module-module.ensures.«module» c.heights.ensures)
     (rooms_of c.in_ok-activity.activity) (c.in_ok-activity.ensures.rooms ∙ enough) c.args.argument c.ranges.argument.fits
-    c.imported_functions-imported.result imported c.leave_finished-runs.new.self c.if-runs.result c.leave_finished-runs.result (told c) c.leave_finished-runs.ensures.rooms left)
+    c.imported_functions-imported.result imported c.leave_finished-runs.new.self c.after_leaving.result c.leave_finished-runs.result c.after_leaving.ensures c.leave_finished-runs.ensures.rooms left)
 
 pub invariant_of-result : goal.invariant_of-result
 invariant_of-result c = (began c).0
 
 pub returns : goal.returns
-returns c = ap (λ (s : State). record { program = c.args.valid; state = s }) (began c).1
+returns c = ap (λ (s : State). record { program = c.args.valid; state = s; asked = None }) (began c).1

@@ -1,4 +1,4 @@
-use Rattle.std.proofs.Common.{◌≡◌, ℕ, sym, ap, ◌∙◌, subst, Result, Ok, Err, is_ok, rules}
+use Rattle.std.proofs.Common.{◌≡◌, ℕ, sym, ap, ◌∙◌, subst, refl, None, Result, Ok, Err, is_ok, rules}
 use Rattle.std.specs.Prelude.{IfOk, MatchResult}
 use Rattle.std.proofs.lemmas.Bool.{false≢true}
 use Rattle.std.specs.Result.{IsErrAnd}
@@ -23,8 +23,14 @@ returns-clause-begun c = λ number shaped descends.
     let m = c.args.valid in
     let found = rw c.module.ensures.«module» at c.in-Some.ensures in
     let same = shape-unique m c.module.ensures.valid.names c.in-Some.number number found shaped in
-    kept c.call.result c.map_err.result _ (λ (i : Called). i ≡ record { program = m; state = begun m number c.args.argument }) _ c.map_err.ensures.cases c.map_err.ensures.variant
-    (λ i is. subst (λ (n : ℕ). i ≡ record { program = m; state = begun m n c.args.argument }) same is) c.call.ensures
+    kept c.call.result c.map_err.result _ (λ (i : Called). i ≡ record { program = m; state = begun m number c.args.argument; asked = None }) _ c.map_err.ensures.cases c.map_err.ensures.variant
+    (λ i is. subst (λ (n : ℕ). i ≡ record { program = m; state = begun m n c.args.argument; asked = None }) same is) c.call.ensures
+
+pub returns-clause-owes_none : goal.returns-clause-owes_none
+returns-clause-owes_none c =
+    let m = c.args.valid in
+    kept c.call.result c.map_err.result (λ (i : Called). i ≡ record { program = m; state = begun m c.in-Some.number c.args.argument; asked = None }) (λ (i : Called). i.asked ≡ None) _
+    c.map_err.ensures.cases c.map_err.ensures.variant (λ i is. rw is refl) c.call.ensures
 
 -- an error that is told as one is told as no other
 told-alone : {A E F : Type 0} (before : Result A E) (after : Result A F) (told other : F) (R : E → F → Type 0) →

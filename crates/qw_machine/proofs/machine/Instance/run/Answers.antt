@@ -17,8 +17,8 @@ run-run-requires-clause-point c =
 pub invariant_of-self : goal.invariant_of-self
 invariant_of-self c =
     let runs = sym c.is_some.ensures ∙ c.if-is_some.false in
-    runs-on c.self.inside runs c.self.invariant c.args.spare c.args.most c.args.memory.now.octets c.run-run.new.memory.octets c.run-run.result c.end-self-inside.result
-    c.end-self-inside.ensures c.run-run.new.self (rw c.module.ensures.«module» at c.run-run.ensures.run) c.run-run.ensures.rooms
+    runs-on c.self.inside runs c.self.invariant c.args.spare c.args.most c.args.memory.now.octets c.run-run.new.memory.octets c.run-run.result c.end-self-inside.result c.asked-self-inside.result
+    c.end-self-inside.ensures c.asked-self-inside.ensures c.run-run.new.self (rw c.module.ensures.«module» at c.run-run.ensures.run) c.run-run.ensures.rooms
 
 pub returns-then-is_some-clause-runs : goal.returns-then-is_some-clause-runs
 returns-then-is_some-clause-runs c =
@@ -31,8 +31,8 @@ returns-then-is_some-clause-all c =
 pub returns-clause-runs : goal.returns-clause-runs
 returns-clause-runs c = λ config same.
     let runs = sym c.is_some.ensures ∙ c.if-is_some.false in
-    ran-from c.self.inside runs c.self.invariant c.args.spare c.args.most c.args.memory.now.octets c.run-run.new.memory.octets c.run-run.result c.end-self-inside.result
-    c.end-self-inside.ensures c.run-run.new.self (rw c.module.ensures.«module» at c.run-run.ensures.run) config (ap (λ (x : Called). x.state) c.self.view_is ∙ same)
+    rw c.made.ensures (ran-from c.self.inside runs c.self.invariant c.args.spare c.args.most c.args.memory.now.octets c.run-run.new.memory.octets c.run-run.result c.end-self-inside.result c.asked-self-inside.result
+    c.end-self-inside.ensures c.asked-self-inside.ensures c.run-run.new.self (rw c.module.ensures.«module» at c.run-run.ensures.run) config (ap (λ (x : Called). x.state) c.self.view_is ∙ same))
 
 pub returns-clause-over : goal.returns-clause-over
 returns-clause-over c =

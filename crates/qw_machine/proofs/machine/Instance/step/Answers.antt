@@ -26,14 +26,14 @@ step-stepped-requires-clause-unfinished c =
 pub invariant_of-self : goal.invariant_of-self
 invariant_of-self c =
     let runs = sym c.is_some.ensures ∙ c.if-is_some.false in
-    goes-on c.self.inside runs c.self.invariant c.args.spare c.args.memory.now.octets c.step-stepped.new.memory.octets c.step-stepped.result c.end-self-inside.result
-    c.end-self-inside.ensures c.step-stepped.new.self (rw c.module.ensures.«module» at c.step-stepped.ensures.stepped) c.step-stepped.ensures.rooms
+    goes-on c.self.inside runs c.self.invariant c.args.spare c.args.memory.now.octets c.step-stepped.new.memory.octets c.step-stepped.result c.end-self-inside.result c.asked-self-inside.result
+    c.end-self-inside.ensures c.asked-self-inside.ensures c.step-stepped.new.self (rw c.module.ensures.«module» at c.step-stepped.ensures.stepped) c.step-stepped.ensures.rooms
 
 pub returns-clause-step : goal.returns-clause-step
 returns-clause-step c = λ config same.
     let runs = sym c.is_some.ensures ∙ c.if-is_some.false in
-    went-from c.self.inside runs c.self.invariant c.args.spare c.args.memory.now.octets c.step-stepped.new.memory.octets c.step-stepped.result c.end-self-inside.result
-    c.end-self-inside.ensures c.step-stepped.new.self (rw c.module.ensures.«module» at c.step-stepped.ensures.stepped) config (ap (λ (x : Called). x.state) c.self.view_is ∙ same)
+    went-from c.self.inside runs c.self.invariant c.args.spare c.args.memory.now.octets c.step-stepped.new.memory.octets c.step-stepped.result c.end-self-inside.result c.asked-self-inside.result
+    c.end-self-inside.ensures c.asked-self-inside.ensures c.step-stepped.new.self (rw c.module.ensures.«module» at c.step-stepped.ensures.stepped) config (ap (λ (x : Called). x.state) c.self.view_is ∙ same)
 
 pub returns-clause-over : goal.returns-clause-over
 returns-clause-over c =

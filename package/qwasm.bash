@@ -1,0 +1,23 @@
+# Completion of qwasm's words, for bash.
+_qwasm() {
+    local word=${COMP_WORDS[COMP_CWORD]} before=${COMP_WORDS[COMP_CWORD - 1]}
+    case $COMP_CWORD,${COMP_WORDS[1]} in
+    1,*) mapfile -t COMPREPLY < <(compgen -W "run compile check gen" -- "$word") ;;
+    *,run | *,gen)
+        case $before in --quantum | --pages | --steps) return ;; esac
+        case $word in
+        -*) mapfile -t COMPREPLY < <(compgen -W "--quantum --pages --steps --stats" -- "$word") ;;
+        *) [ "${COMP_WORDS[1]}" = gen ] || mapfile -t COMPREPLY < <(compgen -f -- "$word") ;;
+        esac
+        ;;
+    *,compile)
+        case $before in --statement) return ;; esac
+        case $word in
+        -*) mapfile -t COMPREPLY < <(compgen -W "--statement" -- "$word") ;;
+        *) mapfile -t COMPREPLY < <(compgen -f -- "$word") ;;
+        esac
+        ;;
+    *,check) mapfile -t COMPREPLY < <(compgen -f -- "$word") ;;
+    esac
+}
+complete -o filenames -F _qwasm qwasm
