@@ -1,0 +1,6 @@
+use Rattle.std.proofs.Common.{◌≡◌, None}
+use Rattle.qw_machine_cases.proofs.runs.asks_of.Given as goal
+
+-- the host owes no answer
+abbrev pub invariant-loop : goal.invariant-loop
+invariant-loop l = l.instance.asked ≡ None
