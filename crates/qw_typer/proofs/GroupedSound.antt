@@ -50,6 +50,8 @@ IsPlace (meaning.negative a) = ⊥
 IsPlace (meaning.extract field a) = ⊥
 IsPlace (meaning.brought a s) = ⊥
 IsPlace (meaning.choice c a b) = ⊥
+IsPlace (meaning.given w k most v) = ⊥
+IsPlace (meaning.cell i ty most) = ⊥
 
 placed : (entry : Entry) (k : ℕ) (o : Option Column) → AllByRecursion IsPlace (listed (option_map (λ (c : Column). meaning.column (64 * entry.number + k) c.ty) o))
 placed entry k None = tt
@@ -99,6 +101,8 @@ column_sound entries s (meaning.negative a) p g = absurd p
 column_sound entries s (meaning.extract field a) p g = absurd p
 column_sound entries s (meaning.brought a sc) p g = absurd p
 column_sound entries s (meaning.choice c a b) p g = absurd p
+column_sound entries s (meaning.given w k most v) p g = absurd p
+column_sound entries s (meaning.cell i ty most) p g = absurd p
 
 reference_sound : (entries : List Entry) → AreSized entries → (r : Reference) → reference_faults entries r.qualifier r.name ≡ [] → IsSoundColumn entries (as_grouped (meant (ungrouped entries) (column r.qualifier r.name)))
 reference_sound entries s r h =

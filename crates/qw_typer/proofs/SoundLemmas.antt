@@ -341,6 +341,8 @@ group_good entries (Some g) s (meaning.negative a) h = null_good (Reaches entrie
 group_good entries (Some g) s (meaning.extract field a) h = null_good (Reaches entries (Some g))
 group_good entries (Some g) s (meaning.brought a sc) h = null_good (Reaches entries (Some g))
 group_good entries (Some g) s (meaning.choice c a b) h = null_good (Reaches entries (Some g))
+group_good entries (Some g) s (meaning.given w k most v) h = null_good (Reaches entries (Some g))
+group_good entries (Some g) s (meaning.cell i ty most) h = null_good (Reaches entries (Some g))
 
 function_there : (entries : List Entry) (g : Grouping) → HasSizedTypes (Some g) → (k : ℕ) (o : Option FunctionColumn) → slice_get g.functions k ≡ o
     → IsGood (Reaches entries (Some g)) (unwrap_or (option_map (λ (f : FunctionColumn). meaning.column (length g.columns + k) f.ty) o) meaning.null)
