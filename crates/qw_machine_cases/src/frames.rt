@@ -200,8 +200,7 @@ pub const ASKING: Linked = Linked {
         0x01, 0x10, 0x03, 0x60, 0x01, 0x7F, 0x00, 0x60, 0x02, 0x7E, 0x7E, 0x01, 0x7E, 0x60, 0x01,
         0x7F, 0x01, 0x7F,
     ],
-    imports:
-        b"\x02\x21\x03\x01q\x05pages\x00\x02\x01q\x06memory\x02\x00\x01\x01q\x05raise\x00\x00",
+    imports: b"\x02\x21\x03\x01q\x05pages\x00\x02\x01q\x06memory\x02\x00\x01\x01q\x05raise\x00\x00",
     functions: 2,
 };
 
