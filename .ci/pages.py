@@ -2,7 +2,8 @@
 """The table of files on each crate's page, crates/*/README.md, made of what each file says of itself.
 
 A file's row has the first sentence of its first comment: `//!` in code, or `//` at its top; where there is none the first `///`, with the
-name of what it stands at; `--` in definitions and proofs. The table stands between two marks. Without words this writes the tables, and makes a page where
+name of what it stands at; `--` in definitions and proofs. Files of lemmas, which a reader of the crate need not know, have one row together, but
+each must say what it holds. The table stands between two marks. Without words this writes the tables, and makes a page where
 a crate has none; with --check it compares, and ends with 1 where a table differs or a file has no such comment.
 """
 import os
@@ -71,12 +72,19 @@ def said_of(path):
 
 
 def table_of(crate):
-    rows, silent = ["| file | what it holds |", "|---|---|"], []
+    rows, silent, lemmas = ["| file | what it holds |", "|---|---|"], [], []
     for path in files_of(crate):
         said = said_of(os.path.join(CRATES, crate, path))
         if said is None:
             silent.append(f"crates/{crate}/{path} has no comment that says what it holds")
-        rows.append(f"| `{path}` | {said or ''} |")
+        if path.startswith("proofs/"):
+            lemmas.append(path)
+        else:
+            rows.append(f"| `{path}` | {said or ''} |")
+    if len(lemmas) == 1:
+        rows.append(f"| `{lemmas[0]}` | Lemmas: its first line says which |")
+    elif lemmas:
+        rows.append(f"| `proofs/` | {len(lemmas)} files of lemmas, each of which says in its first line what it holds |")
     return "\n".join([FIRST, *rows, LAST]), silent
 
 
