@@ -2,8 +2,8 @@
 """The table of files on each crate's page, crates/*/README.md, made of what each file says of itself.
 
 A file's row has the first sentence of its first comment: `//!` in code, or `//` at its top; where there is none the first `///`, with the
-name of what it stands at; `--` in definitions and proofs. Files of lemmas, which a reader of the crate need not know, have one row together, but
-each must say what it holds. The table stands between two marks. Without words this writes the tables, and makes a page where
+name of what it stands at; `--` in definitions and proofs. Files of lemmas and of
+inner definitions, which a reader of the crate need not know, have one row a folder, but each must say what it holds. The table stands between two marks. Without words this writes the tables, and makes a page where
 a crate has none; with --check it compares, and ends with 1 where a table differs or a file has no such comment.
 """
 import os
@@ -13,6 +13,8 @@ import sys
 TOP = os.path.join(os.path.dirname(os.path.abspath(__file__)), "..")
 CRATES = os.path.join(TOP, "crates")
 FIRST, LAST = "<!-- the files, by .ci/pages.py -->", "<!-- end of the files -->"
+# Folders whose files have one row together.
+TOLD_TOGETHER = {"specs/Inner/": "Definitions that only the crate's own contracts name", "proofs/": "Lemmas"}
 # Files that only list others.
 LISTS = {"lib.rt", "Lib.antt", "Inner.antt"}
 ITEM = re.compile(r"\s*(?:#\[.*\]\s*)*pub(?:\(crate\))? (?:const )?(?:struct|enum|trait|fn|type) (\w+)")
@@ -72,19 +74,17 @@ def said_of(path):
 
 
 def table_of(crate):
-    rows, silent, lemmas = ["| file | what it holds |", "|---|---|"], [], []
+    rows, silent, together = ["| file | what it holds |", "|---|---|"], [], {}
     for path in files_of(crate):
         said = said_of(os.path.join(CRATES, crate, path))
         if said is None:
             silent.append(f"crates/{crate}/{path} has no comment that says what it holds")
-        if path.startswith("proofs/"):
-            lemmas.append(path)
+        folder = next((it for it in TOLD_TOGETHER if path.startswith(it)), None)
+        if folder:
+            together[folder] = together.get(folder, 0) + 1
         else:
             rows.append(f"| `{path}` | {said or ''} |")
-    if len(lemmas) == 1:
-        rows.append(f"| `{lemmas[0]}` | Lemmas: its first line says which |")
-    elif lemmas:
-        rows.append(f"| `proofs/` | {len(lemmas)} files of lemmas, each of which says in its first line what it holds |")
+    rows += [f"| `{folder}` | {TOLD_TOGETHER[folder]}: {count} file{'s' if count > 1 else ''}, of which each says in its first line what it holds |" for folder, count in together.items()]
     return "\n".join([FIRST, *rows, LAST]), silent
 
 
