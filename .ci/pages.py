@@ -2,8 +2,8 @@
 """The table of files on each crate's page, crates/*/README.md, made of what each file says of itself.
 
 A file's row has the first sentence of its first comment: `//!` in code, or `//` at its top; where there is none the first `///`, with the
-name of what it stands at; `--` in definitions and proofs. Files of lemmas and of
-inner definitions, which a reader of the crate need not know, have one row a folder, but each must say what it holds. The table stands between two marks. Without words this writes the tables, and makes a page where
+name of what it stands at; `--` in definitions and proofs. Lemmas and inner definitions, which a reader of the crate need not know, have one row
+a folder, but each file must say what it holds. The table stands between two marks. Without words this writes the tables, and makes a page where
 a crate has none; with --check it compares, and ends with 1 where a table differs or a file has no such comment.
 """
 import os
