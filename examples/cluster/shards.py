@@ -1,12 +1,13 @@
 #!/usr/bin/env python3
-"""Runs a script over a table in shards by a pool of processes, and merges what the shards report.
+"""Runs a script over a table in shards by a pool of processes or by Dask's workers, and merges what the shards report.
 
-    shards.py split RECIPE DIR N [--random SEED]     parts DIR/TABLE.csv, the recipe's sharded table, into DIR/0 .. DIR/N-1
-    shards.py run RECIPE DIR [--workers N]           writes the report of the whole
+    shards.py split RECIPE DIR N [--random SEED]             parts DIR/TABLE.csv, the recipe's sharded table, into DIR/0 .. DIR/N-1
+    shards.py run RECIPE DIR [--workers N | --dask ADDRESS]  writes the report of the whole
 
 DIR/0, DIR/1, .. each hold a part of the sharded table, DIR the tables that each shard has whole. `qwasm run` runs the recipe's script `partial`
 over each shard; the rows of its statement k, of all shards, are the table PART_k of `merge_schema`, over which statement k of `merge` runs.
-`qwasm` is the program that the variable QWASM names, or the one on the path. README.md says what can be parted so, and what is proved of it.
+`qwasm` is the program that the variable QWASM names, or the one on the path; Dask's workers find it and DIR under the same names. README.md says
+what can be parted so, and what is proved of it.
 """
 import argparse
 import csv
@@ -63,9 +64,20 @@ def refusals(recipe):
             yield f"statement {number}: averages have no average; take SUM and COUNT, and divide in the merge"
 
 
-def run(schema, folder, script, pages):
-    done = subprocess.run([QWASM, "run", schema, folder, script, "--pages", str(pages)], capture_output=True, check=False)
+def run(program, schema, folder, script, pages):
+    done = subprocess.run([program, "run", schema, folder, script, "--pages", str(pages)], capture_output=True, check=False)
     return done.returncode, done.stdout.decode(), done.stderr.decode()
+
+
+def answers_of(calls, workers, dask):
+    """What the runs of these calls come to, in their order: by a pool of so many processes, or by the workers of Dask's scheduler at an address."""
+    if dask:
+        from distributed import Client
+
+        with Client(dask) as client:
+            return client.gather(client.map(run, *zip(*calls), pure=False))
+    with ProcessPoolExecutor(workers) as pool:
+        return list(pool.map(run, *zip(*calls)))
 
 
 def parts(report):
@@ -89,7 +101,7 @@ def merged_statement(recipe, number, answers):
             csv.writer(file, lineterminator="\n", quoting=csv.QUOTE_ALL).writerows(rows)
         for name, text in (("schema", recipe.merge_tables[number - 1]), ("script", recipe.merges[number - 1])):
             Path(folder, name).write_text(text)
-        status, report, note = run(f"{folder}/schema", folder, f"{folder}/script", recipe.pages)
+        status, report, note = run(QWASM, f"{folder}/schema", folder, f"{folder}/script", recipe.pages)
     if status in REFUSED:
         print(f"merge of statement {number}: {note.strip()}", file=sys.stderr)
         sys.exit(status)
@@ -100,15 +112,13 @@ def shards_of(folder):
     return sorted((path for path in folder.iterdir() if path.name.isdigit()), key=lambda path: int(path.name))
 
 
-def run_all(recipe, folder, workers):
+def run_all(recipe, folder, workers, dask):
     shards = shards_of(folder)
     for shard in shards:
         for name in (f"{table.lower()}.csv" for table in recipe.whole):
             if not (shard / name).exists():
                 (shard / name).symlink_to(folder / name)
-    with ProcessPoolExecutor(workers) as pool:
-        calls = zip(*[(str(recipe.schema), str(shard), str(recipe.partial), recipe.pages) for shard in shards])
-        answers = list(pool.map(run, *calls))
+    answers = answers_of([(QWASM, str(recipe.schema.resolve()), str(shard), str(recipe.partial.resolve()), recipe.pages) for shard in shards], workers, dask)
     for shard, (status, _, note) in zip(shards, answers):
         if status in REFUSED:
             print(f"shard {shard.name}: {note.strip()}", file=sys.stderr)
@@ -150,6 +160,7 @@ def main():
     words.add_argument("count", type=int, nargs="?", default=3)
     words.add_argument("--random", type=int)
     words.add_argument("--workers", type=int, default=os.cpu_count())
+    words.add_argument("--dask", metavar="ADDRESS")
     words = words.parse_args()
     recipe, folder = Recipe(words.recipe), words.dir.resolve()
     bad = list(refusals(recipe))
@@ -158,7 +169,7 @@ def main():
         return 5
     if words.command == "split":
         return split(recipe, folder, words.count, words.random)
-    return run_all(recipe, folder, words.workers)
+    return run_all(recipe, folder, words.workers, words.dask)
 
 
 if __name__ == "__main__":
