@@ -17,9 +17,9 @@ use Rattle.qw_physical.specs.Physical.{Operator, Pipeline}
 use Rattle.qw_physical.specs.declared.pipeline.Operator as coded_operator
 use Rattle.qw_physical.specs.declared.pipeline.ReadColumn.{ReadColumn}
 use Rattle.qw_operator.specs.Carries.{directory, result_kinds}
-use Rattle.qw_group_sink.specs.Carrying.{span_to}
-use Rattle.qw_group_sink.specs.Grouping.{Group, group_span}
-use Rattle.qw_group_sink.specs.declared.group.Group as coded
+use Rattle.qw_operator.specs.Carrying.{span_to}
+use Rattle.qw_operator.specs.Grouping.{Group, group_span}
+use Rattle.qw_operator.specs.declared.group.Group as coded
 use Rattle.qw_group_pipeline.specs.Groups.{EmitsGroupsTo, Grouping, InEnd, IsGroupPipeline, IsGroupPipelineTo}
 use Rattle.qw_group_pipeline.specs.declared.columns.ValueColumn.{ValueColumn}
 use Rattle.qw_compile.specs.Placed.{literals_placed}

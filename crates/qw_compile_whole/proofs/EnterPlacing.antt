@@ -31,9 +31,9 @@ use Rattle.qw_table.specs.Tables.{directory_block}
 use Rattle.qw_operator.specs.Carries.{directory}
 use Rattle.qw_operator.specs.Span.{sink_span}
 use Rattle.qw_operator.specs.Takes.{CanCarry, anywhere}
-use Rattle.qw_group_sink.specs.Carrying.{span_to}
-use Rattle.qw_group_sink.specs.Grouping.{CanGroup, Group, TakeKinds, group_of, group_span}
-use Rattle.qw_group_sink.specs.declared.group.Group as coded
+use Rattle.qw_operator.specs.Carrying.{span_to}
+use Rattle.qw_operator.specs.Grouping.{CanGroup, Group, TakeKinds, group_of, group_span}
+use Rattle.qw_operator.specs.declared.group.Group as coded
 use Rattle.qw_group_pipeline.specs.Groups.{Grouping, InEnd, IsGroupPipeline, IsGroupPipelineTo, all_anywhere}
 use Rattle.qw_group_pipeline.specs.declared.columns.ValueColumn.{ValueColumn}
 use Rattle.qw_compile.specs.CourseSpan.{course_span}

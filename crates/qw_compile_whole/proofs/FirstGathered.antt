@@ -30,9 +30,9 @@ use Rattle.qw_operator.specs.Carries.{directory}
 use Rattle.qw_operator.proofs.CarriedTyped.{AreLed, IsReaderDeclared}
 use Rattle.qw_operator.proofs.Promised.{AreOwn}
 use Rattle.qw_operator.proofs.Stood.{Stood}
-use Rattle.qw_group_sink.specs.Grouping.{CanGroup, Group, turn_of}
-use Rattle.qw_group_sink.proofs.GuardedFeeds.{first_grouped_runs, row_guarded}
-use Rattle.qw_group_sink.proofs.RowCounted.{scan_counts}
+use Rattle.qw_operator.specs.Grouping.{CanGroup, Group, turn_of}
+use Rattle.qw_operator.proofs.LimitedFeeds.{first_grouped_runs, row_guarded}
+use Rattle.qw_operator.proofs.RowCounted.{scan_counts}
 use Rattle.qw_compile.specs.QueryLocals.{cell_start, own_start, query_readers, rows_end, rows_left}
 use Rattle.qw_compile.specs.Statements.{Course, build_block}
 use Rattle.qw_compile.proofs.PipelineRuns.{Between, Grounds, Source, Steady, all_keep, declared_over, fed_over, laid, readers_of}

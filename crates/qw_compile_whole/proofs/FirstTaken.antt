@@ -31,9 +31,9 @@ use Rattle.qw_operator.specs.Carries.{directory}
 use Rattle.qw_operator.proofs.CarriedTyped.{AreLed, IsReaderDeclared}
 use Rattle.qw_operator.proofs.Promised.{AreOwn}
 use Rattle.qw_operator.proofs.Stood.{Stood}
-use Rattle.qw_group_sink.specs.Grouping.{CanGroup, Group, over_fields}
-use Rattle.qw_group_sink.proofs.GuardedOne.{first_taken_runs, row_first_taken}
-use Rattle.qw_group_sink.proofs.RowCounted.{one_scan_counts}
+use Rattle.qw_operator.specs.Grouping.{CanGroup, Group, over_fields}
+use Rattle.qw_operator.proofs.LimitedOne.{first_taken_runs, row_first_taken}
+use Rattle.qw_operator.proofs.RowCounted.{one_scan_counts}
 use Rattle.qw_compile.specs.QueryLocals.{cell_start, own_start, query_readers, rows_end, rows_left}
 use Rattle.qw_compile.specs.Statements.{Course}
 use Rattle.qw_compile.proofs.PipelineRuns.{Between, Grounds, Source, declared_over, fed_over, laid, readers_of}

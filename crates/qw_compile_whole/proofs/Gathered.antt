@@ -33,9 +33,9 @@ use Rattle.qw_operator.specs.Carries.{directory}
 use Rattle.qw_operator.proofs.Promised.{AreOwn}
 use Rattle.qw_operator.proofs.Seen.{StandsIn}
 use Rattle.qw_operator.proofs.Stood.{Stood}
-use Rattle.qw_group_sink.specs.Grouping.{CanGroup, Group, IsGrouped, aggregates_of, key_fields, turn_of}
-use Rattle.qw_group_sink.proofs.GroupSunk.{HasRows, collecting_sink}
-use Rattle.qw_group_sink.proofs.GroupedFeeds.{grouped_runs, row_grouped}
+use Rattle.qw_operator.specs.Grouping.{CanGroup, Group, IsGrouped, aggregates_of, key_fields, turn_of}
+use Rattle.qw_operator.proofs.GroupSunk.{HasRows, collecting_sink}
+use Rattle.qw_operator.proofs.GroupedFeeds.{grouped_runs, row_grouped}
 use Rattle.qw_compile.specs.QueryLocals.{own_start, query_readers, rows_left}
 use Rattle.qw_compile.specs.Statements.{Course, build_block}
 use Rattle.qw_compile.proofs.PipelineRuns.{Between, Grounds, Source, Steady, fed_over}

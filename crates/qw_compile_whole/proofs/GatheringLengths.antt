@@ -27,9 +27,9 @@ use Rattle.qw_physical.specs.declared.pipeline.Sink.TheVariants as sink
 use Rattle.qw_operator.specs.Carries.{directory}
 use Rattle.qw_operator.specs.Span.{operator_span, sink_span, span}
 use Rattle.qw_operator.specs.Takes.{CanCarry}
-use Rattle.qw_group_sink.specs.Carrying.{span_to}
-use Rattle.qw_group_sink.specs.Grouping.{group_span}
-use Rattle.qw_group_sink.specs.declared.group.Group.{Group}
+use Rattle.qw_operator.specs.Carrying.{span_to}
+use Rattle.qw_operator.specs.Grouping.{group_span}
+use Rattle.qw_operator.specs.declared.group.Group.{Group}
 use Rattle.qw_compile.specs.CourseSpan.{course_span}
 use Rattle.qw_compile.specs.QueryLocals.{query_locals, readers_over}
 use Rattle.qw_compile.specs.QueryMade.{ArePlacesOf, CanStand}

@@ -24,10 +24,10 @@ use Rattle.qw_table.specs.declared.key.Field.{Field}
 use Rattle.qw_physical.specs.Physical.{Operator, Pipeline, Sink}
 use Rattle.qw_physical.specs.declared.pipeline.ReadColumn.{ReadColumn}
 use Rattle.qw_operator.specs.Carries.{directory, result_kinds}
-use Rattle.qw_group_sink.specs.Carrying.{EmitsRowTo}
-use Rattle.qw_group_sink.specs.Grouping.{Group, IsGrouped}
-use Rattle.qw_group_sink.specs.Guarded.{IsGroupedWithin}
-use Rattle.qw_group_sink.proofs.Unguarded.{row_map, unguarded}
+use Rattle.qw_operator.specs.Carrying.{EmitsRowTo}
+use Rattle.qw_operator.specs.Grouping.{Group, IsGrouped}
+use Rattle.qw_operator.specs.Puts.{IsGroupedWithin}
+use Rattle.qw_operator.proofs.Unguarded.{row_map, unguarded}
 use Rattle.qw_group_pipeline.specs.Groups.{EmitsGroups, IsGroupPipeline}
 use Rattle.qw_group_pipeline.specs.declared.columns.ValueColumn.{ValueColumn}
 use Rattle.qw_compile.specs.Placed.{ArePlaced, EmitsBuilds, literals_placed}

@@ -8,8 +8,8 @@ use Rattle.qw_expr.specs.declared.emitter.Emitter.{Emitter}
 use Rattle.qw_read.specs.Reading.{BeginsAll}
 use Rattle.qw_read.specs.declared.reader.Reader.{Reader}
 use Rattle.qw_physical.specs.Physical.{Operator, Pipeline}
-use Rattle.qw_group_sink.specs.Carrying.{EmitsRowTo, IsRowTo}
-use Rattle.qw_group_sink.specs.Grouping.{Group}
+use Rattle.qw_operator.specs.Carrying.{EmitsRowTo, IsRowTo}
+use Rattle.qw_operator.specs.Grouping.{Group}
 use Rattle.qw_compile.specs.Placed.{literals_placed}
 use Rattle.qw_compile.specs.QueryLocals.{readers_over}
 use Rattle.qw_compile.specs.Statements.{Course}

@@ -31,9 +31,9 @@ use Rattle.qw_operator.specs.Carries.{directory}
 use Rattle.qw_operator.proofs.Promised.{AreOwn}
 use Rattle.qw_operator.proofs.Seen.{StandsIn, longer_keeps}
 use Rattle.qw_operator.proofs.Stood.{Stood}
-use Rattle.qw_group_sink.specs.Grouping.{CanGroup, Group, over_fields}
-use Rattle.qw_group_sink.specs.OneGroup.{IsOneGroup}
-use Rattle.qw_group_sink.proofs.OneFeeds.{one_later, one_sink, row_taken, taken_runs}
+use Rattle.qw_operator.specs.Grouping.{CanGroup, Group, over_fields}
+use Rattle.qw_operator.specs.OneGroup.{IsOneGroup}
+use Rattle.qw_operator.proofs.OneFeeds.{one_later, one_sink, row_taken, taken_runs}
 use Rattle.qw_compile.specs.QueryLocals.{own_start, query_readers, rows_left}
 use Rattle.qw_compile.specs.Statements.{Course}
 use Rattle.qw_compile.proofs.PipelineRuns.{Between, Grounds, Source, Steady, fed_over}

@@ -18,11 +18,11 @@ use Rattle.qw_table.specs.declared.key.Field.{Field}
 use Rattle.qw_group.specs.Single.{single_block}
 use Rattle.qw_physical.specs.Physical.{Operator, Pipeline, Sink}
 use Rattle.qw_operator.specs.Carries.{directory, result_kinds}
-use Rattle.qw_group_sink.specs.Carrying.{EmitsRowTo}
-use Rattle.qw_group_sink.specs.Grouping.{Group}
-use Rattle.qw_group_sink.specs.Guarded.{IsOneGroupWithin}
-use Rattle.qw_group_sink.specs.OneGroup.{IsOneGroup}
-use Rattle.qw_group_sink.proofs.Unguarded.{row_map, unguarded_one}
+use Rattle.qw_operator.specs.Carrying.{EmitsRowTo}
+use Rattle.qw_operator.specs.Grouping.{Group}
+use Rattle.qw_operator.specs.Puts.{IsOneGroupWithin}
+use Rattle.qw_operator.specs.OneGroup.{IsOneGroup}
+use Rattle.qw_operator.proofs.Unguarded.{row_map, unguarded_one}
 use Rattle.qw_group_pipeline.specs.Groups.{EmitsOneTo, InSink, IsOneRow}
 use Rattle.qw_group_pipeline.specs.declared.columns.ValueColumn.{ValueColumn}
 use Rattle.qw_compile.specs.Placed.{EmitsBuilds, literals_placed}

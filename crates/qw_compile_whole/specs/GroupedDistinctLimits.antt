@@ -4,9 +4,9 @@ use Rattle.std.specs.List.{concat}
 use Rattle.qw_scalar.specs.Nodes.{nodes, nodes_of}
 use Rattle.qw_grouped.specs.Query.{GroupedParts}
 use Rattle.qw_physical.specs.declared.pipeline.Operator.{Operator}
-use Rattle.qw_group_sink.specs.Carrying.{span_to}
-use Rattle.qw_group_sink.specs.Grouping.{group_span}
-use Rattle.qw_group_sink.specs.declared.group.Group.{Group}
+use Rattle.qw_operator.specs.Carrying.{span_to}
+use Rattle.qw_operator.specs.Grouping.{group_span}
+use Rattle.qw_operator.specs.declared.group.Group.{Group}
 use Rattle.qw_compile_whole.specs.WholeLimits.{IsShortGrouped, behind_size, front_size}
 use Rattle.qw_compile_whole.specs.WholeTexts.{texts_of_grouped}
 

@@ -6,9 +6,9 @@ use Rattle.qw_physical.specs.declared.pipeline.Operator.{Operator}
 use Rattle.qw_physical.specs.declared.pipeline.Pipeline.{Pipeline}
 use Rattle.qw_read.specs.declared.reader.Reader.{Reader}
 use Rattle.qw_operator.specs.Span.{span}
-use Rattle.qw_group_sink.specs.Carrying.{span_to}
-use Rattle.qw_group_sink.specs.Grouping.{group_span}
-use Rattle.qw_group_sink.specs.declared.group.Group.{Group}
+use Rattle.qw_operator.specs.Carrying.{span_to}
+use Rattle.qw_operator.specs.Grouping.{group_span}
+use Rattle.qw_operator.specs.declared.group.Group.{Group}
 use Rattle.qw_compile.specs.Limits.{AreShort, keys_built, keys_sought, lookups}
 use Rattle.qw_compile.specs.QueryLocals.{readers_over}
 

@@ -10,8 +10,8 @@ use Rattle.qw_read.specs.Reading.{BeginsAll}
 use Rattle.qw_read.specs.declared.reader.Reader.{Reader}
 use Rattle.qw_table.specs.declared.key.Field.{Field}
 use Rattle.qw_physical.specs.Physical.{Pipeline}
-use Rattle.qw_group_sink.specs.Carrying.{IsRowTo}
-use Rattle.qw_group_sink.specs.Grouping.{Group, IsGrouped}
+use Rattle.qw_operator.specs.Carrying.{IsRowTo}
+use Rattle.qw_operator.specs.Grouping.{Group, IsGrouped}
 use Rattle.qw_compile.specs.QueryLocals.{readers_over}
 use Rattle.qw_compile.specs.Statements.{Course, build_block, builds_block}
 

@@ -34,9 +34,9 @@ use Rattle.qw_operator.proofs.KnownLeaves.{AreFit}
 use Rattle.qw_operator.proofs.Promised.{AreOwn}
 use Rattle.qw_operator.proofs.Seen.{AreWithin, StandsIn}
 use Rattle.qw_operator.proofs.Stood.{Stood}
-use Rattle.qw_group_sink.specs.Carrying.{cost_to}
-use Rattle.qw_group_sink.specs.Grouping.{CanGroup, Group, aggregates_of, key_fields, turn_of}
-use Rattle.qw_group_sink.proofs.GroupedFeeds.{grouped, grouped_runs, row_grouped}
+use Rattle.qw_operator.specs.Carrying.{cost_to}
+use Rattle.qw_operator.specs.Grouping.{CanGroup, Group, aggregates_of, key_fields, turn_of}
+use Rattle.qw_operator.proofs.GroupedFeeds.{grouped, grouped_runs, row_grouped}
 use Rattle.qw_group_pipeline.specs.Groups.{Grouping, InEnd, IsGroupPipelineTo, all_anywhere}
 use Rattle.qw_group_pipeline.specs.declared.columns.ValueColumn.{ValueColumn}
 use Rattle.qw_group_pipeline.proofs.GroupsFeed.{AreNumbered, AreTheir, IsGoodTo, groups_feed, units_within}

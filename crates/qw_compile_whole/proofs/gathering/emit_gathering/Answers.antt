@@ -15,8 +15,8 @@ use Rattle.qw_read.specs.declared.constant.Constant.{Constant}
 use Rattle.qw_read.specs.declared.reader.Reader.{Reader}
 use Rattle.qw_physical.specs.Coded.{operator_of}
 use Rattle.qw_operator.specs.Emitted.{AreOrdered}
-use Rattle.qw_group_sink.specs.Carrying.{span_to}
-use Rattle.qw_group_sink.specs.Grouping.{group_of, group_span}
+use Rattle.qw_operator.specs.Carrying.{span_to}
+use Rattle.qw_operator.specs.Grouping.{group_of, group_span}
 use Rattle.qw_compile.specs.QueryLocals.{readers_over}
 use Rattle.qw_compile.proofs.CourseLengths.{course_short}
 use Rattle.qw_compile.proofs.CoursePlaced.{indices_over, literals_first, ordered_over, served_over, sized_over, words_over}

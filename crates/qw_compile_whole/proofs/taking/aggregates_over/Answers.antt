@@ -1,4 +1,4 @@
-use Rattle.qw_group_sink.proofs.FieldParts.{over_more}
+use Rattle.qw_operator.proofs.FieldParts.{over_more}
 use Rattle.qw_compile_whole.proofs.taking.aggregates_over.Goals as goal
 
 pub loop-index-preserved : goal.loop-index-preserved

@@ -1,5 +1,5 @@
 use Rattle.std.proofs.Common.{◌≡◌, take}
-use Rattle.qw_group_sink.specs.Grouping.{over_fields}
+use Rattle.qw_operator.specs.Grouping.{over_fields}
 use Rattle.qw_compile_whole.proofs.taking.aggregates_over.Given as goal
 
 abbrev pub invariant-loop-index : goal.invariant-loop-index

@@ -19,8 +19,8 @@ use Rattle.qw_group.specs.Single.{single_block}
 use Rattle.qw_group.specs.declared.group.Aggregate.{Aggregate}
 use Rattle.qw_physical.specs.Coded.{operator_of}
 use Rattle.qw_operator.specs.Emitted.{AreOrdered}
-use Rattle.qw_group_sink.specs.Carrying.{span_to}
-use Rattle.qw_group_sink.specs.Grouping.{group_of, group_span, over_fields}
+use Rattle.qw_operator.specs.Carrying.{span_to}
+use Rattle.qw_operator.specs.Grouping.{group_of, group_span, over_fields}
 use Rattle.qw_compile.specs.QueryLocals.{readers_over}
 use Rattle.qw_compile.proofs.CoursePlaced.{indices_over, literals_first, ordered_over, served_over, sized_over, words_over}
 use Rattle.qw_compile_whole.proofs.FieldCounts.{areas_long, fields_long}

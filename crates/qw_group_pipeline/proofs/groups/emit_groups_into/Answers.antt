@@ -6,8 +6,8 @@ use Rattle.qw_expr.specs.Emits.{free_of}
 use Rattle.qw_physical.specs.Coded.{operator_of}
 use Rattle.qw_physical.specs.Physical.{select}
 use Rattle.qw_operator.specs.Takes.{CanCarry}
-use Rattle.qw_group_sink.specs.Carrying.{span_to}
-use Rattle.qw_group_sink.specs.Grouping.{group_of, group_span}
+use Rattle.qw_operator.specs.Carrying.{span_to}
+use Rattle.qw_operator.specs.Grouping.{group_of, group_span}
 use Rattle.qw_group_pipeline.specs.Groups.{Grouping}
 use Rattle.qw_group_pipeline.proofs.GroupEmits.{group_served, group_takes, groups_emit, groups_within, inner_free}
 use Rattle.qw_group_pipeline.proofs.groups.emit_groups_into.Goals as goal
