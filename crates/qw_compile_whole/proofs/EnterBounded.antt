@@ -17,7 +17,7 @@ use Rattle.qw_physical.specs.Physical.{Pipeline, filter, select}
 use Rattle.qw_physical.specs.declared.pipeline.ReadColumn.{ReadColumn}
 use Rattle.qw_operator.proofs.PairRows.{AreStored}
 use Rattle.qw_operator.proofs.Stood.{Stood}
-use Rattle.qw_operator.specs.Carrying.{cost_to}
+use Rattle.qw_operator.specs.Costs.{cost_to}
 use Rattle.qw_operator.specs.Grouping.{Group, turn_of}
 use Rattle.qw_group_pipeline.specs.declared.columns.ValueColumn.{ValueColumn}
 use Rattle.qw_group_pipeline.proofs.GroupsFeed.{units_within}

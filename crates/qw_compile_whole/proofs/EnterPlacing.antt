@@ -29,9 +29,8 @@ use Rattle.qw_physical.specs.declared.pipeline.Sink.{Sink}
 use Rattle.qw_physical.specs.declared.pipeline.Sink.TheVariants as sinks
 use Rattle.qw_table.specs.Tables.{directory_block}
 use Rattle.qw_operator.specs.Carries.{directory}
-use Rattle.qw_operator.specs.Span.{sink_span}
+use Rattle.qw_operator.specs.Span.{sink_span, span}
 use Rattle.qw_operator.specs.Takes.{CanCarry, anywhere}
-use Rattle.qw_operator.specs.Carrying.{span_to}
 use Rattle.qw_operator.specs.Grouping.{CanGroup, Group, TakeKinds, group_of, group_span}
 use Rattle.qw_operator.specs.declared.group.Group as coded
 use Rattle.qw_group_pipeline.specs.Groups.{Grouping, InEnd, IsGroupPipeline, IsGroupPipelineTo, all_anywhere}
@@ -114,7 +113,7 @@ module _ (all : List Pipeline) (values : List ValueColumn) (key : List ReadColum
       emitted ≤ sum_by (course_span readers) all + 356 * (length key + length values) + walk_span (length key) (length values) behind + 356 * length into.values.items + walks + 200
   distinct_parts_long groups readers behind into shows emitted walks short =
       let one = span_apart behind.operators.items behind.sink in
-      let two = ap (λ (s : Sink). span_to behind.operators.items (sink_span s)) shows in
+      let two = ap (λ (s : Sink). span behind.operators.items (sink_span s)) shows in
       let three = span_more behind.operators.items (group_span into) (sink_span (sinks.Select into.values)) (356 * length into.values.items + 100) (omega arith) in
       let long = parts_long all (length key) values m is key refl groups readers emitted (enter_span (length key) (length values) behind.operators.items into + walks) (omega (arith, short)) in
       omega (arith, one, two, three, long)

@@ -11,7 +11,7 @@ use Rattle.qw_group.specs.Groups.{AreChosenWithin}
 use Rattle.qw_physical.specs.Physical.{Pipeline}
 use Rattle.qw_physical.specs.declared.pipeline.ReadColumn.{ReadColumn}
 use Rattle.qw_operator.proofs.Stood.{Stood, built_of}
-use Rattle.qw_operator.specs.Carrying.{pipeline_cost_to}
+use Rattle.qw_operator.specs.Costs.{pipeline_cost_to}
 use Rattle.qw_operator.specs.Grouping.{Group}
 use Rattle.qw_group_pipeline.specs.declared.columns.ValueColumn.{ValueColumn}
 use Rattle.qw_compile.proofs.LocalsPlaced.{literals_known}

@@ -20,7 +20,7 @@ use Rattle.qw_physical.specs.declared.pipeline.ReadColumn.{ReadColumn}
 use Rattle.qw_operator.specs.Takes.{AreSized, CanCarry}
 use Rattle.qw_operator.proofs.PairRows.{AreStored}
 use Rattle.qw_operator.proofs.Stood.{Stood, built_of}
-use Rattle.qw_operator.specs.Carrying.{pipeline_cost_to}
+use Rattle.qw_operator.specs.Costs.{pipeline_cost_to}
 use Rattle.qw_operator.specs.Grouping.{CanGroup, Group, turn_of}
 use Rattle.qw_group_pipeline.specs.Groups.{all_anywhere}
 use Rattle.qw_group_pipeline.specs.declared.columns.ValueColumn.{ValueColumn}

@@ -32,7 +32,7 @@ use Rattle.qw_physical.proofs.Orders.{Alike}
 use Rattle.qw_operator.proofs.PairRows.{AreStored}
 use Rattle.qw_operator.proofs.Stood.{Stood, built_of}
 use Rattle.qw_emit.proofs.Answered.{IsTold}
-use Rattle.qw_operator.specs.Carrying.{pipeline_cost_to}
+use Rattle.qw_operator.specs.Costs.{pipeline_cost_to}
 use Rattle.qw_operator.specs.Grouping.{turn_of}
 use Rattle.qw_group_pipeline.specs.Groups.{most_read}
 use Rattle.qw_group_pipeline.specs.declared.columns.ValueColumn.{ValueColumn}

@@ -24,7 +24,7 @@ use Rattle.qw_table.specs.Tables.{in_slot}
 use Rattle.qw_pipe.specs.General.{general_hashing}
 use Rattle.qw_physical.specs.Courses.{cost, fed}
 use Rattle.qw_physical.specs.Physical.{filter, select}
-use Rattle.qw_operator.specs.Carrying.{cost_to}
+use Rattle.qw_operator.specs.Costs.{cost_to}
 use Rattle.qw_group_pipeline.proofs.BehindFront.{behind_alike}
 use Rattle.qw_group_pipeline.proofs.RowFeeds.{by_result}
 use Rattle.qw_whole.specs.GroupTables.{chosen_units, distinct_units}

@@ -15,7 +15,7 @@ use Rattle.qw_physical.specs.Physical.{Pipeline, filter, select}
 use Rattle.qw_physical.specs.declared.pipeline.ReadColumn.{ReadColumn}
 use Rattle.qw_operator.specs.Takes.{CanCarry}
 use Rattle.qw_operator.proofs.Stood.{Stood, built_of}
-use Rattle.qw_operator.specs.Carrying.{pipeline_cost_to}
+use Rattle.qw_operator.specs.Costs.{pipeline_cost_to}
 use Rattle.qw_operator.specs.Grouping.{CanGroup, Group}
 use Rattle.qw_group_pipeline.specs.Groups.{all_anywhere, most_read}
 use Rattle.qw_group_pipeline.specs.declared.columns.ValueColumn.{ValueColumn}

@@ -30,7 +30,7 @@ use Rattle.qw_physical.specs.Physical.{filter, select}
 use Rattle.qw_physical.proofs.Orders.{Alike}
 use Rattle.qw_operator.proofs.Stood.{Stood, built_of}
 use Rattle.qw_emit.proofs.Answered.{IsTold}
-use Rattle.qw_operator.specs.Carrying.{pipeline_cost_to}
+use Rattle.qw_operator.specs.Costs.{pipeline_cost_to}
 use Rattle.qw_group_pipeline.specs.Groups.{most_read}
 use Rattle.qw_group_pipeline.proofs.RowFeeds.{by_result}
 use Rattle.qw_group_pipeline.proofs.ValuesCome.{AreRead, functions_of}

@@ -47,7 +47,7 @@ use Rattle.qw_operator.specs.Takes.{CanCarry}
 use Rattle.qw_operator.proofs.Promised.{AreOwn}
 use Rattle.qw_operator.proofs.Seen.{StandsIn, held_more, longer_keeps, stands_later}
 use Rattle.qw_operator.proofs.Stood.{spend_values}
-use Rattle.qw_operator.specs.Carrying.{cost_to}
+use Rattle.qw_operator.specs.Costs.{cost_to}
 use Rattle.qw_operator.specs.Grouping.{CanGroup, Group, aggregates_of, key_fields, turn_of}
 use Rattle.qw_operator.proofs.FieldParts.{kinds_dropped}
 use Rattle.qw_group_pipeline.specs.Groups.{Grouping, InEnd, IsGroupPipelineTo, all_anywhere}

@@ -40,7 +40,7 @@ use Rattle.qw_physical.proofs.Orders.{Alike}
 use Rattle.qw_operator.proofs.PairRows.{AreStored, IsHeld}
 use Rattle.qw_operator.proofs.Stood.{Stood}
 use Rattle.qw_emit.proofs.Answered.{IsTold}
-use Rattle.qw_operator.specs.Carrying.{cost_to}
+use Rattle.qw_operator.specs.Costs.{cost_to}
 use Rattle.qw_operator.specs.Grouping.{Group, turn_of}
 use Rattle.qw_group_pipeline.specs.Groups.{most_read}
 use Rattle.qw_group_pipeline.proofs.RowFeeds.{by_result}

@@ -34,7 +34,7 @@ use Rattle.qw_operator.proofs.KnownLeaves.{AreFit}
 use Rattle.qw_operator.proofs.Promised.{AreOwn}
 use Rattle.qw_operator.proofs.Seen.{AreWithin, StandsIn}
 use Rattle.qw_operator.proofs.Stood.{Stood}
-use Rattle.qw_operator.specs.Carrying.{cost_to}
+use Rattle.qw_operator.specs.Costs.{cost_to}
 use Rattle.qw_operator.specs.Grouping.{CanGroup, Group, aggregates_of, key_fields, turn_of}
 use Rattle.qw_operator.proofs.GroupedFeeds.{grouped, grouped_runs, row_grouped}
 use Rattle.qw_group_pipeline.specs.Groups.{Grouping, InEnd, IsGroupPipelineTo, all_anywhere}

@@ -1,4 +1,4 @@
--- The block of a row that goes into groups is typed, and that of any row, whatever is innermost.
+-- The block of a row that goes into groups is typed.
 use Rattle.std.proofs.Common.{◌≡◌, ℕ, ◌+◌, Option, Some, List, ◌++◌, drop, length, map, take, slice_get, sym, ap, ◌∙◌, subst, arith}
 use Rattle.std.specs.List.{AllByRecursion}
 use Rattle.qw_types.specs.declared.kind.Kind.{Kind}
@@ -8,20 +8,16 @@ use Rattle.qw_scalar.specs.Typing.{kind_of}
 use Rattle.qw_low.specs.Syntax.{Statement}
 use Rattle.qw_low.specs.Typing.{IsTyped}
 use Rattle.qw_expr.specs.Computes.{Known, AreDeclared}
-use Rattle.qw_read.specs.Reading.{known_of}
-use Rattle.qw_read.specs.declared.reader.Reader.{Reader}
 use Rattle.qw_feed.specs.Cells.{Source, kinds_of}
 use Rattle.qw_table.specs.Joins.{sources_of}
 use Rattle.qw_table.specs.Keys as keys
 use Rattle.qw_table.specs.declared.key.Field.{Field}
 use Rattle.qw_group.specs.Groups.{group_types}
 use Rattle.qw_group.proofs.GroupClauses.{groups_typed}
-use Rattle.qw_physical.specs.Physical.{Operator}
-use Rattle.qw_operator.specs.Carries.{behind_filter, directory, first_filter}
+use Rattle.qw_operator.specs.Carries.{directory}
 use Rattle.qw_operator.proofs.CarriedFeeds.{items_many, moved_many, sources_many}
-use Rattle.qw_operator.proofs.CarriedTyped.{AreLed, IsReaderDeclared, IsSourceDeclared, fields_declared, items_typed, led_behind, outs_declared, read_row_typed, taken_declared}
+use Rattle.qw_operator.proofs.CarriedTyped.{IsSourceDeclared, fields_declared, items_typed, outs_declared, taken_declared}
 use Rattle.qw_operator.proofs.Promised.{AreOwn, first_own_types, items_kinds, kinds_moved, rest_own_types}
-use Rattle.qw_operator.specs.Carrying.{IsRowTo}
 use Rattle.qw_operator.specs.Grouping.{CanGroup, Group, IsGrouped, TakeKinds, over_fields}
 use Rattle.qw_operator.proofs.FieldParts.{all_dropped, arguments_declared, kinds_dropped, over_few, take_few}
 
@@ -51,10 +47,3 @@ module _ (types : List ValType) (free_is : slice_get types 1 ≡ Some I32) (left
         groups_typed (directory g.table) (take g.columns fields) (over_fields g.functions arguments) (next + length is.items_own) is.enter is.groups (omega (arith, key_few, can_few, many), omega (arith, functions_few, can_few, many)) types (taken_declared types g.columns fields fields_are) (arguments_declared types g.functions arguments (all_dropped (λ (f : Field). keys.DeclaresField types f) g.columns fields fields_are) kinds) free_is left_is directory_is
             (rest_own_types types next own is.items_own group_types is.own_is own_types),
       )
-
-  -- ---- a row of the scan, where what is innermost is typed
-  module _ (End : List Known → (next : ℕ) → Statement → List ValType → Type 0) (end_typed : (known : List Known) (next : ℕ) (a : Statement) (own : List ValType) → AreDeclared types known → AreOwn types next own → End known next a own → IsTyped types a) where
-    pub row_to_typed : (literals : List Known) (readers : List Reader) (next : ℕ) (operators : List Operator) (a : Statement) (own : List ValType) → AreDeclared types (literals ++ map known_of readers) → AllByRecursion (IsReaderDeclared types) readers → AreOwn types next own → AreLed types operators →
-        IsRowTo End literals readers next operators a own → IsTyped types a
-    row_to_typed literals readers next operators a own declared readers_declared own_types led h =
-        read_row_typed types free_is left_is End end_typed literals readers next (first_filter operators) (behind_filter operators) a own declared readers_declared own_types (led_behind types free_is left_is operators led) h

@@ -1,5 +1,5 @@
 -- The block of a row whatever is innermost, and the same with something else there: where the one spares a local, the other counts it down.
-use Rattle.std.proofs.Common.{ℕ, ◌+◌, ◌*◌, inl, Bool, true, false, Option, Some, None, List, [], ◌∷◌, ◌++◌, length, map, refl, sym, subst}
+use Rattle.std.proofs.Common.{ℕ, ◌+◌, ◌*◌, inl, inr, Bool, true, false, Option, Some, None, List, [], ◌∷◌, ◌++◌, length, map, refl, sym, subst}
 use Rattle.qw_module.specs.declared.instruction.Load.TheVariants as loads
 use Rattle.qw_module.specs.declared.instruction.ValType.{ValType}
 use Rattle.qw_module.specs.declared.instruction.ValType.TheVariants.{I32}
@@ -9,6 +9,7 @@ use Rattle.qw_feed.specs.Stages.{Test, items_block, tests_block}
 use Rattle.qw_limit.specs.Counting.{CountsDown, Spares}
 use Rattle.qw_limit.proofs.CountedBlocks.{spares_counts, tests_count}
 use Rattle.qw_expr.specs.Computes.{Known}
+use Rattle.qw_read.specs.NullTests.{test_types}
 use Rattle.qw_read.specs.Reading.{known_of}
 use Rattle.qw_read.specs.declared.reader.Reader.{Reader}
 use Rattle.qw_table.specs.Joins.{Probes, guarded, unless_null}
@@ -16,8 +17,8 @@ use Rattle.qw_table.specs.Outer.{OuterProbes, goes_on, outer_choice, outer_front
 use Rattle.qw_table.specs.Tables.{probe_block}
 use Rattle.qw_table.specs.declared.key.Field.{Field}
 use Rattle.qw_physical.specs.Physical.{Operator, Probe, filter, probe}
-use Rattle.qw_operator.specs.Carries.{IsCarriedTo, IsFiltered, IsLookedUp, IsOuterProbed, IsProbed, behind_filter, clear_block, directory, known_entry}
-use Rattle.qw_operator.specs.Carrying.{IsRowTo}
+use Rattle.qw_operator.specs.Carries.{IsCarriedTo, IsFiltered, IsGuardedRow, IsLookedUp, IsOuterProbed, IsProbed, IsReadRow, IsRow, behind_filter, clear_block, directory, first_filter, known_entry}
+use Rattle.qw_operator.specs.Guarded.{picked, sure_where}
 
 module _ (z : ℕ) where
   -- where the one block spares the local, the other counts down
@@ -162,10 +163,10 @@ module _ (z : ℕ) where
     carried_plain (probe p ∷ operators) known next a own h =
         looked_up_plain p.outer known next p (λ held after b more. IsCarriedTo Plain held after operators b more) (λ held after b more. IsCarriedTo Other held after operators b more) a own (λ held after b more rest. carried_plain operators held after b more rest) h
 
-    pub row_plain : (literals : List Known) (readers : List Reader) (next : ℕ) (operators : List Operator) (a : Statement) (own : List ValType) → IsRowTo Other literals readers next operators a own →
-        (plain : Statement) × IsRowTo Plain literals readers next operators plain own × Follows plain a
-    row_plain literals readers next operators a own h =
-        let rest = carried_plain (behind_filter operators) (literals ++ map known_of readers) (next + length h.tests_own) h.rest h.rest_own h.carried in (
+    read_row_plain : (literals : List Known) (readers : List Reader) (next : ℕ) (cs : List Condition) (operators : List Operator) (a : Statement) (own : List ValType) → IsReadRow Other literals readers next cs operators a own →
+        (plain : Statement) × IsReadRow Plain literals readers next cs operators plain own × Follows plain a
+    read_row_plain literals readers next cs operators a own h =
+        let rest = carried_plain operators (literals ++ map known_of readers) (next + length h.tests_own) h.rest h.rest_own h.carried in (
           tests_block h.tests (seq h.reads rest.0),
           record {
             tests = h.tests;
@@ -182,3 +183,36 @@ module _ (z : ℕ) where
           },
           λ spares. subst (CountsDown z) (sym h.is) (tests_count z h.tests (seq h.reads rest.0) (seq h.reads h.rest) (λ inner. (spares_counts z h.reads inner.0, rest.2 inner.1)) spares),
         )
+
+    guarded_row_plain : (literals : List Known) (readers : List Reader) (next : ℕ) (cs : List Condition) (operators : List Operator) (a : Statement) (own : List ValType) → IsGuardedRow Other literals readers next cs operators a own →
+        (plain : Statement) × IsGuardedRow Plain literals readers next cs operators plain own × Follows plain a
+    guarded_row_plain literals readers next cs operators a own h =
+        let test : Test = record { out = h.out; block = h.guard } in
+        let inner = read_row_plain literals (map (sure_where h.is_tested) readers) (next + length (test_types (picked h.is_tested readers))) cs operators h.inner h.inner_own h.within in (
+          tests_block (test ∷ []) inner.0,
+          record {
+            first = h.first;
+            others = h.others;
+            cs_are = h.cs_are;
+            is_tested = h.is_tested;
+            unknown = h.unknown;
+            guard = h.guard;
+            out = h.out;
+            inner = inner.0;
+            inner_own = h.inner_own;
+            is = refl;
+            own_is = h.own_is;
+            tests = h.tests;
+            within = inner.1;
+          },
+          λ spares. subst (CountsDown z) (sym h.is) (tests_count z (test ∷ []) inner.0 h.inner inner.2 spares),
+        )
+
+    pub row_plain : (literals : List Known) (readers : List Reader) (next : ℕ) (operators : List Operator) (a : Statement) (own : List ValType) → IsRow Other literals readers next operators a own →
+        (plain : Statement) × IsRow Plain literals readers next operators plain own × Follows plain a
+    row_plain literals readers next operators a own (inl read) =
+        let made = read_row_plain literals readers next (first_filter operators) (behind_filter operators) a own read in
+        (made.0, inl made.1, made.2)
+    row_plain literals readers next operators a own (inr guarded) =
+        let made = guarded_row_plain literals readers next (first_filter operators) (behind_filter operators) a own guarded in
+        (made.0, inr made.1, made.2)

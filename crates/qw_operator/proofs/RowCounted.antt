@@ -21,17 +21,16 @@ use Rattle.qw_read.specs.declared.reader.Reader.{Reader}
 use Rattle.qw_table.specs.declared.key.Field.{Field}
 use Rattle.qw_leaves.proofs.LeafLists.{all_back, all_front}
 use Rattle.qw_physical.specs.Physical.{Operator}
-use Rattle.qw_operator.specs.Carries.{directory}
-use Rattle.qw_operator.proofs.CarriedTyped.{AreLed, IsReaderDeclared}
+use Rattle.qw_operator.specs.Carries.{IsRow, directory}
+use Rattle.qw_operator.proofs.CarriedTyped.{AreLed, IsReaderDeclared, row_to_typed}
 use Rattle.qw_operator.proofs.Fronts.{all_more}
 use Rattle.qw_operator.proofs.PipelineFeeds.{Laid, laid_within}
 use Rattle.qw_operator.proofs.Promised.{AreOwn}
 use Rattle.qw_operator.proofs.Seen.{AreWithin}
-use Rattle.qw_operator.specs.Carrying.{IsRowTo}
 use Rattle.qw_operator.specs.Grouping.{CanGroup, Group, IsGrouped}
 use Rattle.qw_operator.specs.Puts.{IsGroupedWithin, IsOneGroupWithin}
 use Rattle.qw_operator.specs.OneGroup.{IsOneGroup}
-use Rattle.qw_operator.proofs.GroupTyped.{grouped_typed, row_to_typed}
+use Rattle.qw_operator.proofs.GroupTyped.{grouped_typed}
 use Rattle.qw_operator.proofs.OneTyped.{one_typed}
 use Rattle.qw_operator.proofs.PlainRows.{Follows, row_plain}
 use Rattle.qw_operator.proofs.Redeclared.{known_again, led_again, own_again, readers_again, same_other}
@@ -93,7 +92,7 @@ module _ (types : List ValType) (free_is : slice_get types 1 ≡ Some I32) (left
         (plain_of : (known : List Known) (after : ℕ) (a : Statement) (own : List ValType) → Other known after a own → (plain : Statement) × Plain known after plain own × Follows z plain a)
         (wide_typed : (known : List Known) (after : ℕ) (a : Statement) (own : List ValType) → AreDeclared types known → AreOwn types after own → Plain known after a own → IsTyped types a)
         (narrow_typed : (known : List Known) (after : ℕ) (a : Statement) (own : List ValType) → AreDeclared narrow known → AreOwn narrow after own → Plain known after a own → IsTyped narrow a) where
-      pub row_counts_by : (operators : List Operator) (a : Statement) (own : List ValType) → 5 ≤ next → AreOwn types next own → AreLed types operators → IsRowTo Other literals readers next operators a own → CountsDown z a
+      pub row_counts_by : (operators : List Operator) (a : Statement) (own : List ValType) → 5 ≤ next → AreOwn types next own → AreLed types operators → IsRow Other literals readers next operators a own → CountsDown z a
       row_counts_by operators a own high own_types led h =
           let plain = row_plain z Plain Other plain_of literals readers next operators a own h in
           plain.2 (both_spare plain.0
@@ -136,18 +135,18 @@ module _ (types : List ValType) (free_is : slice_get types 1 ≡ Some I32) (left
       left_other : left ≢ z
       left_other e = let order = laid.counters in omega (arith, e, five, order.0, place.1)
 
-      pub row_counts : IsRowTo (λ known after b more. IsGroupedWithin (Some z) fields known after g b more) literals readers next operators a own → CountsDown z a
+      pub row_counts : IsRow (λ known after b more. IsGroupedWithin (Some z) fields known after g b more) literals readers next operators a own → CountsDown z a
       row_counts h = row_counts_by literals readers base left end low next five laid declared readers_declared (λ known after b more. IsGrouped fields known after g b more) (λ known after b more. IsGroupedWithin (Some z) fields known after g b more) plain_end
           (λ known after b more known_declared more_types is. grouped_typed types free_is left_is fields known after g b more can directory_is known_declared more_types is)
           (λ known after b more known_declared more_types is. grouped_typed narrow narrow_free narrow_left fields known after g b more can (narrow_directory g.table directory_is) known_declared more_types is) operators a own high own_types led h
 
-      pub scan_counts : IsRowTo (λ known after b more. IsGroupedWithin (Some z) fields known after g b more) literals readers next operators a own → CountsDown z (rows_block left a)
+      pub scan_counts : IsRow (λ known after b more. IsGroupedWithin (Some z) fields known after g b more) literals readers next operators a own → CountsDown z (rows_block left a)
       scan_counts h = rows_count z left a left_other (row_counts h)
 
-      pub one_row_counts : g.columns ≡ 0 → IsRowTo (λ known after b more. IsOneGroupWithin (Some z) fields known after g b more) literals readers next operators a own → CountsDown z a
+      pub one_row_counts : g.columns ≡ 0 → IsRow (λ known after b more. IsOneGroupWithin (Some z) fields known after g b more) literals readers next operators a own → CountsDown z a
       one_row_counts none h = row_counts_by literals readers base left end low next five laid declared readers_declared (λ known after b more. IsOneGroup fields known after g b more) (λ known after b more. IsOneGroupWithin (Some z) fields known after g b more) (one_end none)
           (λ known after b more known_declared more_types is. one_typed types fields known after g b more can none directory_is known_declared more_types is)
           (λ known after b more known_declared more_types is. one_typed narrow fields known after g b more can none (narrow_directory g.table directory_is) known_declared more_types is) operators a own high own_types led h
 
-      pub one_scan_counts : g.columns ≡ 0 → IsRowTo (λ known after b more. IsOneGroupWithin (Some z) fields known after g b more) literals readers next operators a own → CountsDown z (rows_block left a)
+      pub one_scan_counts : g.columns ≡ 0 → IsRow (λ known after b more. IsOneGroupWithin (Some z) fields known after g b more) literals readers next operators a own → CountsDown z (rows_block left a)
       one_scan_counts none h = rows_count z left a left_other (one_row_counts none h)

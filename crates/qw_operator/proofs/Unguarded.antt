@@ -1,5 +1,5 @@
 -- Where there is no local for a guard, what is emitted is what it is where nothing is counted.
-use Rattle.std.proofs.Common.{ℕ, Bool, true, false, None, List, [], ◌∷◌, sym, ◌∙◌, subst}
+use Rattle.std.proofs.Common.{ℕ, inl, inr, Bool, true, false, None, List, [], ◌∷◌, sym, ◌∙◌, subst}
 use Rattle.qw_module.specs.declared.instruction.ValType.{ValType}
 use Rattle.qw_low.specs.Syntax.{Statement}
 use Rattle.qw_expr.specs.Computes.{Known}
@@ -8,8 +8,7 @@ use Rattle.qw_read.specs.declared.reader.Reader.{Reader}
 use Rattle.qw_scalar.specs.Expression.{Condition}
 use Rattle.qw_table.specs.declared.key.Field.{Field}
 use Rattle.qw_physical.specs.Physical.{Operator, Probe, filter, probe}
-use Rattle.qw_operator.specs.Carries.{EmitsTo, IsCarriedTo, IsFiltered, IsLookedUp, IsOuterProbed, IsProbed}
-use Rattle.qw_operator.specs.Carrying.{EmitsRowTo}
+use Rattle.qw_operator.specs.Carries.{EmitsRow, EmitsTo, IsCarriedTo, IsFiltered, IsLookedUp, IsOuterProbed, IsProbed, IsReadRow, IsRowOf}
 use Rattle.qw_operator.specs.Grouping.{Group, IsGrouped}
 use Rattle.qw_operator.specs.Puts.{IsGroupedWithin, IsOneGroupWithin}
 use Rattle.qw_operator.specs.OneGroup.{IsOneGroup}
@@ -79,26 +78,47 @@ module _ (One Other : List Known → (next : ℕ) → Statement → List ValType
   emits_map known operators old new h =
       record { first_is = h.first_is; statement = h.statement; own = h.own; code_is = h.code_is; own_is = h.own_is; carried = carried_map operators known _ h.statement h.own h.carried }
 
-  pub row_map : (literals : List Known) (readers : List Reader) (operators : List Operator) (old new : Emitter) → EmitsRowTo One literals readers operators old new → EmitsRowTo Other literals readers operators old new
+  read_row_map : (literals : List Known) (readers : List Reader) (next : ℕ) (cs : List Condition) (operators : List Operator) (a : Statement) (own : List ValType) → IsReadRow One literals readers next cs operators a own → IsReadRow Other literals readers next cs operators a own
+  read_row_map literals readers next cs operators a own h = record {
+    tests = h.tests;
+    ends = h.ends;
+    tests_own = h.tests_own;
+    reads = h.reads;
+    rest = h.rest;
+    rest_own = h.rest_own;
+    is = h.is;
+    own_is = h.own_is;
+    decided = h.decided;
+    reading = h.reading;
+    carried = carried_map operators _ _ h.rest h.rest_own h.carried;
+  }
+
+  row_of_map : (literals : List Known) (readers : List Reader) (next : ℕ) (cs : List Condition) (operators : List Operator) (a : Statement) (own : List ValType) → IsRowOf One literals readers next cs operators a own → IsRowOf Other literals readers next cs operators a own
+  row_of_map literals readers next cs operators a own (inl read) = inl (read_row_map literals readers next cs operators a own read)
+  row_of_map literals readers next cs operators a own (inr h) = inr (record {
+    first = h.first;
+    others = h.others;
+    cs_are = h.cs_are;
+    is_tested = h.is_tested;
+    unknown = h.unknown;
+    guard = h.guard;
+    out = h.out;
+    inner = h.inner;
+    inner_own = h.inner_own;
+    is = h.is;
+    own_is = h.own_is;
+    tests = h.tests;
+    within = read_row_map literals _ _ cs operators h.inner h.inner_own h.within;
+  })
+
+  pub row_map : (literals : List Known) (readers : List Reader) (operators : List Operator) (old new : Emitter) → EmitsRow One literals readers operators old new → EmitsRow Other literals readers operators old new
   row_map literals readers operators old new h = record {
     first_is = h.first_is;
     statement = h.statement;
     own = h.own;
     code_is = h.code_is;
     own_is = h.own_is;
-    row = record {
-      tests = h.row.tests;
-      ends = h.row.ends;
-      tests_own = h.row.tests_own;
-      reads = h.row.reads;
-      rest = h.row.rest;
-      rest_own = h.row.rest_own;
-      is = h.row.is;
-      own_is = h.row.own_is;
-      decided = h.row.decided;
-      reading = h.row.reading;
-      carried = carried_map _ _ _ h.row.rest h.row.rest_own h.row.carried;
-    };
+    row = row_of_map literals readers _ _ _ h.statement h.own h.row;
   }
 
 -- ---- a row that is put into its group

@@ -15,7 +15,7 @@ use Rattle.qw_read.specs.declared.constant.Constant.{Constant}
 use Rattle.qw_read.specs.declared.reader.Reader.{Reader}
 use Rattle.qw_physical.specs.Coded.{operator_of}
 use Rattle.qw_operator.specs.Emitted.{AreOrdered}
-use Rattle.qw_operator.specs.Carrying.{span_to}
+use Rattle.qw_operator.specs.Span.{span}
 use Rattle.qw_operator.specs.Grouping.{group_of, group_span}
 use Rattle.qw_compile.specs.QueryLocals.{readers_over}
 use Rattle.qw_compile.proofs.CourseLengths.{course_short}
@@ -83,8 +83,8 @@ returns-clause-short c =
     let row = c.in_ok-_fields.ensures.emits in
     let coded = row.code_is ∙ ap (λ (l : List LowStep). l ++ steps_of row.statement) c.new-emitter.ensures.1 in
     let readers = c.args.places.now.readers.items in
-    course_short c.args.places.now.tables (record { index = pushed.0.index; begins = pushed.2; row = row.statement }) (length (readers_over c.args.entry readers)) (span_to c.args.operators.now (group_span c.args.group.now))
+    course_short c.args.places.now.tables (record { index = pushed.0.index; begins = pushed.2; row = row.statement }) (length (readers_over c.args.entry readers)) (span c.args.operators.now (group_span c.args.group.now))
     c.args.block.now.code.items c.push_course.new.block.code.items c.args.own.now.items c.extend_from_slice.new.self.items c.new-emitter.result c.emit_placed_row.new.emitter
     (subst (λ (l : List Reader). size pushed.2 ≤ 13 * length l) (c.deref-8.ensures.value ∙ r) pushed.3.short) (pushed.4 row.statement coded) coded
     (c.in_ok-extend_from_slice.ensures.items ∙ ap (λ (l : List ValType). c.args.own.now.items ++ l) c.deref-9.ensures.value) c.new-emitter.ensures.1 c.new-emitter.ensures.2
-    (subst (λ (rs : List Reader). extent c.emit_placed_row.new.emitter ≤ extent c.new-emitter.result + (span_to c.args.operators.now (group_span c.args.group.now) + 117 * length rs + 40)) (c.deref-7.ensures.value ∙ r) c.in_ok-_fields.ensures.short)
+    (subst (λ (rs : List Reader). extent c.emit_placed_row.new.emitter ≤ extent c.new-emitter.result + (span c.args.operators.now (group_span c.args.group.now) + 117 * length rs + 40)) (c.deref-7.ensures.value ∙ r) c.in_ok-_fields.ensures.short)

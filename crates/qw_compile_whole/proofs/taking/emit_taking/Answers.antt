@@ -19,7 +19,7 @@ use Rattle.qw_group.specs.Single.{single_block}
 use Rattle.qw_group.specs.declared.group.Aggregate.{Aggregate}
 use Rattle.qw_physical.specs.Coded.{operator_of}
 use Rattle.qw_operator.specs.Emitted.{AreOrdered}
-use Rattle.qw_operator.specs.Carrying.{span_to}
+use Rattle.qw_operator.specs.Span.{span}
 use Rattle.qw_operator.specs.Grouping.{group_of, group_span, over_fields}
 use Rattle.qw_compile.specs.QueryLocals.{readers_over}
 use Rattle.qw_compile.proofs.CoursePlaced.{indices_over, literals_first, ordered_over, served_over, sized_over, words_over}
@@ -116,9 +116,9 @@ returns-clause-short c =
     let row = c.in_ok-fields.ensures.emits in
     let coded = row.code_is ∙ ap (λ (l : List LowStep). l ++ steps_of row.statement) c.new-emitter.ensures.1 in
     let readers = c.args.places.now.readers.items in
-    taking_short c.args.guard c.args.places.now.tables (record { index = pushed.0.index; begins = pushed.2; row = row.statement }) (32 * length c.deref-10.result.now) c.directory.result (length (readers_over c.args.entry readers)) (span_to c.args.operators.now (group_span c.args.group.now))
+    taking_short c.args.guard c.args.places.now.tables (record { index = pushed.0.index; begins = pushed.2; row = row.statement }) (32 * length c.deref-10.result.now) c.directory.result (length (readers_over c.args.entry readers)) (span c.args.operators.now (group_span c.args.group.now))
     c.args.block.now.code.items c.push_count_from.new.block.code.items c.emit_single_start.new.block.code.items c.push_course.new.block.code.items c.push_stop_at.new.block.code.items c.args.own.now.items c.extend_from_slice.new.self.items c.new-emitter.result c.emit_placed_row.new.emitter
     c.in_ok-push_count_from.ensures c.in_ok-emit_single_start.ensures.0
     (subst (λ (l : List Reader). size pushed.2 ≤ 13 * length l) (c.deref-11.ensures.value ∙ r) pushed.3.short) (pushed.4 row.statement coded) c.in_ok-push_stop_at.ensures coded
     (c.in_ok-extend_from_slice.ensures.items ∙ ap (λ (l : List ValType). c.args.own.now.items ++ l) c.deref-12.ensures.value) c.new-emitter.ensures.1 c.new-emitter.ensures.2
-    (subst (λ (rs : List Reader). extent c.emit_placed_row.new.emitter ≤ extent c.new-emitter.result + (span_to c.args.operators.now (group_span c.args.group.now) + 117 * length rs + 40)) (c.deref-7.ensures.value ∙ r) c.in_ok-fields.ensures.short)
+    (subst (λ (rs : List Reader). extent c.emit_placed_row.new.emitter ≤ extent c.new-emitter.result + (span c.args.operators.now (group_span c.args.group.now) + 117 * length rs + 40)) (c.deref-7.ensures.value ∙ r) c.in_ok-fields.ensures.short)
