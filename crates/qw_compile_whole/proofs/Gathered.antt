@@ -76,13 +76,13 @@ pub record Suits (group : Group) (fields : List Field) (u most before : ℕ) (en
   pub first : (rows more : List (List Val)) → May (rows ++ more) → May rows
   pub small : group_size (key_fields group fields) (aggregates_of group fields) + u ≤ page
   pub few_rows : (xs : List (List Val)) → May xs → 1 ≤ length group.functions → length xs ≤ 10 ^ 18
-  pub chosen_rows : (row : List Val) (xs : List (List Val)) → May xs → AreChosenWithin group.columns group.functions xs row (chosen row)
+  pub chosen_within : (row : List Val) → AreChosenWithin group.columns group.functions row (chosen row)
   pub enough : (xs : List (List Val)) → May xs → before + length (keys (length (key_fields group fields)) xs) * group_size (key_fields group fields) (aggregates_of group fields) + 2 * u < (most + 1) * u
   pub met : (row : List Val) (xs : List (List Val)) → May xs → length (in_slot slot (slot (key_of (length (key_fields group fields)) row)) (keys (length (key_fields group fields)) xs)) ≤ entries row
 
 -- by what is known of all of these rows, where those that come are some of them
 pub suits : (group : Group) (fields : List Field) (u most budget : ℕ) (entries chosen : List Val → ℕ) (all : List (List Val)) → CanGroup group → kinds_of (sources_of fields) ≡ map kind_of group.values → (May : List (List Val) → Type 0) → ((rows more : List (List Val)) → May (rows ++ more) → May rows) →
-    ((xs : List (List Val)) → May xs → 1 ≤ length group.functions → length xs ≤ 10 ^ 18) → ((row : List Val) (xs : List (List Val)) → May xs → AreChosenWithin group.columns group.functions xs row (chosen row)) →
+    ((xs : List (List Val)) → May xs → 1 ≤ length group.functions → length xs ≤ 10 ^ 18) → ((row : List Val) → AreChosenWithin group.columns group.functions row (chosen row)) →
     ((xs : List (List Val)) → May xs → length (keys group.columns xs) ≤ length (keys group.columns all)) → ((j : ℕ) (xs : List (List Val)) → May xs → length (in_slot slot j (keys group.columns xs)) ≤ length (in_slot slot j (keys group.columns all))) →
     ((row : List Val) → length (in_slot slot (slot (key_of group.columns row)) (keys group.columns all)) ≤ entries row) → group_width group + u ≤ page → groups_paid u group budget all + 2 * u < (most + 1) * u →
     Suits group fields u most (budget + u + 4096) entries chosen May
