@@ -73,7 +73,7 @@ pub record ReachWith (Few : Type 0) (T n : ℕ) (columns : List ReadColumn) (lit
   pub entries : List Val → ℕ
   pub chosen : List Val → ℕ
   pub met : (row : List Val) → length (in_slot slot (slot (key_of g.columns row)) (keys g.columns (rows_met tables stoods p))) ≤ entries row
-  pub compared : (row : List Val) → AreChosenWithin g.columns g.functions (rows_met tables stoods p) row (chosen row)
+  pub compared : (row : List Val) → AreChosenWithin g.columns g.functions row (chosen row)
   pub cost : 1 + pipeline_cost_to g.values (turn_of g entries chosen) tables (built_of stoods) p ≤ N
   pub few : Few
   pub fits : group_width g + u ≤ page

@@ -52,7 +52,7 @@ pub record TakeReach (T n : ℕ) (columns : List ReadColumn) (literals : List Kn
   pub has_column : HasColumnOf columns p.entry
   pub finds : Finds T n columns literals tables N stoods p
   pub chosen : List Val → ℕ
-  pub compared : (row : List Val) → AreChosenWithin 0 g.functions (rows_met tables stoods p) row (chosen row)
+  pub compared : (row : List Val) → AreChosenWithin 0 g.functions row (chosen row)
   pub cost : 1 + pipeline_cost_to g.values chosen tables (built_of stoods) p ≤ N
   pub few : 1 ≤ length g.functions → length (rows_met tables stoods p) < 10 ^ 18
   pub fits : 32 * length g.functions + u ≤ page

@@ -1,7 +1,6 @@
 -- What an entry of a table of groups says of a set function (ISO/IEC 9075:1992, 6.5): an area of 32 octets, which has a sum's two words, or the least
 -- or the greatest value, and from octet 16 on how many values were taken. The block of Low that takes one value more in place.
 use Rattle.std.specs.Prelude.{◌≡◌, ℕ, ◌+◌, ◌-◌, ◌*◌, ◌^◌, ◌≤◌, ◌<◌, unsigned_abs, IsTrue, Bool, Option, Some, None, List, [], ◌∷◌, ◌++◌, length, slice_get}
-use Rattle.std.specs.List.{AllByRecursion}
 use Rattle.qw_types.specs.Arithmetic.{fits}
 use Rattle.qw_types.specs.Kind.{IsOfKind}
 use Rattle.qw_types.specs.declared.kind.Kind.{Kind}

@@ -97,10 +97,10 @@ module _ (Text : Part → ℕ → List ℕ → Type 0) (locals : List Value) (ro
       one Max t = supplied.0
 
 -- ---- what MIN and MAX compare, of set functions that have an argument
-pub chosen_over : (xs : List (List Val)) (row : List Val) (n place : ℕ) (functions : List SetFunctionKind) (fs : List Field) → AreChosenWithin place functions xs row n → AreChosenWithin place (functions_in (over_fields functions fs)) xs row n
-chosen_over xs row n place [] fs h = tt
-chosen_over xs row n place (g ∷ functions) [] h = tt
-chosen_over xs row n place (g ∷ functions) (f ∷ fs) h = (h.0, chosen_over xs row n (place + 1) functions fs h.1)
+pub chosen_over : (row : List Val) (n place : ℕ) (functions : List SetFunctionKind) (fs : List Field) → AreChosenWithin place functions row n → AreChosenWithin place (functions_in (over_fields functions fs)) row n
+chosen_over row n place [] fs h = tt
+chosen_over row n place (g ∷ functions) [] h = tt
+chosen_over row n place (g ∷ functions) (f ∷ fs) h = (h.0, chosen_over row n (place + 1) functions fs h.1)
 
 -- ---- the types of the locals of arguments
 pub arguments_declared : (types : List ValType) (functions : List SetFunctionKind) (fs : List Field) → AreDeclared types fs → TakeKinds functions (kinds_of (sources_of fs)) → DeclareArguments types (over_fields functions fs)

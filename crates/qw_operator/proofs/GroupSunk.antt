@@ -95,7 +95,7 @@ groups_later c s t key aggregates k o d u before rows longer h = record {
 module _ (c : Cells) (stoods : List Stood) (base most fuel many : ℕ) (types : List ValType) (g : Group) (can : CanGroup g) (fields : List Field) (k o u before : ℕ) (entries chosen : List Val → ℕ) (May : List (List Val) → Type 0) (beginnings : (rows more : List (List Val)) → May (rows ++ more) → May rows)
     (low_d : directory g.table < base) (small : group_size (key_fields g fields) (aggregates_of g fields) + u ≤ page)
     (few_rows : (xs : List (List Val)) → May xs → 1 ≤ length g.functions → length xs ≤ 10 ^ 18)
-    (chosen_rows : (row : List Val) (xs : List (List Val)) → May xs → AreChosenWithin g.columns g.functions xs row (chosen row))
+    (chosen_within : (row : List Val) → AreChosenWithin g.columns g.functions row (chosen row))
     (enough : (xs : List (List Val)) → May xs → before + length (keys (length (key_fields g fields)) xs) * group_size (key_fields g fields) (aggregates_of g fields) + 2 * u < (most + 1) * u)
     (met : (row : List Val) (xs : List (List Val)) → May xs → length (in_slot slot (slot (key_of (length (key_fields g fields)) row)) (keys (length (key_fields g fields)) xs)) ≤ entries row) where
   abbrev key : List Field
@@ -140,7 +140,7 @@ module _ (c : Cells) (stoods : List Stood) (base most fuel many : ℕ) (types : 
         (subst (TakeKinds g.functions) (sym (kinds_dropped g.columns fields)) takes)
         (supplied_dropped (StandsIn c t) t.locals g.columns fields vs supplied))
         (λ xs may' some. few_rows xs may' (few some))
-        (λ xs may'. subst (λ (n : ℕ). AreChosenWithin n (functions_in aggregates) xs vs (chosen vs)) (sym long_key) (chosen_over xs vs (chosen vs) g.columns g.functions (drop g.columns fields) (chosen_rows vs xs may')))
+        (subst (λ (n : ℕ). AreChosenWithin n (functions_in aggregates) vs (chosen vs)) (sym long_key) (chosen_over vs (chosen vs) g.columns g.functions (drop g.columns fields) (chosen_within vs)))
         (omega (arith, whole, turns)) (omega (arith, whole, turns)) room
         N (omega (arith, met_few, turns)) whole enough (met vs) so_far has may)
 

@@ -26,17 +26,17 @@ use Rattle.qw_operator.proofs.GroupSunk.{group_sunk, grouping_kept, grouping_sin
 module _ (c : Cells) (stoods : List Stood) (base : ℕ) (high : 5 + length stoods ≤ base) (most fuel many : ℕ) (types : List ValType) (g : Group) (can : CanGroup g) (fields : List Field) (k o u before : ℕ) (entries chosen : List Val → ℕ) (May : List (List Val) → Type 0) (beginnings : (rows more : List (List Val)) → May (rows ++ more) → May rows)
     (low_d : directory g.table < base) (small : group_size (key_fields g fields) (aggregates_of g fields) + u ≤ page)
     (few_rows : (xs : List (List Val)) → May xs → 1 ≤ length g.functions → length xs ≤ 10 ^ 18)
-    (chosen_rows : (row : List Val) (xs : List (List Val)) → May xs → AreChosenWithin g.columns g.functions xs row (chosen row))
+    (chosen_within : (row : List Val) → AreChosenWithin g.columns g.functions row (chosen row))
     (enough : (xs : List (List Val)) → May xs → before + length (keys (length (key_fields g fields)) xs) * group_size (key_fields g fields) (aggregates_of g fields) + 2 * u < (most + 1) * u)
     (met : (row : List Val) (xs : List (List Val)) → May xs → length (in_slot slot (slot (key_of (length (key_fields g fields)) row)) (keys (length (key_fields g fields)) xs)) ≤ entries row)
     (seen_before : (j a w : ℕ) (v : Value) → c (Own j) a w ≡ Some v → pos j a + w ≤ pos k o) (tables_before : (t : ℕ) (st : Stood) → slice_get stoods t ≡ Some st → st.front ≤ pos k o) where
   abbrev pub grouped : FlowSink
-  grouped = grouping_sink c stoods base most fuel many types g can fields k o u before entries chosen May beginnings low_d small few_rows chosen_rows enough met
+  grouped = grouping_sink c stoods base most fuel many types g can fields k o u before entries chosen May beginnings low_d small few_rows chosen_within enough met
 
   pub grouped_runs : Runs c stoods base grouped
   grouped_runs = record {
     high = high;
-    kept = λ n rows s t le kept has. grouping_kept c stoods base most fuel many types g can fields k o u before entries chosen May beginnings low_d small few_rows chosen_rows enough met n rows s t le kept has;
+    kept = λ n rows s t le kept has. grouping_kept c stoods base most fuel many types g can fields k o u before entries chosen May beginnings low_d small few_rows chosen_within enough met n rows s t le kept has;
     seen_spared = seen_before;
     tables_spared = λ t st there at width from to. (let order = tables_before t st there in omega (arith, order, to));
   }
@@ -50,4 +50,4 @@ module _ (c : Cells) (stoods : List Stood) (base : ℕ) (high : 5 + length stood
   -- what the block of one row feeds
   pub row_grouped : FeedsEnd c stoods base grouped most fuel many types End (select g.values) turn
   row_grouped N next known row a own s some fueled low room within declared own_types is at kinds few units here =
-      group_sunk c stoods base most fuel many types g can fields k o u before entries chosen May beginnings low_d small few_rows chosen_rows enough met grouped_runs (built_of stoods) N next known row a own s some fueled low room within declared own_types is at kinds units here
+      group_sunk c stoods base most fuel many types g can fields k o u before entries chosen May beginnings low_d small few_rows chosen_within enough met grouped_runs (built_of stoods) N next known row a own s some fueled low room within declared own_types is at kinds units here

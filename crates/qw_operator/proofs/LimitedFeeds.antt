@@ -72,19 +72,19 @@ groups_put c s key aggregates k o d u before z v rows high low h =
 module _ (c : Cells) (stoods : List Stood) (base : ℕ) (high : 5 + length stoods ≤ base) (most fuel many : ℕ) (types : List ValType) (g : Group) (can : CanGroup g) (fields : List Field) (k o u before : ℕ) (entries chosen : List Val → ℕ) (May : List (List Val) → Type 0) (beginnings : (rows more : List (List Val)) → May (rows ++ more) → May rows)
     (low_d : directory g.table < base) (small : group_size (key_fields g fields) (aggregates_of g fields) + u ≤ page)
     (few_rows : (xs : List (List Val)) → May xs → 1 ≤ length g.functions → length xs ≤ 10 ^ 18)
-    (chosen_rows : (row : List Val) (xs : List (List Val)) → May xs → AreChosenWithin g.columns g.functions xs row (chosen row))
+    (chosen_within : (row : List Val) → AreChosenWithin g.columns g.functions row (chosen row))
     (enough : (xs : List (List Val)) → May xs → before + length (keys (length (key_fields g fields)) xs) * group_size (key_fields g fields) (aggregates_of g fields) + 2 * u < (most + 1) * u)
     (met : (row : List Val) (xs : List (List Val)) → May xs → length (in_slot slot (slot (key_of (length (key_fields g fields)) row)) (keys (length (key_fields g fields)) xs)) ≤ entries row)
     (seen_before : (j a w : ℕ) (v : Value) → c (Own j) a w ≡ Some v → pos j a + w ≤ pos k o) (tables_before : (t : ℕ) (st : Stood) → slice_get stoods t ≡ Some st → st.front ≤ pos k o)
     (limit z : ℕ) (counted : limit < 2 ^ 64) (place : (3 ≤ z) × (z ≤ 4)) (free_is : slice_get types 1 ≡ Some I32) (left_is : slice_get types 2 ≡ Some I32) (z_is : slice_get types z ≡ Some I64) (directory_is : slice_get types (directory g.table) ≡ Some I32) where
   abbrev all : FlowSink
-  all = grouped c stoods base high most fuel many types g can fields k o u before entries chosen May beginnings low_d small few_rows chosen_rows enough met seen_before tables_before
+  all = grouped c stoods base high most fuel many types g can fields k o u before entries chosen May beginnings low_d small few_rows chosen_within enough met seen_before tables_before
 
   all_runs : Runs c stoods base all
-  all_runs = grouped_runs c stoods base high most fuel many types g can fields k o u before entries chosen May beginnings low_d small few_rows chosen_rows enough met seen_before tables_before
+  all_runs = grouped_runs c stoods base high most fuel many types g can fields k o u before entries chosen May beginnings low_d small few_rows chosen_within enough met seen_before tables_before
 
   abbrev pub first_grouped : FlowSink
-  first_grouped = limit_of limit z (grouped c stoods base high most fuel many types g can fields k o u before entries chosen May beginnings low_d small few_rows chosen_rows enough met seen_before tables_before)
+  first_grouped = limit_of limit z (grouped c stoods base high most fuel many types g can fields k o u before entries chosen May beginnings low_d small few_rows chosen_within enough met seen_before tables_before)
 
   pub first_grouped_runs : Runs c stoods base first_grouped
   first_grouped_runs = record {
@@ -113,7 +113,7 @@ module _ (c : Cells) (stoods : List Stood) (base : ℕ) (high : 5 + length stood
       (λ vs t come kept supplied.
       guarded_feeds limit z counted all (λ rows v w has. groups_put c w (key_fields g fields) (aggregates_of g fields) k o (directory g.table) u before z v rows place.0 (omega (arith, place.1)) has)
       most fuel N some (Below next) not_old vs is.enter spares t
-      (row_entered c stoods base most fuel many types g can fields k o u before entries chosen May beginnings low_d small few_rows chosen_rows enough met all_runs (built_of stoods) N next known row h.plain own s fueled low room within declared own_types is kinds units here vs t come kept supplied)))
+      (row_entered c stoods base most fuel many types g can fields k o u before entries chosen May beginnings low_d small few_rows chosen_within enough met all_runs (built_of stoods) N next known row h.plain own s fueled low room within declared own_types is kinds units here vs t come kept supplied)))
     where
       not_old : (i : ℕ) → Below next i → i ≡ z → ⊥
       not_old i (inl first) e = omega (arith, first, e, place.0)

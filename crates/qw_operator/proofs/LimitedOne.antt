@@ -49,17 +49,17 @@ one_put c s aggregates k o e u budget z v rows high low h =
 -- the most rows that are taken.
 module _ (c : Cells) (stoods : List Stood) (base : ℕ) (high : 5 + length stoods ≤ base) (most fuel many : ℕ) (types : List ValType) (g : Group) (can : CanGroup g) (none : g.columns ≡ 0) (fields : List Field) (k o u budget : ℕ) (chosen : List Val → ℕ) (May : List (List Val) → Type 0)
     (beginnings : (rows more : List (List Val)) → May (rows ++ more) → May rows) (low_e : directory g.table < base) (few_rows : (xs : List (List Val)) → May xs → 1 ≤ length g.functions → length xs ≤ 10 ^ 18)
-    (chosen_rows : (row : List Val) (xs : List (List Val)) → May xs → AreChosenWithin 0 g.functions xs row (chosen row))
+    (chosen_within : (row : List Val) → AreChosenWithin 0 g.functions row (chosen row))
     (seen_before : (j a w : ℕ) (v : Value) → c (Own j) a w ≡ Some v → pos j a + w ≤ pos k o) (tables_before : (t : ℕ) (st : Stood) → slice_get stoods t ≡ Some st → st.front ≤ pos k o)
     (limit z : ℕ) (counted : limit < 2 ^ 64) (place : (3 ≤ z) × (z ≤ 4)) (free_is : slice_get types 1 ≡ Some I32) (left_is : slice_get types 2 ≡ Some I32) (z_is : slice_get types z ≡ Some I64) (directory_is : slice_get types (directory g.table) ≡ Some I32) where
   abbrev all : FlowSink
-  all = taken c stoods base high most fuel many types g can none fields k o u budget chosen May beginnings low_e few_rows chosen_rows seen_before tables_before
+  all = taken c stoods base high most fuel many types g can none fields k o u budget chosen May beginnings low_e few_rows chosen_within seen_before tables_before
 
   all_runs : Runs c stoods base all
-  all_runs = taken_runs c stoods base high most fuel many types g can none fields k o u budget chosen May beginnings low_e few_rows chosen_rows seen_before tables_before
+  all_runs = taken_runs c stoods base high most fuel many types g can none fields k o u budget chosen May beginnings low_e few_rows chosen_within seen_before tables_before
 
   abbrev pub first_taken : FlowSink
-  first_taken = limit_of limit z (taken c stoods base high most fuel many types g can none fields k o u budget chosen May beginnings low_e few_rows chosen_rows seen_before tables_before)
+  first_taken = limit_of limit z (taken c stoods base high most fuel many types g can none fields k o u budget chosen May beginnings low_e few_rows chosen_within seen_before tables_before)
 
   pub first_taken_runs : Runs c stoods base first_taken
   first_taken_runs = record {
@@ -85,7 +85,7 @@ module _ (c : Cells) (stoods : List Stood) (base : ℕ) (high : 5 + length stood
       (λ vs t come kept supplied.
       guarded_feeds limit z counted all (λ rows v w has. one_put c w (over_fields g.functions fields) k o (directory g.table) u budget z v rows place.0 (omega (arith, place.1)) has)
       most fuel N some (Below next) not_old vs is.enter spares t
-      (one_entered c stoods base high most fuel many types g can none fields k o u budget chosen May beginnings low_e few_rows chosen_rows seen_before tables_before N next known row h.plain own s fueled low room within declared own_types is kinds units here vs t come kept supplied)))
+      (one_entered c stoods base high most fuel many types g can none fields k o u budget chosen May beginnings low_e few_rows chosen_within seen_before tables_before N next known row h.plain own s fueled low room within declared own_types is kinds units here vs t come kept supplied)))
     where
       not_old : (i : ℕ) → Below next i → i ≡ z → ⊥
       not_old i (inl first) e = omega (arith, first, e, place.0)

@@ -85,7 +85,7 @@ one_moved Text aggregates k o e u budget rows n s t high low kept h = record {
 -- functions there are at most 10^18 rows.
 module _ (c : Cells) (stoods : List Stood) (base : ℕ) (high : 5 + length stoods ≤ base) (most fuel many : ℕ) (types : List ValType) (g : Group) (can : CanGroup g) (none : g.columns ≡ 0) (fields : List Field) (k o u budget : ℕ) (chosen : List Val → ℕ) (May : List (List Val) → Type 0)
     (beginnings : (rows more : List (List Val)) → May (rows ++ more) → May rows) (low_e : directory g.table < base) (few_rows : (xs : List (List Val)) → May xs → 1 ≤ length g.functions → length xs ≤ 10 ^ 18)
-    (chosen_rows : (row : List Val) (xs : List (List Val)) → May xs → AreChosenWithin 0 g.functions xs row (chosen row))
+    (chosen_within : (row : List Val) → AreChosenWithin 0 g.functions row (chosen row))
     (seen_before : (j a w : ℕ) (v : Value) → c (Own j) a w ≡ Some v → pos j a + w ≤ pos k o) (tables_before : (t : ℕ) (st : Stood) → slice_get stoods t ≡ Some st → st.front ≤ pos k o) where
   abbrev aggregates : List Aggregate
   aggregates = over_fields g.functions fields
@@ -120,7 +120,7 @@ module _ (c : Cells) (stoods : List Stood) (base : ℕ) (high : 5 + length stood
         (single_feeds (StandsIn c t) aggregates e free a updates (omega arith, omega (arith, low_e, behind)) (arguments_use free g.functions fields uses) k o u budget most fuel (chosen vs) N May beginnings vs t
         (λ w keeps p at octets text. stands_more c w p at octets (less_keeps c (Below free) (Before (pos k o)) t w seen_before keeps less) (stands_later c t w p at octets (longer_keeps (Below free) (Before (pos k o)) t w keeps) text))
         (given (StandsIn c t) t.locals vs g.functions fields 0 vs refl takes supplied)
-        (λ xs may' some. few_rows xs may' (few some)) (λ xs may'. chosen_over xs vs (chosen vs) 0 g.functions fields (chosen_rows vs xs may')) units turns room so_far has may)
+        (λ xs may' some. few_rows xs may' (few some)) (chosen_over vs (chosen vs) 0 g.functions fields (chosen_within vs)) units turns room so_far has may)
 
   -- where its values are in locals
   pub one_entered : (N next : ℕ) (known : List Known) (row : List Val) (a : Statement) (own : List ValType) (s : LowState) → N ≤ fuel → base ≤ next → next + length own ≤ many → AreWithin next known → AreDeclared types known → AreOwn types next own → (is : IsOneGroup fields known next g a own) →
