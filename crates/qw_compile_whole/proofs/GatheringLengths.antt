@@ -79,20 +79,15 @@ grouped_short front walks code1 code2 code3 code4 own1 own2 before begun walked 
     omega (arith, two, four, before, walked)
 
 -- ---- a pipeline whose rows go into groups, and one that would make rows of their values
-pub span_apart : (os : List Operator) (s : Sink) → span os s ≡ span os (sink_span s)
-span_apart [] s = refl
-span_apart (o ∷ os) s = ap (λ (n : ℕ). operator_span o + n) (span_apart os s)
-
 pub span_more : (os : List Operator) (m n d : ℕ) → m ≡ n + d → span os m ≡ span os n + d
 span_more [] m n d h = h
 span_more (o ∷ os) m n d h = let rest = span_more os m n d h in omega (arith, rest)
 
 pub gathering_as_course : (readers : List Reader) (p : Pipeline) (g : Group) → p.sink ≡ sink.Select g.values → gathering_span readers p.entry p.operators.items g ≡ course_span readers p + 356 * length g.values.items + 100
 gathering_as_course readers p g is =
-    let one = span_apart p.operators.items p.sink in
     let two = ap (λ (s : Sink). span p.operators.items (sink_span s)) is in
     let three = span_more p.operators.items (group_span g) (sink_span (sink.Select g.values)) (356 * length g.values.items + 100) (omega arith) in
-    omega (arith, one, two, three)
+    omega (arith, two, three)
 
 -- ---- of a query that is short
 pub parts_short : (readers : List Reader) → ((entry : ℕ) → length (readers_over entry readers) ≤ 64) → (ps : List Pipeline) → AllByRecursion CanBe ps → (behind : Pipeline) → CanBe behind → (columns functions : ℕ) → AreShortGrouped ps behind (columns + functions) →

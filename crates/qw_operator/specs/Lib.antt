@@ -13,3 +13,4 @@ pub mod Opened
 pub mod Puts
 pub mod Span
 pub mod Takes
+pub mod WorkedEnds

@@ -13,6 +13,7 @@
 //! - [`lookup`]: a table is looked up, and at each entry that has the key the columns that it keeps are known.
 //! - [`outer`]: the same of a LEFT JOIN, where a row goes on alone that no entry passes with.
 //! - [`entry`]: the columns that a table's entries keep are read.
+//! - [`worked_laws`]: worked cases of what is innermost.
 //! - [`fields`], [`locals`]: where the fields of keys and of entries are, and which locals are declared.
 #![tactic(auto)]
 
@@ -33,3 +34,4 @@ pub mod put;
 pub mod row;
 pub mod sink;
 mod strict;
+pub mod worked_laws;
