@@ -36,15 +36,11 @@ use Rattle.qw_compile.specs.declared.courses.Places.{Places}
 use Rattle.qw_compile_whole.specs.GroupedPlaced.{EmitsFront, EmitsGathering, EmitsGrouped, EmitsWalk, gathering_of}
 use Rattle.qw_compile_whole.specs.GroupedStatements.{IsGatheringTo}
 use Rattle.qw_compile_whole.specs.GuardedStatements.{IsGatheringBy, count_from, gather_block, stop_at}
-use Rattle.qw_compile_whole.proofs.ScanPlaced.{behind_none, free_at, row_over, scan_as, scan_placed}
+use Rattle.qw_compile_whole.proofs.ScanPlaced.{behind_none, free_at, scan_as, scan_placed}
 
 -- ---- the scan
 abbrev pub End : (guard : Option ℕ) → List Field → Group → List Known → (next : ℕ) → Statement → List ValType → Type 0
 End guard fields g = λ known at a more. IsGroupedWithin guard fields known at g a more
-
-pub row_to_as : (guard : Option ℕ) (fields : List Field) (g : Group) (ks known : List Known) (rs readers : List Reader) (os operators : List Operator) (old new : Emitter) → ks ≡ known → rs ≡ readers → os ≡ operators → EmitsRow (End guard fields g) ks rs os old new →
-    EmitsRow (End guard fields g) known readers operators old new
-row_to_as guard fields g ks known rs readers os operators old new one two three h = row_over (End guard fields g) ks known rs readers os operators old new one two three h
 
 -- whatever is innermost
 module _ (guard : Option ℕ) (E : List Known → (next : ℕ) → Statement → List ValType → Type 0) (p : Places) (first entry : ℕ) (operators : List Operator) (g : Group) (fields : List Field) (old new : List LowStep) (own_old own_new : List ValType) (e0 e1 : Emitter) (head : Reader) (begins : Statement) where

@@ -26,11 +26,6 @@ pub behind_none : {A : Type 0} (old new begun all more : List A) → new ≡ old
 behind_none old new begun all more one two none = one ∙ ap (λ (l : List _). old ++ l) (two ∙ ap (λ (l : List _). l ++ more) none)
 
 module _ (E : List Known → (next : ℕ) → Statement → List ValType → Type 0) where
-  pub row_over : (ks known : List Known) (rs readers : List Reader) (os operators : List Operator) (old new : Emitter) → ks ≡ known → rs ≡ readers → os ≡ operators → EmitsRow E ks rs os old new → EmitsRow E known readers operators old new
-  row_over ks known rs readers os operators old new one two three h =
-      subst (λ (l : List Known). EmitsRow E l readers operators old new) one
-      (subst (λ (l : List Reader). EmitsRow E ks l operators old new) two (subst (λ (l : List Operator). EmitsRow E ks rs l old new) three h))
-
   pub scan_placed : (p : Places) (first entry : ℕ) (operators : List Operator) (g : Group) (own_old : List ValType) (e0 e1 : Emitter) (head : Reader) (begins : Statement) → e0.first ≡ first + length own_old → e0.own.items ≡ [] →
       (e : EmitsRow E (literals_placed p) (readers_over entry p.readers.items) operators e0 e1) → slice_get (readers_over entry p.readers.items) 0 ≡ Some head → BeginsAll (readers_over entry p.readers.items) begins →
       IsGatheringTo E (literals_placed p) p.readers.items (first + length own_old) (gathering_of entry operators g) (record { index = head.index; begins = begins; row = e.statement }) e.own

@@ -35,14 +35,11 @@ use Rattle.qw_compile_whole.specs.GuardedStatements.{count_from, stop_at}
 use Rattle.qw_compile_whole.specs.SinglePlaced.{EmitsOne, EmitsSingle, EmitsTaking}
 use Rattle.qw_compile_whole.specs.SingleStatements.{take_block}
 use Rattle.qw_compile_whole.proofs.GatheringPlaced.{front_chained}
-use Rattle.qw_compile_whole.proofs.ScanPlaced.{behind_none, free_at, row_over, scan_as, scan_placed}
+use Rattle.qw_compile_whole.proofs.ScanPlaced.{behind_none, free_at, scan_as, scan_placed}
 
 -- ---- the scan
 abbrev pub End : (guard : Option ℕ) → List Field → Group → List Known → (next : ℕ) → Statement → List ValType → Type 0
 End guard fields g = λ known at a more. IsOneGroupWithin guard fields known at g a more
-
-pub row_taken : (guard : Option ℕ) (fields : List Field) (g : Group) (ks known : List Known) (rs readers : List Reader) (operators : List Operator) (old new : Emitter) → ks ≡ known → rs ≡ readers → EmitsRow (End guard fields g) ks rs operators old new → EmitsRow (End guard fields g) known readers operators old new
-row_taken guard fields g ks known rs readers operators old new one two h = row_over (End guard fields g) ks known rs readers operators operators old new one two refl h
 
 -- its steps, with those that count around them
 take_steps : (guard : Option ℕ) (t n f : ℕ) (c : Course) → steps_of (take_block_by guard t n f c) ≡ steps_of (count_from guard) ++ ((steps_of (single_block (32 * f) (directory n)) ++ steps_of (course_block t c)) ++ steps_of (stop_at guard))

@@ -92,7 +92,8 @@ pub fn emit_groups(
 {
     let count = declare(emitter, &[ValType::I32, ValType::I32])?;
     let Met { mut inner, known } = open_group(alloc, count + 2, columns, literals)?;
-    let Ended { kinds, .. } = emit_operators(alloc, &mut inner, operators, End::Sink(sink), known)?;
+    let end = End::Sink(sink);
+    let Ended { kinds, .. } = emit_operators(alloc, &mut inner, operators, end, known)?;
     emit_group_walk(alloc, &mut emitter.block, directory, count, &inner.block)?;
     emitter.own.extend_from_slice(&inner.own)?;
     Ok(kinds)

@@ -51,6 +51,7 @@ pub fn emit_one_group(
     let mut rest = literals;
     let mut known = read_values(alloc, emitter, areas, 0, values)?;
     known.append(&mut rest)?;
-    let Ended { kinds, .. } = emit_operators(alloc, emitter, operators, End::Sink(sink), known)?;
+    let end = End::Sink(sink);
+    let Ended { kinds, .. } = emit_operators(alloc, emitter, operators, end, known)?;
     Ok(kinds)
 }

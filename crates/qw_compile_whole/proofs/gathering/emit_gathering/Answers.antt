@@ -19,8 +19,8 @@ use Rattle.qw_operator.specs.Span.{span}
 use Rattle.qw_operator.specs.Grouping.{group_of, group_span}
 use Rattle.qw_compile.specs.QueryLocals.{readers_over}
 use Rattle.qw_compile.proofs.CourseLengths.{course_short}
-use Rattle.qw_compile.proofs.CoursePlaced.{indices_over, literals_first, ordered_over, served_over, sized_over, words_over}
-use Rattle.qw_compile_whole.proofs.GatheringPlaced.{gathering_emitted, row_to_as}
+use Rattle.qw_compile.proofs.CoursePlaced.{indices_over, literals_first, ordered_over, row_as, served_over, sized_over, words_over}
+use Rattle.qw_compile_whole.proofs.GatheringPlaced.{End, gathering_emitted}
 use Rattle.qw_compile_whole.proofs.gathering.emit_gathering.Goals as goal
 
 pub bindings_of-requires-clause-sized : goal.bindings_of-requires-clause-sized
@@ -69,7 +69,7 @@ returns-clause-emits c =
     gathering_emitted c.args.guard c.args.places.now c.args.first c.args.entry (map operator_of c.args.operators.now) (group_of c.args.group.now) fields c.args.block.now.code.items c.push_course.new.block.code.items c.args.own.now.items c.extend_from_slice.new.self.items c.new-emitter.result
     c.emit_row.new.emitter pushed.0 pushed.2
     (c.new-emitter.ensures.0 ∙ (c.in_ok-behind.ensures ∙ ap (λ (l : List ValType). c.args.first + length l) c.deref-6.ensures.value)) c.new-emitter.ensures.1 c.new-emitter.ensures.2
-    (row_to_as c.args.guard fields (group_of c.args.group.now) _ _ _ _ _ (map operator_of c.args.operators.now) c.new-emitter.result c.emit_row.new.emitter front (c.deref-7.ensures.value ∙ r) refl c.in_ok-_ended.ensures.emits)
+    (row_as (End c.args.guard fields (group_of c.args.group.now)) _ _ _ _ _ (map operator_of c.args.operators.now) c.new-emitter.result c.emit_row.new.emitter front (c.deref-7.ensures.value ∙ r) refl c.in_ok-_ended.ensures.emits)
     c.in_ok-_ended.ensures.values
     (ap (λ (l : List Reader). slice_get l 0) (sym (c.deref-8.ensures.value ∙ r)) ∙ pushed.1)
     (subst (λ (l : List Reader). BeginsAll l pushed.2) (c.deref-8.ensures.value ∙ r) pushed.3)

@@ -1,4 +1,4 @@
-use Rattle.std.proofs.Common.{◌++◌, ◌+◌, ◌*◌, ◌≤◌, All, ℕ, List, length, map, slice_get, sym, ap, ap₂, ◌∙◌, subst, arith}
+use Rattle.std.proofs.Common.{◌++◌, ◌+◌, ◌*◌, ◌≤◌, All, ℕ, List, length, map, slice_get, refl, sym, ap, ap₂, ◌∙◌, subst, arith}
 use Rattle.std.specs.List.{AllByRecursion}
 use Rattle.qw_types.specs.Value.{IsSized}
 use Rattle.qw_grouped.specs.declared.set_function.SetFunctionKind.{SetFunctionKind}
@@ -22,10 +22,10 @@ use Rattle.qw_operator.specs.Emitted.{AreOrdered}
 use Rattle.qw_operator.specs.Span.{span}
 use Rattle.qw_operator.specs.Grouping.{group_of, group_span, over_fields}
 use Rattle.qw_compile.specs.QueryLocals.{readers_over}
-use Rattle.qw_compile.proofs.CoursePlaced.{indices_over, literals_first, ordered_over, served_over, sized_over, words_over}
+use Rattle.qw_compile.proofs.CoursePlaced.{indices_over, literals_first, ordered_over, row_as, served_over, sized_over, words_over}
 use Rattle.qw_compile_whole.proofs.FieldCounts.{areas_long, fields_long}
 use Rattle.qw_compile_whole.proofs.TakingLengths.{taking_short}
-use Rattle.qw_compile_whole.proofs.TakingPlaced.{row_taken, taking_emitted}
+use Rattle.qw_compile_whole.proofs.TakingPlaced.{End, taking_emitted}
 use Rattle.qw_compile_whole.proofs.taking.emit_taking.Goals as goal
 
 pub bindings_of-requires-clause-sized : goal.bindings_of-requires-clause-sized
@@ -101,7 +101,7 @@ returns-clause-emits c =
     taking_emitted c.args.guard c.args.places.now c.args.first c.args.entry (map operator_of c.args.operators.now) g fields old c.push_count_from.new.block.code.items c.emit_single_start.new.block.code.items c.push_course.new.block.code.items c.push_stop_at.new.block.code.items c.args.own.now.items c.extend_from_slice.new.self.items c.new-emitter.result
     c.emit_row.new.emitter pushed.0 pushed.2
     (c.new-emitter.ensures.0 ∙ (c.in_ok-behind.ensures ∙ ap (λ (l : List ValType). c.args.first + length l) c.deref-6.ensures.value)) c.new-emitter.ensures.1 c.new-emitter.ensures.2
-    (row_taken c.args.guard fields g _ _ _ _ (map operator_of c.args.operators.now) c.new-emitter.result c.emit_row.new.emitter front (c.deref-7.ensures.value ∙ r) c.in_ok-fields.ensures.emits)
+    (row_as (End c.args.guard fields g) _ _ _ _ _ (map operator_of c.args.operators.now) c.new-emitter.result c.emit_row.new.emitter front (c.deref-7.ensures.value ∙ r) refl c.in_ok-fields.ensures.emits)
     c.in_ok-fields.ensures.values c.in_ok-push_count_from.ensures
     (c.in_ok-emit_single_start.ensures.0 ∙ ap₂ (λ (x d : ℕ). c.push_count_from.new.block.code.items ++ steps_of (single_block (32 * x) d)) many c.directory.ensures)
     (ap (λ (l : List Reader). slice_get l 0) (sym (c.deref-11.ensures.value ∙ r)) ∙ pushed.1)
