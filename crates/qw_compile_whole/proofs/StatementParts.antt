@@ -10,7 +10,7 @@ use Rattle.qw_types.specs.Value.{IsSized}
 use Rattle.qw_types.specs.declared.kind.Kind.{Kind}
 use Rattle.qw_types.specs.declared.schema.ColumnType.{ColumnType}
 use Rattle.qw_types.specs.declared.value.Val.{Val}
-use Rattle.qw_linear.specs.Memory.{page}
+use Rattle.qw_linear.specs.Memory.{AreOctets, page}
 use Rattle.qw_module.specs.declared.instruction.ValType.{ValType}
 use Rattle.qw_scalar.specs.Typing.{kind_of}
 use Rattle.qw_map.specs.Layout.{Layout, descriptor_size, entry_offset}
@@ -153,11 +153,12 @@ module _ (row_is : (row other : List Val) → is_same_row row other ≡ true →
   behind = pipeline_of given.source.behind
 
   -- ---- the layout
-  pub goes_with : (distinct : Bool) → map kind_of asked_query.items ≡ map (λ (k : Kind). Some k) layout.cells → descriptor_size layout ≤ page → GoesWith (promise_of_whole (record { body = asked.grouped (grouped_of parts); distinct = distinct })) layout
-  goes_with distinct cells small = record {
+  pub goes_with : (distinct : Bool) → map kind_of asked_query.items ≡ map (λ (k : Kind). Some k) layout.cells → descriptor_size layout ≤ page → AreOctets layout.literals → GoesWith (promise_of_whole (record { body = asked.grouped (grouped_of parts); distinct = distinct })) layout
+  goes_with distinct cells small octets = record {
     columns = subst (λ (ss : List Source). AllByRecursion (IsUsedOf (entries_of ss)) layout.columns) (ap (λ (s : Specification). s.sources) given.before_is) (used_columns f);
     cells = cells;
     small = small;
+    literals = octets;
   }
 
   -- ---- types
