@@ -13,6 +13,7 @@ mod KeysFew
 pub mod Laid
 pub mod LeavesFew
 pub mod LiteralLemmas
+pub mod LiteralOctets
 pub mod LiteralSteps
 pub mod LocalsDeclared
 pub mod LocalsPlaced

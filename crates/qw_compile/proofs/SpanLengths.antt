@@ -25,7 +25,7 @@ few_sink (sink.Build b) can = let kept : length b.kept.items ≤ 512 = can.1 in 
 few_sink (sink.Select items) can = omega (arith, many_nodes items.items)
 
 pub few_operators : (os : List Operator) (s : Sink) (known : List Known) → CanCarry known (map operator_of os) (sink_of s)
-    → span os s ≤ 420 * (sum_by (operator_size nodes nodes_of) os + sink_size nodes s) + 338 * sum_by keys_of_operator os + 185 * keys_of_sink s + 13924 * sum_by one_lookup os + 6756
+    → span os (sink_span s) ≤ 420 * (sum_by (operator_size nodes nodes_of) os + sink_size nodes s) + 338 * sum_by keys_of_operator os + 185 * keys_of_sink s + 13924 * sum_by one_lookup os + 6756
 few_operators [] s known can = let own = few_sink s can.1 in omega (arith, own)
 few_operators (operator.Filter cs ∷ os) s known can =
     let rest = few_operators os s known can.1 in

@@ -1,17 +1,12 @@
 -- What holds of all rows that come into a table of groups holds while they come: of a beginning of them, or of a part of them in any order.
-use Rattle.std.proofs.Common.{◌≡◌, ℕ, ◌+◌, ◌≤◌, ◌==◌, if◌then◌else◌, Bool, List, [], ◌∷◌, ◌++◌, length, length-append, append_assoc, map, refl, ap, ◌∙◌, sym, subst, arith}
-use Rattle.std.specs.List.{AllByRecursion}
+use Rattle.std.proofs.Common.{◌≡◌, ℕ, ◌+◌, ◌≤◌, ◌==◌, if◌then◌else◌, Bool, List, ◌++◌, length, length-append, append_assoc, map, refl, ap, ◌∙◌, sym, subst, arith}
 use Rattle.std.specs.List.Sorted.{IsPermutation}
-use Rattle.std.proofs.lemmas.List.Elements.{All-from_recursion, recursion_from_All}
-use Rattle.std.proofs.lemmas.List.Sorted.{All-permutation, IsPermutation-map, IsPermutation-sym, length_permutation, sum_by-IsPermutation}
+use Rattle.std.proofs.lemmas.List.Sorted.{IsPermutation-map, length_permutation, sum_by-IsPermutation}
 use Rattle.qw_types.specs.declared.value.Val.{Val}
 use Rattle.qw_layout.specs.Hash.{slot}
 use Rattle.qw_grouped.specs.Groups.{key_of, keys}
-use Rattle.qw_grouped.specs.declared.set_function.SetFunctionKind.{SetFunctionKind}
 use Rattle.qw_grouped.proofs.GroupLemmas.{once_permuted}
 use Rattle.qw_table.specs.Tables.{in_slot}
-use Rattle.qw_group.specs.Groups.{AreChosenWithin, octets_at}
-use Rattle.qw_leaves.proofs.LeafLists.{all_front}
 use Rattle.qw_whole.proofs.GrowingTables.{keys_begun, met_many, slot_grows}
 
 -- these are the first of those rows
@@ -35,15 +30,6 @@ keys_fewer columns all rows h =
 -- no more of them in a slot
 pub slot_fewer : (j columns : ℕ) (all rows : List (List Val)) → IsBeginning all rows → length (in_slot slot j (keys columns rows)) ≤ length (in_slot slot j (keys columns all))
 slot_fewer j columns all rows h = subst (λ (l : List (List Val)). length (in_slot slot j (keys columns rows)) ≤ length (in_slot slot j (keys columns l))) h.1 (slot_grows slot j columns rows h.0)
-
--- and MIN and MAX compare no more
-pub chosen_fewer : (place : ℕ) (functions : List SetFunctionKind) (all rows : List (List Val)) (row : List Val) (n : ℕ) → IsBeginning all rows → AreChosenWithin place functions all row n → AreChosenWithin place functions rows row n
-chosen_fewer place [] all rows row n h within = tt
-chosen_fewer place (f ∷ functions) all rows row n h within =
-    let P : List Val → Type 0 = λ (r : List Val). octets_at place r + octets_at place row ≤ n in (
-      λ chooses. all_front P rows h.0 (subst (AllByRecursion P) (sym h.1) (within.0 chooses)),
-      chosen_fewer (place + 1) functions all rows row n h within.1,
-    )
 
 -- ---- or of a part of them, in any order
 -- these rows and others are all of those
@@ -79,14 +65,3 @@ part_slot j columns all rows h =
     let fewer = slot_fewer j columns (rows ++ h.0) rows (h.0, refl) in
     let same = slot_turned j (keys columns (rows ++ h.0)) (keys columns all) (keys_turned columns (rows ++ h.0) all h.1) in
     omega (arith, fewer, same)
-
-all_turned : (P : List Val → Type 0) (xs ys : List (List Val)) → IsPermutation xs ys → AllByRecursion P ys → AllByRecursion P xs
-all_turned P xs ys h all = recursion_from_All P xs (All-permutation P ys xs (IsPermutation-sym xs ys h) (All-from_recursion P ys all))
-
-pub part_chosen : (place : ℕ) (functions : List SetFunctionKind) (all rows : List (List Val)) (row : List Val) (n : ℕ) → IsPart all rows → AreChosenWithin place functions all row n → AreChosenWithin place functions rows row n
-part_chosen place [] all rows row n h within = tt
-part_chosen place (f ∷ functions) all rows row n h within =
-    let P : List Val → Type 0 = λ (r : List Val). octets_at place r + octets_at place row ≤ n in (
-      λ chooses. all_front P rows h.0 (all_turned P (rows ++ h.0) all h.1 (within.0 chooses)),
-      part_chosen (place + 1) functions all rows row n h within.1,
-    )

@@ -52,6 +52,7 @@ compiled_more promise other layout m entries_are cells_are same more room h = re
     columns = subst (λ (es : List Entry). AllByRecursion (IsUsedOf es) layout.columns) (sym entries_are) h.goes_with.columns;
     cells = cells_are ∙ h.goes_with.cells;
     small = h.goes_with.small;
+    literals = h.goes_with.literals;
   };
   nests = h.nests;
   no_size = h.no_size;

@@ -14,7 +14,7 @@ use Rattle.qw_expr.specs.Bindings.{Knows}
 use Rattle.qw_expr.specs.Computes.{Known}
 use Rattle.qw_physical.specs.declared.pipeline.ReadColumn.{ReadColumn}
 use Rattle.qw_operator.specs.Takes.{AreSized, IsValueOver, anywhere}
-use Rattle.qw_group_sink.specs.Grouping.{Group, TakeKinds}
+use Rattle.qw_operator.specs.Grouping.{Group, TakeKinds}
 use Rattle.qw_group_pipeline.specs.Groups.{all_anywhere}
 use Rattle.qw_compile_whole.specs.GroupColumns.{key_from}
 use Rattle.qw_compile_whole.specs.WholeDistinct.{distinct_columns, distinct_grouping}

@@ -39,6 +39,7 @@ use Rattle.qw_group_pipeline.specs.declared.columns.ValueColumn.{ValueColumn}
 use Rattle.qw_compile.specs.QueryLocals.{own_start}
 use Rattle.qw_compile.specs.QueryMade.{literal_locals, literals_by, readers_by, texts_by}
 use Rattle.qw_compile.specs.Statements.{AreCourses}
+use Rattle.qw_compile.proofs.LiteralOctets.{literal_octets}
 use Rattle.qw_compile.proofs.QueryReach.{table_of}
 use Rattle.qw_whole.specs.WholePromises.{promise_of_whole}
 use Rattle.qw_compile_whole.specs.DistinctOf.{IsDistinctOf}
@@ -119,7 +120,7 @@ module _ (row_is : (row other : List Val) → is_same_row row other ≡ true →
   kinds_are = sym (ap result_kinds s.again_is.sink_is) ∙ sym s.made.kinds_are
 
   goes : GoesWith (promise_of_whole whole) layout
-  goes = goes_with row_is value_is parts grouped given true (sym (once_kinds 0 query.items (all_more (IsItemOver (IsGroupColumn query)) HasKind query.items (λ e h. h.0.1) grouped.items)) ∙ kinds_are) small
+  goes = goes_with row_is value_is parts grouped given true (sym (once_kinds 0 query.items (all_more (IsItemOver (IsGroupColumn query)) HasKind query.items (λ e h. h.0.1) grouped.items)) ∙ kinds_are) small (literal_octets (texts_of_grouped parts) layout.literals s.made.utf8 s.made.octets_are)
 
   go_together : GoTogether (folded_query given) s.made.group key values (literals_over given.source T)
   go_together = together row_is value_is parts grouped given T some sized

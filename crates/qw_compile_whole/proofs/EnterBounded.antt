@@ -17,8 +17,8 @@ use Rattle.qw_physical.specs.Physical.{Pipeline, filter, select}
 use Rattle.qw_physical.specs.declared.pipeline.ReadColumn.{ReadColumn}
 use Rattle.qw_operator.proofs.PairRows.{AreStored}
 use Rattle.qw_operator.proofs.Stood.{Stood}
-use Rattle.qw_group_sink.specs.Carrying.{cost_to}
-use Rattle.qw_group_sink.specs.Grouping.{Group, turn_of}
+use Rattle.qw_operator.specs.Costs.{cost_to}
+use Rattle.qw_operator.specs.Grouping.{Group, turn_of}
 use Rattle.qw_group_pipeline.specs.declared.columns.ValueColumn.{ValueColumn}
 use Rattle.qw_group_pipeline.proofs.GroupsFeed.{units_within}
 use Rattle.qw_group_pipeline.proofs.ValuesCome.{AreRead, functions_of}
@@ -40,7 +40,7 @@ pub record EnterReach (query : Grouped) (g : Group) (key : List ReadColumn) (val
   pub entries : List Val → ℕ
   pub chosen : List Val → ℕ
   pub met : (row : List Val) → length (in_slot slot (slot (key_of into.columns row)) (keys into.columns (walked_of query rows).rows)) ≤ entries row
-  pub compared : (row : List Val) → AreChosenWithin into.columns into.functions (walked_of query rows).rows row (chosen row)
+  pub compared : (row : List Val) → AreChosenWithin into.columns into.functions row (chosen row)
   pub cost : 1025 + spend (λ (k : List Val). enter_units query key values into entries chosen g.columns rows k) (keys g.columns rows) ≤ N
   pub few : 1 ≤ length into.functions → length (walked_of query rows).rows < 10 ^ 18
   pub fits : group_width into + u ≤ page

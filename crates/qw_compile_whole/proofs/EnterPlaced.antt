@@ -17,9 +17,9 @@ use Rattle.qw_physical.specs.Physical.{Operator, Pipeline}
 use Rattle.qw_physical.specs.declared.pipeline.Operator as coded_operator
 use Rattle.qw_physical.specs.declared.pipeline.ReadColumn.{ReadColumn}
 use Rattle.qw_operator.specs.Carries.{directory, result_kinds}
-use Rattle.qw_group_sink.specs.Carrying.{span_to}
-use Rattle.qw_group_sink.specs.Grouping.{Group, group_span}
-use Rattle.qw_group_sink.specs.declared.group.Group as coded
+use Rattle.qw_operator.specs.Span.{span}
+use Rattle.qw_operator.specs.Grouping.{Group, group_span}
+use Rattle.qw_operator.specs.declared.group.Group as coded
 use Rattle.qw_group_pipeline.specs.Groups.{EmitsGroupsTo, Grouping, InEnd, IsGroupPipeline, IsGroupPipelineTo}
 use Rattle.qw_group_pipeline.specs.declared.columns.ValueColumn.{ValueColumn}
 use Rattle.qw_compile.specs.Placed.{literals_placed}
@@ -51,9 +51,9 @@ enter_emitted p first table d known key values steps operators into fields old n
     }
 
 pub enter_short : (columns functions : ℕ) (operators : List coded_operator.Operator) (into : coded.Group) (old new : List LowStep) (own_old own_new : List ValType) (e0 e1 : Emitter) → e0.block.code.items ≡ [] → e0.own.items ≡ [] → new ≡ old ++ e1.block.code.items → own_new ≡ own_old ++ e1.own.items →
-    extent e1 ≤ extent e0 + (25 * columns + 328 * functions + span_to operators (group_span into) + 60) → length new + length own_new + 40 ≤ length old + length own_old + enter_span columns functions operators into
+    extent e1 ≤ extent e0 + (25 * columns + 328 * functions + span operators (group_span into) + 60) → length new + length own_new + 40 ≤ length old + length own_old + enter_span columns functions operators into
 enter_short columns functions operators into old new own_old own_new e0 e1 code0 own0 code own short =
-    let all = added_short old new own_old own_new e0 e1 (25 * columns + 328 * functions + span_to operators (group_span into) + 60) code0 own0 code own short in
+    let all = added_short old new own_old own_new e0 e1 (25 * columns + 328 * functions + span operators (group_span into) + 60) code0 own0 code own short in
     omega (arith, all)
 
 -- ---- all of it

@@ -29,11 +29,10 @@ use Rattle.qw_physical.specs.declared.pipeline.Sink.{Sink}
 use Rattle.qw_physical.specs.declared.pipeline.Sink.TheVariants as sinks
 use Rattle.qw_table.specs.Tables.{directory_block}
 use Rattle.qw_operator.specs.Carries.{directory}
-use Rattle.qw_operator.specs.Span.{sink_span}
+use Rattle.qw_operator.specs.Span.{sink_span, span}
 use Rattle.qw_operator.specs.Takes.{CanCarry, anywhere}
-use Rattle.qw_group_sink.specs.Carrying.{span_to}
-use Rattle.qw_group_sink.specs.Grouping.{CanGroup, Group, TakeKinds, group_of, group_span}
-use Rattle.qw_group_sink.specs.declared.group.Group as coded
+use Rattle.qw_operator.specs.Grouping.{CanGroup, Group, TakeKinds, group_of, group_span}
+use Rattle.qw_operator.specs.declared.group.Group as coded
 use Rattle.qw_group_pipeline.specs.Groups.{Grouping, InEnd, IsGroupPipeline, IsGroupPipelineTo, all_anywhere}
 use Rattle.qw_group_pipeline.specs.declared.columns.ValueColumn.{ValueColumn}
 use Rattle.qw_compile.specs.CourseSpan.{course_span}
@@ -60,7 +59,7 @@ use Rattle.qw_compile_whole.specs.StatementAround.{ArePlacedPasses, IsAround}
 use Rattle.qw_compile_whole.specs.declared.gathering.LastGroup.{LastGroup}
 use Rattle.qw_compile_whole.specs.declared.statement_around.PlacedPasses.{PlacedPasses}
 use Rattle.qw_compile_whole.proofs.DistinctTogether.{none_behind}
-use Rattle.qw_compile_whole.proofs.GatheringLengths.{span_apart, span_more}
+use Rattle.qw_compile_whole.proofs.GatheringLengths.{span_more}
 use Rattle.qw_compile_whole.proofs.GatheringPlaced.{gathering_as}
 use Rattle.qw_compile_whole.proofs.GroupedPlacing.{apart, as_last, parts_long}
 use Rattle.qw_compile_whole.proofs.StatementAround.{placed_as}
@@ -113,11 +112,10 @@ module _ (all : List Pipeline) (values : List ValueColumn) (key : List ReadColum
       emitted ≤ sum_by (course_span readers) m.builders.items + gathering_span readers m.entry m.operators.items m.group + enter_span (length key) (length values) behind.operators.items into + walks →
       emitted ≤ sum_by (course_span readers) all + 356 * (length key + length values) + walk_span (length key) (length values) behind + 356 * length into.values.items + walks + 200
   distinct_parts_long groups readers behind into shows emitted walks short =
-      let one = span_apart behind.operators.items behind.sink in
-      let two = ap (λ (s : Sink). span_to behind.operators.items (sink_span s)) shows in
+      let two = ap (λ (s : Sink). span behind.operators.items (sink_span s)) shows in
       let three = span_more behind.operators.items (group_span into) (sink_span (sinks.Select into.values)) (356 * length into.values.items + 100) (omega arith) in
       let long = parts_long all (length key) values m is key refl groups readers emitted (enter_span (length key) (length values) behind.operators.items into + walks) (omega (arith, short)) in
-      omega (arith, one, two, three, long)
+      omega (arith, two, three, long)
 
 -- ---- the statement, from what was emitted
 pub distinct_made : (tables : ℕ) (texts : List (List ℕ)) (ps : List Pipeline) (behind : Pipeline) (columns : List ReadColumn) (m : PlacedPasses) → ArePlacedPasses tables texts ps behind columns m → (key : List ReadColumn) (values : List ValueColumn) (key_again : List ReadColumn) (values_again : List ValueColumn) (again : Pipeline)

@@ -7,7 +7,7 @@ use Rattle.qw_grouped.specs.declared.set_function.SetFunctionKind.{SetFunctionKi
 use Rattle.qw_feed.specs.Cells.{kinds_of}
 use Rattle.qw_table.specs.Joins.{sources_of}
 use Rattle.qw_table.specs.declared.key.Field.{Field}
-use Rattle.qw_group_sink.specs.Grouping.{CanGroup, Group, over_fields}
+use Rattle.qw_operator.specs.Grouping.{CanGroup, Group, over_fields}
 
 pub over_many : (functions : List SetFunctionKind) (fields : List Field) → length fields ≡ length functions → length (over_fields functions fields) ≡ length functions
 over_many [] [] many = refl

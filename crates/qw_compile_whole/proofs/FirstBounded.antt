@@ -9,7 +9,7 @@ use Rattle.qw_read.specs.declared.constant.Word.{Word}
 use Rattle.qw_physical.specs.Physical.{Pipeline}
 use Rattle.qw_physical.specs.declared.pipeline.ReadColumn.{ReadColumn}
 use Rattle.qw_operator.proofs.Stood.{Stood}
-use Rattle.qw_group_sink.specs.Grouping.{Group}
+use Rattle.qw_operator.specs.Grouping.{Group}
 use Rattle.qw_compile.proofs.LocalsPlaced.{literals_known}
 use Rattle.qw_compile.proofs.PipelineRuns.{AreStood, fed_over}
 use Rattle.qw_compile.proofs.QueryRuns.{Reach}

@@ -30,14 +30,14 @@ use Rattle.qw_operator.specs.Carries.{directory}
 use Rattle.qw_operator.proofs.CarriedTyped.{AreLed, IsReaderDeclared}
 use Rattle.qw_operator.proofs.Promised.{AreOwn}
 use Rattle.qw_operator.proofs.Stood.{Stood}
-use Rattle.qw_group_sink.specs.Grouping.{CanGroup, Group, turn_of}
-use Rattle.qw_group_sink.proofs.GuardedFeeds.{first_grouped_runs, row_guarded}
-use Rattle.qw_group_sink.proofs.RowCounted.{scan_counts}
+use Rattle.qw_operator.specs.Grouping.{CanGroup, Group, turn_of}
+use Rattle.qw_operator.proofs.LimitedFeeds.{first_grouped_runs, row_guarded}
+use Rattle.qw_operator.proofs.RowCounted.{scan_counts}
 use Rattle.qw_compile.specs.QueryLocals.{cell_start, own_start, query_readers, rows_end, rows_left}
 use Rattle.qw_compile.specs.Statements.{Course, build_block}
 use Rattle.qw_compile.proofs.PipelineRuns.{Between, Grounds, Source, Steady, all_keep, declared_over, fed_over, laid, readers_of}
 use Rattle.qw_compile_whole.specs.GroupedStatements.{IsGatheringTo}
-use Rattle.qw_compile_whole.proofs.Beginnings.{chosen_fewer, keys_fewer, slot_fewer}
+use Rattle.qw_compile_whole.proofs.Beginnings.{keys_fewer, slot_fewer}
 use Rattle.qw_compile_whole.proofs.FirstBounded.{FirstReach}
 use Rattle.qw_compile_whole.proofs.Gathered.{AreGathered, Suits, groups_placed, into_groups, suits}
 use Rattle.qw_compile_whole.proofs.GatheringPlaced.{End}
@@ -100,7 +100,7 @@ module _ (T n : ℕ) (columns : List ReadColumn) (literals : List Known) (conten
 
     q : Suits group fields u most (budget + u + 4096) r.entries r.chosen (AreFirstOf limit fed.rows)
     q = suits group fields u most budget r.entries r.chosen fed.rows can field_kinds (AreFirstOf limit fed.rows) (first_beginning limit fed.rows) (λ xs may some. (let few = may.1 in omega (arith, few, few_limit)))
-        (λ row xs may. chosen_fewer group.columns group.functions fed.rows xs row (r.chosen row) may.0 (r.compared row)) (λ xs may. keys_fewer group.columns fed.rows xs may.0) (λ j xs may. slot_fewer j group.columns fed.rows xs may.0) r.met r.fits r.enough
+        r.compared (λ xs may. keys_fewer group.columns fed.rows xs may.0) (λ j xs may. slot_fewer j group.columns fed.rows xs may.0) r.met r.fits r.enough
 
     pub first_ends : (s : LowState) → Between T n c base u s0 stoods budget s → slice_get s.locals z ≡ Some (Number limit) → Ends (size (build_block T group.table course) * N) (λ w. First w × (fed.codes ≡ [])) Never (Tells fed.codes) (meaning most fuel (build_block T group.table course) s)
     first_ends s between holds =
@@ -114,8 +114,8 @@ module _ (T n : ℕ) (columns : List ReadColumn) (literals : List Known) (conten
         into_ends T n columns literals contents c base u most fuel N many types s0 grounds stoods room_T p group.values is_select (turn_of group r.entries r.chosen) (End (Some z) fields group) course next own behind room is own_types source r.finds r.cost
         d (omega (arith, number_is)) (omega (arith, number_is, room_T)) (λ k o. limit_of limit z (all k o)) (λ k o at wide low. low) (λ k o. first_rows limit fed.rows)
         (λ k o seen tables. (
-          first_grouped_runs c stoods (rows_left T) (omega (arith, room_T)) most fuel many types group can fields k o u before r.entries r.chosen (AreFirstOf limit fed.rows) q.first (omega (arith, number_is, room_T)) q.small q.few_rows q.chosen_rows q.enough q.met seen tables limit z counted place free_is left_is z_is directory_is,
-          row_guarded c stoods (rows_left T) (omega (arith, room_T)) most fuel many types group can fields k o u before r.entries r.chosen (AreFirstOf limit fed.rows) q.first (omega (arith, number_is, room_T)) q.small q.few_rows q.chosen_rows q.enough q.met seen tables limit z counted place free_is left_is z_is directory_is,
+          first_grouped_runs c stoods (rows_left T) (omega (arith, room_T)) most fuel many types group can fields k o u before r.entries r.chosen (AreFirstOf limit fed.rows) q.first (omega (arith, number_is, room_T)) q.small q.few_rows q.chosen_within q.enough q.met seen tables limit z counted place free_is left_is z_is directory_is,
+          row_guarded c stoods (rows_left T) (omega (arith, room_T)) most fuel many types group can fields k o u before r.entries r.chosen (AreFirstOf limit fed.rows) q.first (omega (arith, number_is, room_T)) q.small q.few_rows q.chosen_within q.enough q.met seen tables limit z counted place free_is left_is z_is directory_is,
         ))
         budget s between First (λ k o after w has keeps. (record { part = k; offset = o; behind = after; has = has.has; keeps = keeps }, has.left)) (directory_block d) 26 (omega arith)
         (Ends-weaker 26 26 (Placed d front all s) (Placed d front (λ k o. limit_of limit z (all k o)) s) Never Never IsRefusal IsRefusal (meaning most fuel (directory_block d) s) (omega arith)

@@ -23,7 +23,6 @@ use Rattle.qw_limit.proofs.LimitedFeeds.{limit_of}
 use Rattle.qw_expr.specs.Computes.{Known}
 use Rattle.qw_table.specs.Joins.{sources_of}
 use Rattle.qw_table.specs.declared.key.Field.{Field}
-use Rattle.qw_group.specs.Groups.{AreChosenWithin}
 use Rattle.qw_group.specs.Single.{single_block}
 use Rattle.qw_physical.specs.Physical.{Pipeline, select}
 use Rattle.qw_physical.specs.declared.pipeline.ReadColumn.{ReadColumn}
@@ -31,9 +30,9 @@ use Rattle.qw_operator.specs.Carries.{directory}
 use Rattle.qw_operator.proofs.CarriedTyped.{AreLed, IsReaderDeclared}
 use Rattle.qw_operator.proofs.Promised.{AreOwn}
 use Rattle.qw_operator.proofs.Stood.{Stood}
-use Rattle.qw_group_sink.specs.Grouping.{CanGroup, Group, over_fields}
-use Rattle.qw_group_sink.proofs.GuardedOne.{first_taken_runs, row_first_taken}
-use Rattle.qw_group_sink.proofs.RowCounted.{one_scan_counts}
+use Rattle.qw_operator.specs.Grouping.{CanGroup, Group, over_fields}
+use Rattle.qw_operator.proofs.LimitedOne.{first_taken_runs, row_first_taken}
+use Rattle.qw_operator.proofs.RowCounted.{one_scan_counts}
 use Rattle.qw_compile.specs.QueryLocals.{cell_start, own_start, query_readers, rows_end, rows_left}
 use Rattle.qw_compile.specs.Statements.{Course}
 use Rattle.qw_compile.proofs.PipelineRuns.{Between, Grounds, Source, declared_over, fed_over, laid, readers_of}
@@ -43,7 +42,6 @@ use Rattle.qw_compile_whole.proofs.FirstTakenBounded.{FirstTake}
 use Rattle.qw_compile_whole.proofs.FieldCounts.{areas_long}
 use Rattle.qw_compile_whole.proofs.TakingPlaced.{End}
 use Rattle.qw_compile_whole.proofs.Taken.{AreTaken, areas_placed, into_areas}
-use Rattle.qw_compile_whole.proofs.Beginnings.{chosen_fewer}
 use Rattle.qw_compile_whole.proofs.RunsInto.{AreFirstOf, Placed, course_counts, first_beginning, first_rows, into_ends, placed_within}
 
 module _ (T n : ℕ) (columns : List ReadColumn) (literals : List Known) (contents : List (List (List Val))) (c : Cells) (base u most fuel N many : ℕ) (types : List ValType) (s0 : LowState) (grounds : Grounds T n columns literals c base u fuel N many types s0)
@@ -65,9 +63,6 @@ module _ (T n : ℕ) (columns : List ReadColumn) (literals : List Known) (conten
   few_rows : (xs : List (List Val)) → May xs → 1 ≤ length group.functions → length xs ≤ 10 ^ 18
   few_rows xs may some = let few = may.1 in omega (arith, few, few_limit)
 
-  chosen_rows : (row : List Val) (xs : List (List Val)) → May xs → AreChosenWithin 0 group.functions xs row (r.chosen row)
-  chosen_rows row xs may = chosen_fewer 0 group.functions fed.rows xs row (r.chosen row) may.0 (r.compared row)
-
   abbrev block : Statement
   block = take_block T group.table (length (over_fields group.functions fields)) course
 
@@ -83,8 +78,8 @@ module _ (T n : ℕ) (columns : List ReadColumn) (literals : List Known) (conten
       into_ends T n columns literals contents c base u most fuel N many types s0 grounds stoods room_T p group.values is_select r.chosen (End (Some z) fields group) course next own behind room is own_types source r.finds r.cost
       d (omega (arith, number_is)) (omega (arith, number_is, room_T)) (λ k o. limit_of limit z (all k o)) (λ k o at wide low. low) (λ k o. first_rows limit fed.rows)
       (λ k o seen tables. (
-        first_taken_runs c stoods (rows_left T) (omega (arith, room_T)) most fuel many types group can none fields k o u held r.chosen May (first_beginning limit fed.rows) (omega (arith, number_is, room_T)) few_rows chosen_rows seen tables limit z counted place free_is left_is z_is directory_is,
-        row_first_taken c stoods (rows_left T) (omega (arith, room_T)) most fuel many types group can none fields k o u held r.chosen May (first_beginning limit fed.rows) (omega (arith, number_is, room_T)) few_rows chosen_rows seen tables limit z counted place free_is left_is z_is directory_is,
+        first_taken_runs c stoods (rows_left T) (omega (arith, room_T)) most fuel many types group can none fields k o u held r.chosen May (first_beginning limit fed.rows) (omega (arith, number_is, room_T)) few_rows r.compared seen tables limit z counted place free_is left_is z_is directory_is,
+        row_first_taken c stoods (rows_left T) (omega (arith, room_T)) most fuel many types group can none fields k o u held r.chosen May (first_beginning limit fed.rows) (omega (arith, number_is, room_T)) few_rows r.compared seen tables limit z counted place free_is left_is z_is directory_is,
       ))
       budget s between First (λ k o after w has keeps. (record { part = k; offset = o; behind = after; has = has.has; keeps = keeps }, has.left)) begins 26 (omega arith)
       (Ends-weaker 26 26 (Placed d front all s) (Placed d front (λ k o. limit_of limit z (all k o)) s) Never Never IsRefusal IsRefusal (meaning most fuel begins s) (omega arith)

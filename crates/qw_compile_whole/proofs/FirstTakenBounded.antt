@@ -11,8 +11,8 @@ use Rattle.qw_group.specs.Groups.{AreChosenWithin}
 use Rattle.qw_physical.specs.Physical.{Pipeline}
 use Rattle.qw_physical.specs.declared.pipeline.ReadColumn.{ReadColumn}
 use Rattle.qw_operator.proofs.Stood.{Stood, built_of}
-use Rattle.qw_group_sink.specs.Carrying.{pipeline_cost_to}
-use Rattle.qw_group_sink.specs.Grouping.{Group}
+use Rattle.qw_operator.specs.Costs.{pipeline_cost_to}
+use Rattle.qw_operator.specs.Grouping.{Group}
 use Rattle.qw_group_pipeline.specs.declared.columns.ValueColumn.{ValueColumn}
 use Rattle.qw_compile.proofs.LocalsPlaced.{literals_known}
 use Rattle.qw_compile.proofs.PipelineRuns.{AreStood, Finds, fed_over}
@@ -26,7 +26,7 @@ pub record FirstTake (T n : ℕ) (columns : List ReadColumn) (literals : List Kn
   pub has_column : HasColumnOf columns p.entry
   pub finds : Finds T n columns literals tables N stoods p
   pub chosen : List Val → ℕ
-  pub compared : (row : List Val) → AreChosenWithin 0 g.functions (rows_met tables stoods p) row (chosen row)
+  pub compared : (row : List Val) → AreChosenWithin 0 g.functions row (chosen row)
   pub cost : 1 + pipeline_cost_to g.values chosen tables (built_of stoods) p ≤ N
   pub fits : 32 * length g.functions + u ≤ page
   pub enough : areas_paid g budget + 2 * u < (most + 1) * u

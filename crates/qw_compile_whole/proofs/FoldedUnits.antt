@@ -26,5 +26,5 @@ module _ (query : Grouped) (behind : Pipeline) (h : IsBehind query behind) where
   units_folded hashing rows =
       let n : ℕ = length query.columns in
       let table : Flow (List Val) = all_groups query rows in
-      let before : ℕ = table_units hashing (group_keys n rows) (map (key_of n) rows) + sum_by (chosen_units n (kinds_of query.functions) rows) rows + length (groups n rows) * read_units (kinds_of query.functions) in
+      let before : ℕ = table_units hashing (group_keys n rows) (map (key_of n) rows) + sum_by (chosen_units n (kinds_of query.functions)) rows + length (groups n rows) * read_units (kinds_of query.functions) in
       ap₂ (λ (t m : ℕ). before + t + m) (tested table.rows) (made (each (kept query.having) table) ∙ ap (λ (f : Flow (List Val)). made_units h.items f) (kept_each query behind h table))

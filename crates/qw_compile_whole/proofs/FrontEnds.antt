@@ -28,7 +28,7 @@ use Rattle.qw_operator.proofs.CarriedTyped.{IsReaderDeclared}
 use Rattle.qw_operator.proofs.Promised.{AreOwn}
 use Rattle.qw_operator.proofs.Stood.{Stood}
 use Rattle.qw_emit.proofs.ModuleCompiled.{Settled}
-use Rattle.qw_group_sink.specs.Grouping.{Group}
+use Rattle.qw_operator.specs.Grouping.{Group}
 use Rattle.qw_compile.specs.QueryLocals.{query_readers}
 use Rattle.qw_compile.specs.Statements.{Course}
 use Rattle.qw_compile.proofs.LocalsDeclared.{first_own_types, rest_own_types}

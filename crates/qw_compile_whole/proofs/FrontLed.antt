@@ -29,7 +29,7 @@ use Rattle.qw_physical.specs.declared.pipeline.ReadColumn.{ReadColumn}
 use Rattle.qw_operator.specs.Takes.{CanCarry, CanSink}
 use Rattle.qw_operator.proofs.CarriedTyped.{AreLed, IsLed}
 use Rattle.qw_promise.specs.Compiled.{IsUsedOf}
-use Rattle.qw_group_sink.specs.Grouping.{Group}
+use Rattle.qw_operator.specs.Grouping.{Group}
 use Rattle.qw_compile.specs.QueryColumns.{AreColumnsOf}
 use Rattle.qw_compile.specs.QueryLiterals.{query_texts, query_words}
 use Rattle.qw_compile.specs.QueryMade.{CanStand, literal_locals, literals_by}

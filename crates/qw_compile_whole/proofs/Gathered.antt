@@ -33,15 +33,15 @@ use Rattle.qw_operator.specs.Carries.{directory}
 use Rattle.qw_operator.proofs.Promised.{AreOwn}
 use Rattle.qw_operator.proofs.Seen.{StandsIn}
 use Rattle.qw_operator.proofs.Stood.{Stood}
-use Rattle.qw_group_sink.specs.Grouping.{CanGroup, Group, IsGrouped, aggregates_of, key_fields, turn_of}
-use Rattle.qw_group_sink.proofs.GroupSunk.{HasRows, collecting_sink}
-use Rattle.qw_group_sink.proofs.GroupedFeeds.{grouped_runs, row_grouped}
+use Rattle.qw_operator.specs.Grouping.{CanGroup, Group, IsGrouped, aggregates_of, key_fields, turn_of}
+use Rattle.qw_operator.proofs.GroupSunk.{HasRows, collecting_sink}
+use Rattle.qw_operator.proofs.GroupedFeeds.{grouped_runs, row_grouped}
 use Rattle.qw_compile.specs.QueryLocals.{own_start, query_readers, rows_left}
 use Rattle.qw_compile.specs.Statements.{Course, build_block}
 use Rattle.qw_compile.proofs.PipelineRuns.{Between, Grounds, Source, Steady, fed_over}
 use Rattle.qw_compile.proofs.TableBegins.{Begun, empty_table, table_begins}
 use Rattle.qw_compile_whole.specs.GroupedStatements.{IsGathering}
-use Rattle.qw_compile_whole.proofs.Beginnings.{IsBeginning, beginning_few, beginning_first, chosen_fewer, keys_fewer, slot_fewer}
+use Rattle.qw_compile_whole.proofs.Beginnings.{IsBeginning, beginning_few, beginning_first, keys_fewer, slot_fewer}
 use Rattle.qw_compile_whole.proofs.FieldCounts.{dropped_many, fields_long, over_many}
 use Rattle.qw_compile_whole.proofs.GroupBounded.{GatherReach, group_width, groups_paid}
 use Rattle.qw_compile_whole.proofs.RunsInto.{Placed, into_ends}
@@ -76,24 +76,24 @@ pub record Suits (group : Group) (fields : List Field) (u most before : ℕ) (en
   pub first : (rows more : List (List Val)) → May (rows ++ more) → May rows
   pub small : group_size (key_fields group fields) (aggregates_of group fields) + u ≤ page
   pub few_rows : (xs : List (List Val)) → May xs → 1 ≤ length group.functions → length xs ≤ 10 ^ 18
-  pub chosen_rows : (row : List Val) (xs : List (List Val)) → May xs → AreChosenWithin group.columns group.functions xs row (chosen row)
+  pub chosen_within : (row : List Val) → AreChosenWithin group.columns group.functions row (chosen row)
   pub enough : (xs : List (List Val)) → May xs → before + length (keys (length (key_fields group fields)) xs) * group_size (key_fields group fields) (aggregates_of group fields) + 2 * u < (most + 1) * u
   pub met : (row : List Val) (xs : List (List Val)) → May xs → length (in_slot slot (slot (key_of (length (key_fields group fields)) row)) (keys (length (key_fields group fields)) xs)) ≤ entries row
 
 -- by what is known of all of these rows, where those that come are some of them
 pub suits : (group : Group) (fields : List Field) (u most budget : ℕ) (entries chosen : List Val → ℕ) (all : List (List Val)) → CanGroup group → kinds_of (sources_of fields) ≡ map kind_of group.values → (May : List (List Val) → Type 0) → ((rows more : List (List Val)) → May (rows ++ more) → May rows) →
-    ((xs : List (List Val)) → May xs → 1 ≤ length group.functions → length xs ≤ 10 ^ 18) → ((row : List Val) (xs : List (List Val)) → May xs → AreChosenWithin group.columns group.functions xs row (chosen row)) →
+    ((xs : List (List Val)) → May xs → 1 ≤ length group.functions → length xs ≤ 10 ^ 18) → ((row : List Val) → AreChosenWithin group.columns group.functions row (chosen row)) →
     ((xs : List (List Val)) → May xs → length (keys group.columns xs) ≤ length (keys group.columns all)) → ((j : ℕ) (xs : List (List Val)) → May xs → length (in_slot slot j (keys group.columns xs)) ≤ length (in_slot slot j (keys group.columns all))) →
     ((row : List Val) → length (in_slot slot (slot (key_of group.columns row)) (keys group.columns all)) ≤ entries row) → group_width group + u ≤ page → groups_paid u group budget all + 2 * u < (most + 1) * u →
     Suits group fields u most (budget + u + 4096) entries chosen May
-suits group fields u most budget entries chosen all can field_kinds May first few_rows chosen_rows fewer fewer_there met fits enough =
+suits group fields u most budget entries chosen all can field_kinds May first few_rows chosen_within fewer fewer_there met fits enough =
     let long = key_long group fields can field_kinds in
     let same = width_is group fields can field_kinds in
     record {
       first = first;
       small = omega (arith, fits, same);
       few_rows = few_rows;
-      chosen_rows = chosen_rows;
+      chosen_within = chosen_within;
       enough = λ xs may.
           (let less = mul-le (length (keys group.columns xs)) (group_width group) (length (keys group.columns all)) (group_width group) (fewer xs may) (omega arith) in
           subst (λ (m : ℕ). budget + u + 4096 + length (keys m xs) * group_size (key_fields group fields) (aggregates_of group fields) + 2 * u < (most + 1) * u) (sym long)
@@ -144,7 +144,7 @@ module _ (T n : ℕ) (columns : List ReadColumn) (literals : List Known) (conten
 
   q : Suits group fields u most (budget + u + 4096) r.entries r.chosen (IsBeginning fed.rows)
   q = suits group fields u most budget r.entries r.chosen fed.rows can field_kinds (IsBeginning fed.rows) (beginning_first fed.rows) (λ xs may some. (let fewer = beginning_few fed.rows xs may in let few = r.few some in omega (arith, fewer, few)))
-      (λ row xs may. chosen_fewer group.columns group.functions fed.rows xs row (r.chosen row) may (r.compared row)) (keys_fewer group.columns fed.rows) (λ j xs may. slot_fewer j group.columns fed.rows xs may) r.met r.fits r.enough
+      r.compared (keys_fewer group.columns fed.rows) (λ j xs may. slot_fewer j group.columns fed.rows xs may) r.met r.fits r.enough
 
   pub gather_ends : (s : LowState) → Between T n c base u s0 stoods budget s → Ends (size (build_block T group.table course) * N) (λ w. Gathered w × (fed.codes ≡ [])) Never (Tells fed.codes) (meaning most fuel (build_block T group.table course) s)
   gather_ends s between =
@@ -155,8 +155,8 @@ module _ (T n : ℕ) (columns : List ReadColumn) (literals : List Known) (conten
       into_ends T n columns literals contents c base u most fuel N many types s0 grounds stoods room_T p group.values is_select (turn_of group r.entries r.chosen) (λ known at a more. IsGrouped fields known at group a more) course next own behind room is own_types source r.finds r.cost
       (directory group.table) (omega (arith, number_is)) (omega (arith, number_is, room_T)) (into_groups c group fields u before (IsBeginning fed.rows) q.first) (λ k o at wide low. low) (λ k o. ([], append-nil fed.rows))
       (λ k o seen tables. (
-        grouped_runs c stoods (rows_left T) (omega (arith, room_T)) most fuel many types group can fields k o u before r.entries r.chosen (IsBeginning fed.rows) q.first (omega (arith, number_is, room_T)) q.small q.few_rows q.chosen_rows q.enough q.met seen tables,
-        row_grouped c stoods (rows_left T) (omega (arith, room_T)) most fuel many types group can fields k o u before r.entries r.chosen (IsBeginning fed.rows) q.first (omega (arith, number_is, room_T)) q.small q.few_rows q.chosen_rows q.enough q.met seen tables,
+        grouped_runs c stoods (rows_left T) (omega (arith, room_T)) most fuel many types group can fields k o u before r.entries r.chosen (IsBeginning fed.rows) q.first (omega (arith, number_is, room_T)) q.small q.few_rows q.chosen_within q.enough q.met seen tables,
+        row_grouped c stoods (rows_left T) (omega (arith, room_T)) most fuel many types group can fields k o u before r.entries r.chosen (IsBeginning fed.rows) q.first (omega (arith, number_is, room_T)) q.small q.few_rows q.chosen_within q.enough q.met seen tables,
       ))
       budget s between Gathered (λ k o after w has keeps. record { part = k; offset = o; behind = after; has = has; keeps = keeps }) (directory_block (directory group.table)) 26 (omega arith)
       (groups_placed c u most fuel group fields (IsBeginning fed.rows) q.first budget s between.part between.offset between.room between.paid grounds.u_low (omega (arith, number_is, room_T, known, own_known, between.keeps.many)) (omega (arith, paid_for)))

@@ -27,9 +27,8 @@ use Rattle.qw_physical.specs.declared.pipeline.Sink.TheVariants as sink
 use Rattle.qw_operator.specs.Carries.{directory}
 use Rattle.qw_operator.specs.Span.{operator_span, sink_span, span}
 use Rattle.qw_operator.specs.Takes.{CanCarry}
-use Rattle.qw_group_sink.specs.Carrying.{span_to}
-use Rattle.qw_group_sink.specs.Grouping.{group_span}
-use Rattle.qw_group_sink.specs.declared.group.Group.{Group}
+use Rattle.qw_operator.specs.Grouping.{group_span}
+use Rattle.qw_operator.specs.declared.group.Group.{Group}
 use Rattle.qw_compile.specs.CourseSpan.{course_span}
 use Rattle.qw_compile.specs.QueryLocals.{query_locals, readers_over}
 use Rattle.qw_compile.specs.QueryMade.{ArePlacesOf, CanStand}
@@ -52,9 +51,9 @@ added_short old new own_old own_new e0 e1 most code0 own0 code own short =
 
 -- ---- the walk
 pub walk_short : (columns functions : ℕ) (behind : Pipeline) (old new : List LowStep) (own_old own_new : List ValType) (e0 e1 : Emitter) → e0.block.code.items ≡ [] → e0.own.items ≡ [] → new ≡ old ++ e1.block.code.items → own_new ≡ own_old ++ e1.own.items →
-    extent e1 ≤ extent e0 + (25 * columns + 328 * functions + span behind.operators.items behind.sink + 60) → length new + length own_new + 40 ≤ length old + length own_old + walk_span columns functions behind
+    extent e1 ≤ extent e0 + (25 * columns + 328 * functions + span behind.operators.items (sink_span behind.sink) + 60) → length new + length own_new + 40 ≤ length old + length own_old + walk_span columns functions behind
 walk_short columns functions behind old new own_old own_new e0 e1 code0 own0 code own short =
-    let all = added_short old new own_old own_new e0 e1 (25 * columns + 328 * functions + span behind.operators.items behind.sink + 60) code0 own0 code own short in
+    let all = added_short old new own_old own_new e0 e1 (25 * columns + 328 * functions + span behind.operators.items (sink_span behind.sink) + 60) code0 own0 code own short in
     omega (arith, all)
 
 -- ---- all of them
@@ -80,20 +79,15 @@ grouped_short front walks code1 code2 code3 code4 own1 own2 before begun walked 
     omega (arith, two, four, before, walked)
 
 -- ---- a pipeline whose rows go into groups, and one that would make rows of their values
-pub span_apart : (os : List Operator) (s : Sink) → span os s ≡ span_to os (sink_span s)
-span_apart [] s = refl
-span_apart (o ∷ os) s = ap (λ (n : ℕ). operator_span o + n) (span_apart os s)
-
-pub span_more : (os : List Operator) (m n d : ℕ) → m ≡ n + d → span_to os m ≡ span_to os n + d
+pub span_more : (os : List Operator) (m n d : ℕ) → m ≡ n + d → span os m ≡ span os n + d
 span_more [] m n d h = h
 span_more (o ∷ os) m n d h = let rest = span_more os m n d h in omega (arith, rest)
 
 pub gathering_as_course : (readers : List Reader) (p : Pipeline) (g : Group) → p.sink ≡ sink.Select g.values → gathering_span readers p.entry p.operators.items g ≡ course_span readers p + 356 * length g.values.items + 100
 gathering_as_course readers p g is =
-    let one = span_apart p.operators.items p.sink in
-    let two = ap (λ (s : Sink). span_to p.operators.items (sink_span s)) is in
+    let two = ap (λ (s : Sink). span p.operators.items (sink_span s)) is in
     let three = span_more p.operators.items (group_span g) (sink_span (sink.Select g.values)) (356 * length g.values.items + 100) (omega arith) in
-    omega (arith, one, two, three)
+    omega (arith, two, three)
 
 -- ---- of a query that is short
 pub parts_short : (readers : List Reader) → ((entry : ℕ) → length (readers_over entry readers) ≤ 64) → (ps : List Pipeline) → AllByRecursion CanBe ps → (behind : Pipeline) → CanBe behind → (columns functions : ℕ) → AreShortGrouped ps behind (columns + functions) →

@@ -23,11 +23,10 @@ use Rattle.qw_table.specs.Tables.{directory_block}
 use Rattle.qw_table.specs.declared.key.Field.{Field}
 use Rattle.qw_physical.specs.Physical.{Operator, Pipeline, Sink}
 use Rattle.qw_physical.specs.declared.pipeline.ReadColumn.{ReadColumn}
-use Rattle.qw_operator.specs.Carries.{directory, result_kinds}
-use Rattle.qw_group_sink.specs.Carrying.{EmitsRowTo}
-use Rattle.qw_group_sink.specs.Grouping.{Group, IsGrouped}
-use Rattle.qw_group_sink.specs.Guarded.{IsGroupedWithin}
-use Rattle.qw_group_sink.proofs.Unguarded.{row_map, unguarded}
+use Rattle.qw_operator.specs.Carries.{EmitsRow, directory, result_kinds}
+use Rattle.qw_operator.specs.Grouping.{Group, IsGrouped}
+use Rattle.qw_operator.specs.Puts.{IsGroupedWithin}
+use Rattle.qw_operator.proofs.Unguarded.{row_map, unguarded}
 use Rattle.qw_group_pipeline.specs.Groups.{EmitsGroups, IsGroupPipeline}
 use Rattle.qw_group_pipeline.specs.declared.columns.ValueColumn.{ValueColumn}
 use Rattle.qw_compile.specs.Placed.{ArePlaced, EmitsBuilds, literals_placed}
@@ -37,20 +36,16 @@ use Rattle.qw_compile.specs.declared.courses.Places.{Places}
 use Rattle.qw_compile_whole.specs.GroupedPlaced.{EmitsFront, EmitsGathering, EmitsGrouped, EmitsWalk, gathering_of}
 use Rattle.qw_compile_whole.specs.GroupedStatements.{IsGatheringTo}
 use Rattle.qw_compile_whole.specs.GuardedStatements.{IsGatheringBy, count_from, gather_block, stop_at}
-use Rattle.qw_compile_whole.proofs.ScanPlaced.{behind_none, free_at, row_over, scan_as, scan_placed}
+use Rattle.qw_compile_whole.proofs.ScanPlaced.{behind_none, free_at, scan_as, scan_placed}
 
 -- ---- the scan
 abbrev pub End : (guard : Option ℕ) → List Field → Group → List Known → (next : ℕ) → Statement → List ValType → Type 0
 End guard fields g = λ known at a more. IsGroupedWithin guard fields known at g a more
 
-pub row_to_as : (guard : Option ℕ) (fields : List Field) (g : Group) (ks known : List Known) (rs readers : List Reader) (os operators : List Operator) (old new : Emitter) → ks ≡ known → rs ≡ readers → os ≡ operators → EmitsRowTo (End guard fields g) ks rs os old new →
-    EmitsRowTo (End guard fields g) known readers operators old new
-row_to_as guard fields g ks known rs readers os operators old new one two three h = row_over (End guard fields g) ks known rs readers os operators old new one two three h
-
 -- whatever is innermost
 module _ (guard : Option ℕ) (E : List Known → (next : ℕ) → Statement → List ValType → Type 0) (p : Places) (first entry : ℕ) (operators : List Operator) (g : Group) (fields : List Field) (old new : List LowStep) (own_old own_new : List ValType) (e0 e1 : Emitter) (head : Reader) (begins : Statement) where
   emitted_by : ((c : Course) (own : List ValType) → IsGatheringTo E (literals_placed p) p.readers.items (first + length own_old) (gathering_of entry operators g) c own → IsGatheringBy guard (literals_placed p) p.readers.items (first + length own_old) (gathering_of entry operators g) g fields c own) →
-      e0.first ≡ first + length own_old → e0.block.code.items ≡ [] → e0.own.items ≡ [] → EmitsRowTo E (literals_placed p) (readers_over entry p.readers.items) operators e0 e1 → kinds_of (sources_of fields) ≡ map kind_of g.values →
+      e0.first ≡ first + length own_old → e0.block.code.items ≡ [] → e0.own.items ≡ [] → EmitsRow E (literals_placed p) (readers_over entry p.readers.items) operators e0 e1 → kinds_of (sources_of fields) ≡ map kind_of g.values →
       slice_get (readers_over entry p.readers.items) 0 ≡ Some head → BeginsAll (readers_over entry p.readers.items) begins →
       ((a : Statement) → e1.block.code.items ≡ steps_of a → new ≡ old ++ steps_of (course_block p.tables (record { index = head.index; begins = begins; row = a }))) → own_new ≡ own_old ++ e1.own.items → EmitsGathering guard p first entry operators g old new own_old own_new
   emitted_by is_by first_is code0 own0 e kinds head_is all coded own_is = record {
@@ -64,7 +59,7 @@ module _ (guard : Option ℕ) (E : List Known → (next : ℕ) → Statement →
   }
 
 pub gathering_emitted : (guard : Option ℕ) (p : Places) (first entry : ℕ) (operators : List Operator) (g : Group) (fields : List Field) (old new : List LowStep) (own_old own_new : List ValType) (e0 e1 : Emitter) (head : Reader) (begins : Statement) → e0.first ≡ first + length own_old →
-    e0.block.code.items ≡ [] → e0.own.items ≡ [] → EmitsRowTo (End guard fields g) (literals_placed p) (readers_over entry p.readers.items) operators e0 e1 → kinds_of (sources_of fields) ≡ map kind_of g.values →
+    e0.block.code.items ≡ [] → e0.own.items ≡ [] → EmitsRow (End guard fields g) (literals_placed p) (readers_over entry p.readers.items) operators e0 e1 → kinds_of (sources_of fields) ≡ map kind_of g.values →
     slice_get (readers_over entry p.readers.items) 0 ≡ Some head → BeginsAll (readers_over entry p.readers.items) begins →
     ((a : Statement) → e1.block.code.items ≡ steps_of a → new ≡ old ++ steps_of (course_block p.tables (record { index = head.index; begins = begins; row = a }))) → own_new ≡ own_old ++ e1.own.items → EmitsGathering guard p first entry operators g old new own_old own_new
 gathering_emitted None p first entry operators g fields old new own_old own_new e0 e1 head begins first_is code0 own0 e kinds head_is all coded own_is =

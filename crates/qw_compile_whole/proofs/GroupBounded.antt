@@ -20,8 +20,8 @@ use Rattle.qw_physical.specs.declared.pipeline.ReadColumn.{ReadColumn}
 use Rattle.qw_operator.specs.Takes.{AreSized, CanCarry}
 use Rattle.qw_operator.proofs.PairRows.{AreStored}
 use Rattle.qw_operator.proofs.Stood.{Stood, built_of}
-use Rattle.qw_group_sink.specs.Carrying.{pipeline_cost_to}
-use Rattle.qw_group_sink.specs.Grouping.{CanGroup, Group, turn_of}
+use Rattle.qw_operator.specs.Costs.{pipeline_cost_to}
+use Rattle.qw_operator.specs.Grouping.{CanGroup, Group, turn_of}
 use Rattle.qw_group_pipeline.specs.Groups.{all_anywhere}
 use Rattle.qw_group_pipeline.specs.declared.columns.ValueColumn.{ValueColumn}
 use Rattle.qw_group_pipeline.proofs.GroupsFeed.{AreNumbered, group_units}
@@ -73,7 +73,7 @@ pub record ReachWith (Few : Type 0) (T n : ℕ) (columns : List ReadColumn) (lit
   pub entries : List Val → ℕ
   pub chosen : List Val → ℕ
   pub met : (row : List Val) → length (in_slot slot (slot (key_of g.columns row)) (keys g.columns (rows_met tables stoods p))) ≤ entries row
-  pub compared : (row : List Val) → AreChosenWithin g.columns g.functions (rows_met tables stoods p) row (chosen row)
+  pub compared : (row : List Val) → AreChosenWithin g.columns g.functions row (chosen row)
   pub cost : 1 + pipeline_cost_to g.values (turn_of g entries chosen) tables (built_of stoods) p ≤ N
   pub few : Few
   pub fits : group_width g + u ≤ page

@@ -32,8 +32,8 @@ use Rattle.qw_physical.proofs.Orders.{Alike}
 use Rattle.qw_operator.proofs.PairRows.{AreStored}
 use Rattle.qw_operator.proofs.Stood.{Stood, built_of}
 use Rattle.qw_emit.proofs.Answered.{IsTold}
-use Rattle.qw_group_sink.specs.Carrying.{pipeline_cost_to}
-use Rattle.qw_group_sink.specs.Grouping.{turn_of}
+use Rattle.qw_operator.specs.Costs.{pipeline_cost_to}
+use Rattle.qw_operator.specs.Grouping.{turn_of}
 use Rattle.qw_group_pipeline.specs.Groups.{most_read}
 use Rattle.qw_group_pipeline.specs.declared.columns.ValueColumn.{ValueColumn}
 use Rattle.qw_group_pipeline.proofs.RowFeeds.{by_result}
@@ -89,7 +89,7 @@ module _ (row_is : (row other : List Val) → is_same_row row other ≡ true →
       rows = (fed_over tables stoods source.last).rows
 
       abbrev chosen : List Val → ℕ
-      chosen row = chosen_units source.group.columns source.group.functions (fed_over tables stoods source.last).rows row
+      chosen row = chosen_units source.group.columns source.group.functions row
 
       abbrev entries : List Val → ℕ
       entries row = length (in_slot slot (slot (key_of source.group.columns row)) (keys source.group.columns (fed_over tables stoods source.last).rows))
@@ -111,8 +111,8 @@ module _ (row_is : (row other : List Val) → is_same_row row other ≡ true →
       turns =
           let many : source.group.columns ≡ n = together.many in
           let functions : source.group.functions ≡ kinds = together.functions in
-          subst (λ (c : ℕ). total (λ (v : List Val). text_octets (take c v) + length (in_slot slot (slot (key_of c v)) (keys c rows)) * (1 + text_octets (take c v)) + chosen_units c source.group.functions rows v) rows ≤ group_units general_hashing query rows) (sym many)
-          (subst (λ (fs : List SetFunctionKind). total (λ (v : List Val). text_octets (take n v) + length (in_slot slot (slot (key_of n v)) (keys n rows)) * (1 + text_octets (take n v)) + chosen_units n fs rows v) rows ≤ group_units general_hashing query rows) (sym functions)
+          subst (λ (c : ℕ). total (λ (v : List Val). text_octets (take c v) + length (in_slot slot (slot (key_of c v)) (keys c rows)) * (1 + text_octets (take c v)) + chosen_units c source.group.functions v) rows ≤ group_units general_hashing query rows) (sym many)
+          (subst (λ (fs : List SetFunctionKind). total (λ (v : List Val). text_octets (take n v) + length (in_slot slot (slot (key_of n v)) (keys n rows)) * (1 + text_octets (take n v)) + chosen_units n fs v) rows ≤ group_units general_hashing query rows) (sym functions)
           (rows_within query rows some_column))
 
       gather_cost : 1 + pipeline_cost_to source.group.values (turn_of source.group entries chosen) tables (built_of stoods) source.last ≤ N
@@ -169,7 +169,7 @@ module _ (row_is : (row other : List Val) → is_same_row row other ≡ true →
         entries = entries;
         chosen = chosen;
         met = λ row. omega arith;
-        compared = λ row. compared_within source.group.columns source.group.functions rows row (chosen row) (omega arith);
+        compared = λ row. compared_within source.group.columns source.group.functions row (chosen row) (omega arith);
         cost = gather_cost;
         few = tt;
         fits = (let width = width_is in let fit = fits_page (group_size query) widest group_fits widest_low in omega (arith, width, fit));

@@ -25,7 +25,7 @@ use Rattle.qw_physical.specs.Spelled.{IsSamePipeline, IsSameSink}
 use Rattle.qw_algebra.proofs.Lists.{all_more}
 use Rattle.qw_operator.proofs.Served.{AreServed, built_at, same_keys}
 use Rattle.qw_operator.proofs.Stood.{Stood, all_entries, built_of}
-use Rattle.qw_group_sink.specs.Carrying.{cost_to, pipeline_cost_to}
+use Rattle.qw_operator.specs.Costs.{cost_to, pipeline_cost_to}
 use Rattle.qw_compile.proofs.PipelineRuns.{AreStood, HasStood}
 use Rattle.qw_compile_whole.proofs.GroupTotals.{total, total_append}
 

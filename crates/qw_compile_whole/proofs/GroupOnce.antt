@@ -24,7 +24,7 @@ use Rattle.qw_table.specs.Tables.{in_slot}
 use Rattle.qw_pipe.specs.General.{general_hashing}
 use Rattle.qw_physical.specs.Courses.{cost, fed}
 use Rattle.qw_physical.specs.Physical.{filter, select}
-use Rattle.qw_group_sink.specs.Carrying.{cost_to}
+use Rattle.qw_operator.specs.Costs.{cost_to}
 use Rattle.qw_group_pipeline.proofs.BehindFront.{behind_alike}
 use Rattle.qw_group_pipeline.proofs.RowFeeds.{by_result}
 use Rattle.qw_whole.specs.GroupTables.{chosen_units, distinct_units}
@@ -104,10 +104,10 @@ module _ (shown : Specification) (some : 1 ≤ length shown.items) (rows : List 
 
   -- of that many columns, and no set functions
   pub turns_once : (columns : ℕ) (functions : List SetFunctionKind) → columns ≡ length (distinct_columns 0 shown.items) → functions ≡ [] →
-      total (λ (v : List Val). text_octets (take columns v) + length (in_slot slot (slot (key_of columns v)) (keys columns rows)) * (1 + text_octets (take columns v)) + chosen_units columns functions rows v) rows ≤ distinct_units general_hashing rows
+      total (λ (v : List Val). text_octets (take columns v) + length (in_slot slot (slot (key_of columns v)) (keys columns rows)) * (1 + text_octets (take columns v)) + chosen_units columns functions v) rows ≤ distinct_units general_hashing rows
   turns_once columns functions many none =
-      subst (λ (c : ℕ). total (λ (v : List Val). text_octets (take c v) + length (in_slot slot (slot (key_of c v)) (keys c rows)) * (1 + text_octets (take c v)) + chosen_units c functions rows v) rows ≤ distinct_units general_hashing rows) (sym many)
+      subst (λ (c : ℕ). total (λ (v : List Val). text_octets (take c v) + length (in_slot slot (slot (key_of c v)) (keys c rows)) * (1 + text_octets (take c v)) + chosen_units c functions v) rows ≤ distinct_units general_hashing rows) (sym many)
       (subst (λ (fs : List SetFunctionKind). total (λ (v : List Val). text_octets (take (length (distinct_columns 0 shown.items)) v) + length (in_slot slot (slot (key_of (length (distinct_columns 0 shown.items)) v)) (keys (length (distinct_columns 0 shown.items)) rows)) * (1 + text_octets (take (length (distinct_columns 0 shown.items)) v))
-      + chosen_units (length (distinct_columns 0 shown.items)) fs rows v) rows ≤ distinct_units general_hashing rows) (sym none)
+      + chosen_units (length (distinct_columns 0 shown.items)) fs v) rows ≤ distinct_units general_hashing rows) (sym none)
       (subst (λ (u : ℕ). total (λ (v : List Val). text_octets (take (length (distinct_columns 0 shown.items)) v) + length (in_slot slot (slot (key_of (length (distinct_columns 0 shown.items)) v)) (keys (length (distinct_columns 0 shown.items)) rows)) * (1 + text_octets (take (length (distinct_columns 0 shown.items)) v))
-      + chosen_units (length (distinct_columns 0 shown.items)) [] rows v) rows ≤ u) (units_once shown some rows long general_hashing) (rows_within (distinct_grouping shown) rows some_columns)))
+      + chosen_units (length (distinct_columns 0 shown.items)) [] v) rows ≤ u) (units_once shown some rows long general_hashing) (rows_within (distinct_grouping shown) rows some_columns)))

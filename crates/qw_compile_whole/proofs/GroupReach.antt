@@ -36,7 +36,7 @@ use Rattle.qw_pipe.specs.Octets.{greatest_entry, table_octets}
 use Rattle.qw_feed.specs.Feeds.{Tells}
 use Rattle.qw_physical.proofs.Results.{entries_stored}
 use Rattle.qw_emit.proofs.Answered.{IsTold}
-use Rattle.qw_group_sink.specs.Carrying.{pipeline_cost_to}
+use Rattle.qw_operator.specs.Costs.{pipeline_cost_to}
 use Rattle.qw_compile.specs.PlannedQueries.{greatest, kept_by, placed, units}
 use Rattle.qw_compile.proofs.Planned.{are_distinct}
 use Rattle.qw_compile_whole.proofs.FrontLed.{FrontOf, cut, end_takes, front_at, front_count, front_takes, front_words, literals_over}

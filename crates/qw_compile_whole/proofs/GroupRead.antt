@@ -13,13 +13,10 @@ use Rattle.qw_types.specs.declared.value.Val.{Val}
 use Rattle.qw_types.specs.declared.value.Val.TheVariants.{Null, Num, Date, Text}
 use Rattle.qw_scalar.specs.Evaluation.{cell_of}
 use Rattle.qw_scalar.specs.Typing.{HasKind, has_kind, kind_of, IsUtf8Value}
-use Rattle.qw_scalar.specs.Units.{most_by}
-use Rattle.qw_scalar.proofs.UnitsLemmas.{most_each}
 use Rattle.qw_grouped.specs.Grouped.{SetFunction, type_of_function, value_kind, widest}
 use Rattle.qw_grouped.specs.declared.query.GroupedColumn.{GroupedColumn}
 use Rattle.qw_grouped.specs.declared.set_function.SetFunctionKind.{SetFunctionKind}
 use Rattle.qw_grouped.specs.declared.set_function.SetFunctionKind.TheVariants.{CountRows, Count, Sum, Avg, Min, Max}
-use Rattle.qw_algebra.proofs.Lists.{all_more}
 use Rattle.qw_expr.specs.Cells.{IsWithin}
 use Rattle.qw_read.specs.Reading.{most_of}
 use Rattle.qw_table.specs.Keys.{octets_of}
@@ -55,26 +52,21 @@ octets_same place row = one (cell_of (slice_get row place))
     one (Date d) = refl
     one (Text t) = omega arith
 
--- what is counted of MIN and MAX at a row is enough for each comparison with another row
-pub compared_within : (place : ℕ) (functions : List SetFunctionKind) (rows : List (List Val)) (row : List Val) (n : ℕ) → chosen_units place functions rows row ≤ n → AreChosenWithin place functions rows row n
-compared_within place [] rows row n h = tt
-compared_within place (f ∷ functions) rows row n h = (
+-- what is counted of MIN and MAX at a row is enough for each comparison
+pub compared_within : (place : ℕ) (functions : List SetFunctionKind) (row : List Val) (n : ℕ) → chosen_units place functions row ≤ n → AreChosenWithin place functions row n
+compared_within place [] row n h = tt
+compared_within place (f ∷ functions) row n h = (
   one f (omega (arith, h)),
-  compared_within (place + 1) functions rows row n (omega (arith, h)),
+  compared_within (place + 1) functions row n (omega (arith, h)),
 )
   where
-    each : octets_at place row + most_by (octets_at place) rows ≤ n → AllByRecursion (λ (r : List Val). groups.octets_at place r + groups.octets_at place row ≤ n) rows
-    each less =
-        all_more (λ (r : List Val). octets_at place r ≤ most_by (octets_at place) rows) (λ (r : List Val). groups.octets_at place r + groups.octets_at place row ≤ n) rows
-        (λ r h. let mine = octets_same place row in let other = octets_same place r in omega (arith, less, h, mine, other)) (most_each (octets_at place) (most_by (octets_at place) rows) rows (omega arith))
-
-    one : (g : SetFunctionKind) → (if chooses g then octets_at place row + most_by (octets_at place) rows else 0) ≤ n → Chooses g → AllByRecursion (λ (r : List Val). groups.octets_at place r + groups.octets_at place row ≤ n) rows
+    one : (g : SetFunctionKind) → (if chooses g then octets_at place row else 0) ≤ n → Chooses g → groups.octets_at place row ≤ n
     one CountRows less never = absurd never
     one Count less never = absurd never
     one Sum less never = absurd never
     one Avg less never = absurd never
-    one Min less so = each less
-    one Max less so = each less
+    one Min less so = let same = octets_same place row in omega (arith, less, same)
+    one Max less so = let same = octets_same place row in omega (arith, less, same)
 
 -- ---- keys
 pub key_stored : (n : ℕ) (columns : List GroupedColumn) (key : List Val) → AllZip (λ (c : GroupedColumn) (v : Val). IsOfTypeOrNull c.ty false v) columns key → AreStored (key_from n columns) key

@@ -85,12 +85,12 @@ module _ (query : Grouped) (rows : List (List Val)) where
 
   -- what MIN and MAX compare at a row, and what it takes in all
   abbrev pub chosen_at : List Val → ℕ
-  chosen_at row = chosen_units (length query.columns) (kinds_of query.functions) rows row
+  chosen_at row = chosen_units (length query.columns) (kinds_of query.functions) row
 
   abbrev pub turn_at : List Val → ℕ
   turn_at row = text_octets (take (length query.columns) row)
       + length (in_slot slot (slot (key_of (length query.columns) row)) (keys (length query.columns) rows)) * (1 + text_octets (take (length query.columns) row))
-      + chosen_units (length query.columns) (kinds_of query.functions) rows row
+      + chosen_units (length query.columns) (kinds_of query.functions) row
 
   -- ---- the row of a group
   values_none : (q : Result (List Val) Code) → by_values q (λ (vs : List Val). text_octets (sink_key (select query.items) vs)) ≡ 0
@@ -148,11 +148,11 @@ module _ (query : Grouped) (rows : List (List Val)) where
       among : (c w e r g s : ℕ) → c ≤ s → g ≡ s + 0 → w ≡ e + 1024 + r + g → c ≤ w
       among c w e r g s h f t = omega (arith, h, f, t)
 
-  pub chosen_within : total (λ (row : List Val). chosen_units (length query.columns) (kinds_of query.functions) rows row) rows ≤ group_units general_hashing query rows
+  pub chosen_within : total (λ (row : List Val). chosen_units (length query.columns) (kinds_of query.functions) row) rows ≤ group_units general_hashing query rows
   chosen_within =
-      let less = total_less (λ (row : List Val). chosen_units (length query.columns) (kinds_of query.functions) rows row) (row_share general_hashing query rows) rows (λ row. omega arith) in
+      let less = total_less (λ (row : List Val). chosen_units (length query.columns) (kinds_of query.functions) row) (row_share general_hashing query rows) rows (λ row. omega arith) in
       let same = total_sum (row_share general_hashing query rows) rows in
-      among (total (λ (row : List Val). chosen_units (length query.columns) (kinds_of query.functions) rows row) rows) (group_units general_hashing query rows) (length (group_keys n rows)) (sum_by (row_share general_hashing query rows) rows)
+      among (total (λ (row : List Val). chosen_units (length query.columns) (kinds_of query.functions) row) rows) (group_units general_hashing query rows) (length (group_keys n rows)) (sum_by (row_share general_hashing query rows) rows)
       (sum_by (group_share query) (groups n rows)) (total (row_share general_hashing query rows) rows) less same (units_told general_hashing query rows)
     where
       among : (c w e r g t : ℕ) → c ≤ t → t ≡ r → w ≡ e + 1024 + r + g → c ≤ w

@@ -24,7 +24,7 @@ use Rattle.qw_physical.specs.declared.pipeline.Pipeline.{Pipeline}
 use Rattle.qw_physical.specs.declared.pipeline.ReadColumn.{ReadColumn}
 use Rattle.qw_operator.specs.Carries.{directory}
 use Rattle.qw_operator.specs.Takes.{CanCarry}
-use Rattle.qw_group_sink.specs.Grouping.{CanGroup, Group, TakeKinds, group_of}
+use Rattle.qw_operator.specs.Grouping.{CanGroup, Group, TakeKinds, group_of}
 use Rattle.qw_group_pipeline.specs.Groups.{IsGroupPipeline}
 use Rattle.qw_group_pipeline.specs.declared.columns.ValueColumn.{ValueColumn}
 use Rattle.qw_compile.specs.CourseSpan.{course_span}

@@ -29,7 +29,7 @@ use Rattle.qw_physical.specs.declared.pipeline.Pipeline as coded
 use Rattle.qw_physical.specs.declared.pipeline.ReadColumn.{ReadColumn}
 use Rattle.qw_physical.proofs.Shown.{IsAmong, Shows, ShowsIn, behind as further, front_is, none_among}
 use Rattle.qw_operator.specs.Takes.{CanCarry, anywhere}
-use Rattle.qw_group_sink.specs.Grouping.{CanGroup, TakeKinds, TakesKind}
+use Rattle.qw_operator.specs.Grouping.{CanGroup, TakeKinds, TakesKind}
 use Rattle.qw_group_pipeline.specs.Groups.{all_anywhere, value_anywhere}
 use Rattle.qw_group_pipeline.specs.declared.columns.ValueColumn.{ValueColumn}
 use Rattle.qw_group_pipeline.proofs.GroupsFeed.{AreNumbered}

@@ -21,7 +21,7 @@ use Rattle.qw_module.specs.declared.instruction.ValType.{ValType}
 use Rattle.qw_map.specs.Layout.{Layout}
 use Rattle.qw_map.specs.declared.layout.Used.{Used}
 use Rattle.qw_low.specs.declared.step.LowStep.{LowStep}
-use Rattle.qw_group_sink.specs.Grouping.{Group}
+use Rattle.qw_operator.specs.Grouping.{Group}
 use Rattle.qw_group_pipeline.specs.declared.columns.ValueColumn.{ValueColumn}
 use Rattle.qw_compile.specs.QueryColumns.{AreColumnsOf}
 use Rattle.qw_compile.specs.QueryLiterals.{pipeline_leaves, query_texts}

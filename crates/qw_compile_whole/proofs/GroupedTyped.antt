@@ -33,14 +33,14 @@ use Rattle.qw_physical.specs.Physical.{Pipeline, filter}
 use Rattle.qw_physical.specs.declared.pipeline.Pipeline as coded
 use Rattle.qw_physical.specs.declared.pipeline.ReadColumn.{ReadColumn}
 use Rattle.qw_operator.specs.Carries.{directory}
-use Rattle.qw_operator.proofs.CarriedTyped.{AreLed, IsReaderDeclared, carried_typed}
+use Rattle.qw_operator.proofs.CarriedTyped.{AreLed, IsReaderDeclared, carried_typed, row_to_typed}
 use Rattle.qw_operator.proofs.Promised.{AreOwn}
-use Rattle.qw_group_sink.specs.Grouping.{CanGroup, Group, IsGrouped, over_fields}
-use Rattle.qw_group_sink.specs.Guarded.{IsGroupedWithin, IsOneGroupWithin}
-use Rattle.qw_group_sink.specs.OneGroup.{IsOneGroup}
-use Rattle.qw_group_sink.proofs.GroupTyped.{grouped_typed, row_to_typed}
-use Rattle.qw_group_sink.proofs.GuardTyped.{grouped_within_typed, one_within_typed}
-use Rattle.qw_group_sink.proofs.OneTyped.{one_typed}
+use Rattle.qw_operator.specs.Grouping.{CanGroup, Group, IsGrouped, over_fields}
+use Rattle.qw_operator.specs.Puts.{IsGroupedWithin, IsOneGroupWithin}
+use Rattle.qw_operator.specs.OneGroup.{IsOneGroup}
+use Rattle.qw_operator.proofs.GroupTyped.{grouped_typed}
+use Rattle.qw_operator.proofs.GuardTyped.{grouped_within_typed, one_within_typed}
+use Rattle.qw_operator.proofs.OneTyped.{one_typed}
 use Rattle.qw_group_pipeline.specs.Groups.{Grouping, InEnd, InSink, IsGroupPipelineTo}
 use Rattle.qw_group_pipeline.specs.declared.columns.ValueColumn.{ValueColumn}
 use Rattle.qw_group_pipeline.proofs.GroupsTyped.{groups_into_typed, groups_typed, row_typed}

@@ -42,8 +42,8 @@ use Rattle.qw_emit.specs.RunsOf.{IsMadeOf, first_locals}
 use Rattle.qw_emit.specs.Alike.{AreAlike}
 use Rattle.qw_emit.proofs.Answered.{IsSomeCode, IsTold}
 use Rattle.qw_emit.proofs.ModuleCompiled.{AreReady, Ending, Settled, module_compiled, module_compiled_or_long}
-use Rattle.qw_group_sink.specs.Grouping.{CanGroup, Group}
-use Rattle.qw_group_sink.specs.Guarded.{IsGroupedWithin}
+use Rattle.qw_operator.specs.Grouping.{CanGroup, Group}
+use Rattle.qw_operator.specs.Puts.{IsGroupedWithin}
 use Rattle.qw_group_pipeline.specs.Groups.{IsGroupPipeline}
 use Rattle.qw_group_pipeline.specs.declared.columns.ValueColumn.{ValueColumn}
 use Rattle.qw_compile.specs.QueryLocals.{own_start, query_locals, query_readers}

@@ -39,7 +39,7 @@ use Rattle.qw_operator.specs.Carries.{directory}
 use Rattle.qw_operator.proofs.Promised.{AreOwn}
 use Rattle.qw_operator.proofs.Seen.{LiesIn, StandsIn}
 use Rattle.qw_emit.proofs.QueryBegins.{RowsBegun}
-use Rattle.qw_group_sink.specs.Grouping.{Group, over_fields}
+use Rattle.qw_operator.specs.Grouping.{Group, over_fields}
 use Rattle.qw_group_pipeline.specs.declared.columns.ValueColumn.{ValueColumn}
 use Rattle.qw_compile.specs.QueryLocals.{cell_start, own_start, query_readers, rows_end}
 use Rattle.qw_compile.proofs.PipelineRuns.{Grounds}

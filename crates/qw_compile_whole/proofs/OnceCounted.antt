@@ -10,7 +10,7 @@ use Rattle.qw_meaning.specs.Outcome.{flow}
 use Rattle.qw_meaning.specs.Query.{query_of}
 use Rattle.qw_meaning.specs.Select.{AreOfEntries, Specification, entries_of}
 use Rattle.qw_grouped.specs.Grouped.{Grouped, IsGrouped, front}
-use Rattle.qw_group_sink.specs.Grouping.{Group}
+use Rattle.qw_operator.specs.Grouping.{Group}
 use Rattle.qw_compile.proofs.QueryReach.{table_of}
 use Rattle.qw_whole.specs.WholePromises.{promise_of_whole}
 use Rattle.qw_compile_whole.specs.GroupColumns.{key_columns, key_from, value_columns}

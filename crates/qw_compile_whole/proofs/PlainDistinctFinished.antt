@@ -30,6 +30,7 @@ use Rattle.qw_promise.specs.Compiled.{GoesWith, IsCompiled}
 use Rattle.qw_emit.specs.Alike.{AreAlike}
 use Rattle.qw_compile.specs.QueryLiterals.{query_words}
 use Rattle.qw_compile.specs.WrittenTexts.{texts_of_query}
+use Rattle.qw_compile.proofs.LiteralOctets.{literal_octets}
 use Rattle.qw_compile.proofs.QueryReach.{table_of}
 use Rattle.qw_whole.specs.WholePromises.{promise_of_whole}
 use Rattle.qw_compile_whole.specs.GroupColumns.{key_from}
@@ -105,6 +106,7 @@ module _ (row_is : (row other : List Val) → is_same_row row other ≡ true →
     columns = used_columns source;
     cells = sym (kinds_back 0 query.items (items_kinds parts s.kept s.columns s.ps s.are)) ∙ shown_kinds;
     small = small;
+    literals = literal_octets texts layout.literals s.made.utf8 s.made.octets_are;
   }
 
   all_small : AllByRecursion IsSmall words

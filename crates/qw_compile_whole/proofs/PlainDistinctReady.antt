@@ -21,7 +21,7 @@ use Rattle.qw_physical.specs.Typed.{IsValued}
 use Rattle.qw_physical.specs.declared.pipeline.Pipeline as coded
 use Rattle.qw_physical.specs.declared.pipeline.ReadColumn.{ReadColumn}
 use Rattle.qw_operator.specs.Takes.{CanCarry, IsValueOver}
-use Rattle.qw_group_sink.specs.Grouping.{CanGroup, Group}
+use Rattle.qw_operator.specs.Grouping.{CanGroup, Group}
 use Rattle.qw_group_pipeline.specs.Groups.{all_anywhere}
 use Rattle.qw_compile.specs.QueryColumns.{AreColumnsOf}
 use Rattle.qw_compile.specs.QueryPasses.{ArePipelinesOf}

@@ -40,10 +40,10 @@ use Rattle.qw_operator.proofs.Filters.{Runs}
 use Rattle.qw_operator.proofs.OperatorsFeed.{FeedsEnd}
 use Rattle.qw_operator.proofs.Promised.{AreOwn}
 use Rattle.qw_operator.proofs.Stood.{AllStand, Stood, built_of}
-use Rattle.qw_group_sink.specs.Carrying.{pipeline_cost_to}
-use Rattle.qw_group_sink.proofs.FieldParts.{take_few}
-use Rattle.qw_group_sink.proofs.PipelineTo.{ScannedTo, pipeline_to_feeds}
-use Rattle.qw_group_sink.proofs.RowCounted.{begins_spare}
+use Rattle.qw_operator.specs.Costs.{pipeline_cost_to}
+use Rattle.qw_operator.proofs.FieldParts.{take_few}
+use Rattle.qw_operator.proofs.PipelineFeeds.{ScannedTo, pipeline_to_feeds}
+use Rattle.qw_operator.proofs.RowCounted.{begins_spare}
 use Rattle.qw_compile.specs.QueryLocals.{base_start, cell_start, own_start, query_readers, rows_end, rows_left}
 use Rattle.qw_compile.specs.Statements.{Course, count_block, course_block}
 use Rattle.qw_compile.proofs.CourseBegins.{Opened}

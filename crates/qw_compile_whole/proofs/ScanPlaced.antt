@@ -8,8 +8,8 @@ use Rattle.qw_expr.specs.declared.emitter.Emitter.{Emitter}
 use Rattle.qw_read.specs.Reading.{BeginsAll}
 use Rattle.qw_read.specs.declared.reader.Reader.{Reader}
 use Rattle.qw_physical.specs.Physical.{Operator, Pipeline}
-use Rattle.qw_group_sink.specs.Carrying.{EmitsRowTo, IsRowTo}
-use Rattle.qw_group_sink.specs.Grouping.{Group}
+use Rattle.qw_operator.specs.Carries.{EmitsRow, IsRow}
+use Rattle.qw_operator.specs.Grouping.{Group}
 use Rattle.qw_compile.specs.Placed.{literals_placed}
 use Rattle.qw_compile.specs.QueryLocals.{readers_over}
 use Rattle.qw_compile.specs.Statements.{Course}
@@ -26,20 +26,15 @@ pub behind_none : {A : Type 0} (old new begun all more : List A) → new ≡ old
 behind_none old new begun all more one two none = one ∙ ap (λ (l : List _). old ++ l) (two ∙ ap (λ (l : List _). l ++ more) none)
 
 module _ (E : List Known → (next : ℕ) → Statement → List ValType → Type 0) where
-  pub row_over : (ks known : List Known) (rs readers : List Reader) (os operators : List Operator) (old new : Emitter) → ks ≡ known → rs ≡ readers → os ≡ operators → EmitsRowTo E ks rs os old new → EmitsRowTo E known readers operators old new
-  row_over ks known rs readers os operators old new one two three h =
-      subst (λ (l : List Known). EmitsRowTo E l readers operators old new) one
-      (subst (λ (l : List Reader). EmitsRowTo E ks l operators old new) two (subst (λ (l : List Operator). EmitsRowTo E ks rs l old new) three h))
-
   pub scan_placed : (p : Places) (first entry : ℕ) (operators : List Operator) (g : Group) (own_old : List ValType) (e0 e1 : Emitter) (head : Reader) (begins : Statement) → e0.first ≡ first + length own_old → e0.own.items ≡ [] →
-      (e : EmitsRowTo E (literals_placed p) (readers_over entry p.readers.items) operators e0 e1) → slice_get (readers_over entry p.readers.items) 0 ≡ Some head → BeginsAll (readers_over entry p.readers.items) begins →
+      (e : EmitsRow E (literals_placed p) (readers_over entry p.readers.items) operators e0 e1) → slice_get (readers_over entry p.readers.items) 0 ≡ Some head → BeginsAll (readers_over entry p.readers.items) begins →
       IsGatheringTo E (literals_placed p) p.readers.items (first + length own_old) (gathering_of entry operators g) (record { index = head.index; begins = begins; row = e.statement }) e.own
   scan_placed p first entry operators g own_old e0 e1 head begins first_is own0 e head_is all = record {
     first = head;
     first_is = head_is;
     index_is = refl;
     begins = all;
-    row = subst (λ (n : ℕ). IsRowTo E (literals_placed p) (readers_over entry p.readers.items) n operators e.statement e.own) (free_at e0 first own_old first_is own0) e.row;
+    row = subst (λ (n : ℕ). IsRow E (literals_placed p) (readers_over entry p.readers.items) n operators e.statement e.own) (free_at e0 first own_old first_is own0) e.row;
   }
 
   -- what its blocks are doesn't depend on its sink
@@ -49,6 +44,6 @@ module _ (E : List Known → (next : ℕ) → Statement → List ValType → Typ
     first_is = subst (λ (n : ℕ). slice_get (readers_over n readers) 0 ≡ Some h.first) one h.first_is;
     index_is = h.index_is;
     begins = subst (λ (n : ℕ). BeginsAll (readers_over n readers) c.begins) one h.begins;
-    row = subst (λ (n : ℕ). IsRowTo E literals (readers_over n readers) next q.operators c.row own) one
-        (subst (λ (os : List Operator). IsRowTo E literals (readers_over p.entry readers) next os c.row own) two h.row);
+    row = subst (λ (n : ℕ). IsRow E literals (readers_over n readers) next q.operators c.row own) one
+        (subst (λ (os : List Operator). IsRow E literals (readers_over p.entry readers) next os c.row own) two h.row);
   }

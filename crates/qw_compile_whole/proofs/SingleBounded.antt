@@ -15,8 +15,8 @@ use Rattle.qw_physical.specs.Physical.{Pipeline, filter, select}
 use Rattle.qw_physical.specs.declared.pipeline.ReadColumn.{ReadColumn}
 use Rattle.qw_operator.specs.Takes.{CanCarry}
 use Rattle.qw_operator.proofs.Stood.{Stood, built_of}
-use Rattle.qw_group_sink.specs.Carrying.{pipeline_cost_to}
-use Rattle.qw_group_sink.specs.Grouping.{CanGroup, Group}
+use Rattle.qw_operator.specs.Costs.{pipeline_cost_to}
+use Rattle.qw_operator.specs.Grouping.{CanGroup, Group}
 use Rattle.qw_group_pipeline.specs.Groups.{all_anywhere, most_read}
 use Rattle.qw_group_pipeline.specs.declared.columns.ValueColumn.{ValueColumn}
 use Rattle.qw_group_pipeline.proofs.GroupsFeed.{AreNumbered}
@@ -52,7 +52,7 @@ pub record TakeReach (T n : ℕ) (columns : List ReadColumn) (literals : List Kn
   pub has_column : HasColumnOf columns p.entry
   pub finds : Finds T n columns literals tables N stoods p
   pub chosen : List Val → ℕ
-  pub compared : (row : List Val) → AreChosenWithin 0 g.functions (rows_met tables stoods p) row (chosen row)
+  pub compared : (row : List Val) → AreChosenWithin 0 g.functions row (chosen row)
   pub cost : 1 + pipeline_cost_to g.values chosen tables (built_of stoods) p ≤ N
   pub few : 1 ≤ length g.functions → length (rows_met tables stoods p) < 10 ^ 18
   pub fits : 32 * length g.functions + u ≤ page

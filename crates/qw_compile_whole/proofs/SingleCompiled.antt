@@ -34,8 +34,8 @@ use Rattle.qw_emit.specs.RunsOf.{IsMadeOf, first_locals}
 use Rattle.qw_emit.specs.Alike.{AreAlike}
 use Rattle.qw_emit.proofs.Answered.{IsSomeCode, IsTold}
 use Rattle.qw_emit.proofs.ModuleCompiled.{AreReady, Ending, Settled, module_compiled_or_long}
-use Rattle.qw_group_sink.specs.Grouping.{Group}
-use Rattle.qw_group_sink.specs.Guarded.{IsOneGroupWithin}
+use Rattle.qw_operator.specs.Grouping.{Group}
+use Rattle.qw_operator.specs.Puts.{IsOneGroupWithin}
 use Rattle.qw_group_pipeline.specs.Groups.{InSink, IsOneRow}
 use Rattle.qw_group_pipeline.specs.declared.columns.ValueColumn.{ValueColumn}
 use Rattle.qw_compile.specs.QueryLocals.{own_start, query_locals, query_readers}

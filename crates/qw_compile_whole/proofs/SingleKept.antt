@@ -30,7 +30,7 @@ use Rattle.qw_physical.specs.Physical.{filter, select}
 use Rattle.qw_physical.proofs.Orders.{Alike}
 use Rattle.qw_operator.proofs.Stood.{Stood, built_of}
 use Rattle.qw_emit.proofs.Answered.{IsTold}
-use Rattle.qw_group_sink.specs.Carrying.{pipeline_cost_to}
+use Rattle.qw_operator.specs.Costs.{pipeline_cost_to}
 use Rattle.qw_group_pipeline.specs.Groups.{most_read}
 use Rattle.qw_group_pipeline.proofs.RowFeeds.{by_result}
 use Rattle.qw_group_pipeline.proofs.ValuesCome.{AreRead, functions_of}
@@ -131,7 +131,7 @@ module _ (row_is : (row other : List Val) → is_same_row row other ≡ true →
       before = budget up tables given.source.building (length given.source.building)
 
       abbrev chosen : List Val → ℕ
-      chosen row = chosen_units 0 given.source.group.functions (fed_over tables stoods given.source.last).rows row
+      chosen row = chosen_units 0 given.source.group.functions row
 
       by_plan : IsPermutation (fed_over tables stoods given.source.last).rows (planned_rows (query_of given.source.parts) tables)
       by_plan = rows_planned row_is value_is given.source tables (loaded_front given tables loaded) stoods stood
@@ -157,8 +157,8 @@ module _ (row_is : (row other : List Val) → is_same_row row other ≡ true →
 
       turns : total chosen (fed_over tables stoods given.source.last).rows ≤ group_units general_hashing folded rows
       turns =
-          subst (λ (fs : List SetFunctionKind). total (λ (row : List Val). chosen_units 0 fs rows row) rows ≤ group_units general_hashing folded rows) (sym alone.functions)
-          (subst (λ (c : ℕ). total (λ (row : List Val). chosen_units c kinds rows row) rows ≤ group_units general_hashing folded rows) alone.no_columns (chosen_within folded rows))
+          subst (λ (fs : List SetFunctionKind). total (λ (row : List Val). chosen_units 0 fs row) rows ≤ group_units general_hashing folded rows) (sym alone.functions)
+          (subst (λ (c : ℕ). total (λ (row : List Val). chosen_units c kinds row) rows ≤ group_units general_hashing folded rows) alone.no_columns (chosen_within folded rows))
 
       take_cost : 1 + pipeline_cost_to given.source.group.values chosen tables (built_of stoods) given.source.last ≤ N
       take_cost = let less = units_less in let taken = turns in turned_cost row_is value_is given.source widest low rows_fit (omega arith) T room tables (loaded_front given tables loaded) (group_units general_hashing query planned) (group_octets query planned) S 1 N (omega arith) (omega arith) stoods stood chosen (omega (arith, less, taken))
@@ -233,7 +233,7 @@ module _ (row_is : (row other : List Val) → is_same_row row other ≡ true →
         has_column = scan_column (entries_of (query_of given.source.parts).sources) given.source.columns given.source.are.each given.source.last (last_scans row_is value_is given.source);
         finds = finds row_is value_is given.source widest low rows_fit (omega arith) T room tables (loaded_front given tables loaded) (group_units general_hashing query planned) (group_octets query planned) S 1 N (omega arith) (omega arith) stoods stood;
         chosen = chosen;
-        compared = λ row. compared_within 0 given.source.group.functions rows row (chosen row) (omega arith);
+        compared = λ row. compared_within 0 given.source.group.functions row (chosen row) (omega arith);
         cost = take_cost;
         fits = fits_given (32 * length given.source.group.functions) area_fits;
         enough = take_pays;

@@ -15,7 +15,7 @@ use Rattle.qw_physical.specs.Physical as physical
 use Rattle.qw_physical.specs.declared.pipeline.Pipeline.{Pipeline}
 use Rattle.qw_physical.specs.declared.pipeline.ReadColumn.{ReadColumn}
 use Rattle.qw_operator.specs.Carries.{directory}
-use Rattle.qw_group_sink.specs.Grouping.{Group, group_of}
+use Rattle.qw_operator.specs.Grouping.{Group, group_of}
 use Rattle.qw_group_pipeline.specs.Groups.{InSink, IsOneRow}
 use Rattle.qw_group_pipeline.specs.declared.columns.ValueColumn.{ValueColumn}
 use Rattle.qw_compile.specs.QueryLiterals.{query_words}

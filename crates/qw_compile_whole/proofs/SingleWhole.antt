@@ -36,6 +36,7 @@ use Rattle.qw_group_pipeline.specs.declared.columns.ValueColumn.{ValueColumn}
 use Rattle.qw_compile.specs.QueryLocals.{own_start, query_locals}
 use Rattle.qw_compile.specs.QueryMade.{literal_locals, literals_by, readers_by, texts_by}
 use Rattle.qw_compile.specs.Statements.{AreCourses}
+use Rattle.qw_compile.proofs.LiteralOctets.{literal_octets}
 use Rattle.qw_compile.proofs.QueryReach.{table_of}
 use Rattle.qw_compile.proofs.QueryTyped.{types}
 use Rattle.qw_whole.specs.WholePromises.{promise_of_whole}
@@ -87,7 +88,7 @@ module _ (row_is : (row other : List Val) → is_same_row row other ≡ true →
   own = s.made.builds_own ++ (s.made.takes_own ++ s.made.one_own)
 
   goes : GoesWith (promise_of_whole whole) layout
-  goes = goes_with row_is value_is parts grouped given false (kinds_folded query (pipeline_of s.behind) s.behind_is ∙ folded_kinds given s.made.kinds_are) small
+  goes = goes_with row_is value_is parts grouped given false (kinds_folded query (pipeline_of s.behind) s.behind_is ∙ folded_kinds given s.made.kinds_are) small (literal_octets (texts_of_grouped parts) layout.literals s.made.utf8 s.made.octets_are)
 
   go_alone : GoAlone (folded_query given) s.group values (literals_over given.source T)
   go_alone = alone row_is value_is parts grouped given T none

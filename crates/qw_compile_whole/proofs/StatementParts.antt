@@ -10,7 +10,7 @@ use Rattle.qw_types.specs.Value.{IsSized}
 use Rattle.qw_types.specs.declared.kind.Kind.{Kind}
 use Rattle.qw_types.specs.declared.schema.ColumnType.{ColumnType}
 use Rattle.qw_types.specs.declared.value.Val.{Val}
-use Rattle.qw_linear.specs.Memory.{page}
+use Rattle.qw_linear.specs.Memory.{AreOctets, page}
 use Rattle.qw_module.specs.declared.instruction.ValType.{ValType}
 use Rattle.qw_scalar.specs.Typing.{kind_of}
 use Rattle.qw_map.specs.Layout.{Layout, descriptor_size, entry_offset}
@@ -33,7 +33,7 @@ use Rattle.qw_physical.specs.declared.pipeline.ReadColumn.{ReadColumn}
 use Rattle.qw_operator.specs.Carries.{result_kinds}
 use Rattle.qw_operator.specs.Takes.{CanCarry}
 use Rattle.qw_promise.specs.Compiled.{GoesWith, IsUsedOf}
-use Rattle.qw_group_sink.specs.Grouping.{CanGroup, Group}
+use Rattle.qw_operator.specs.Grouping.{CanGroup, Group}
 use Rattle.qw_group_pipeline.specs.Groups.{all_anywhere}
 use Rattle.qw_group_pipeline.specs.declared.columns.ValueColumn.{ValueColumn}
 use Rattle.qw_group_pipeline.proofs.GroupsFeed.{AreNumbered}
@@ -153,11 +153,12 @@ module _ (row_is : (row other : List Val) → is_same_row row other ≡ true →
   behind = pipeline_of given.source.behind
 
   -- ---- the layout
-  pub goes_with : (distinct : Bool) → map kind_of asked_query.items ≡ map (λ (k : Kind). Some k) layout.cells → descriptor_size layout ≤ page → GoesWith (promise_of_whole (record { body = asked.grouped (grouped_of parts); distinct = distinct })) layout
-  goes_with distinct cells small = record {
+  pub goes_with : (distinct : Bool) → map kind_of asked_query.items ≡ map (λ (k : Kind). Some k) layout.cells → descriptor_size layout ≤ page → AreOctets layout.literals → GoesWith (promise_of_whole (record { body = asked.grouped (grouped_of parts); distinct = distinct })) layout
+  goes_with distinct cells small octets = record {
     columns = subst (λ (ss : List Source). AllByRecursion (IsUsedOf (entries_of ss)) layout.columns) (ap (λ (s : Specification). s.sources) given.before_is) (used_columns f);
     cells = cells;
     small = small;
+    literals = octets;
   }
 
   -- ---- types

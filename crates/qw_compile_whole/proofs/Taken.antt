@@ -21,7 +21,6 @@ use Rattle.qw_feed.proofs.RoomRuns.{IsRefusal}
 use Rattle.qw_expr.specs.Computes.{Known}
 use Rattle.qw_table.specs.Joins.{sources_of}
 use Rattle.qw_table.specs.declared.key.Field.{Field}
-use Rattle.qw_group.specs.Groups.{AreChosenWithin}
 use Rattle.qw_group.specs.declared.group.Aggregate.{Aggregate}
 use Rattle.qw_group.specs.Single.{HasSingle, single_block}
 use Rattle.qw_group.proofs.SingleRuns.{single_ends}
@@ -31,16 +30,16 @@ use Rattle.qw_operator.specs.Carries.{directory}
 use Rattle.qw_operator.proofs.Promised.{AreOwn}
 use Rattle.qw_operator.proofs.Seen.{StandsIn, longer_keeps}
 use Rattle.qw_operator.proofs.Stood.{Stood}
-use Rattle.qw_group_sink.specs.Grouping.{CanGroup, Group, over_fields}
-use Rattle.qw_group_sink.specs.OneGroup.{IsOneGroup}
-use Rattle.qw_group_sink.proofs.OneFeeds.{one_later, one_sink, row_taken, taken_runs}
+use Rattle.qw_operator.specs.Grouping.{CanGroup, Group, over_fields}
+use Rattle.qw_operator.specs.OneGroup.{IsOneGroup}
+use Rattle.qw_operator.proofs.OneFeeds.{one_later, one_sink, row_taken, taken_runs}
 use Rattle.qw_compile.specs.QueryLocals.{own_start, query_readers, rows_left}
 use Rattle.qw_compile.specs.Statements.{Course}
 use Rattle.qw_compile.proofs.PipelineRuns.{Between, Grounds, Source, Steady, fed_over}
 use Rattle.qw_compile_whole.specs.SingleStatements.{IsTaking, take_block}
 use Rattle.qw_compile_whole.proofs.FieldCounts.{areas_long}
 use Rattle.qw_compile_whole.proofs.SingleBounded.{TakeReach, areas_paid}
-use Rattle.qw_compile_whole.proofs.Beginnings.{IsBeginning, beginning_few, beginning_first, chosen_fewer}
+use Rattle.qw_compile_whole.proofs.Beginnings.{IsBeginning, beginning_few, beginning_first}
 use Rattle.qw_compile_whole.proofs.RunsInto.{Placed, into_ends}
 
 -- ---- the areas stand behind the tables of joins
@@ -93,9 +92,6 @@ module _ (T n : ℕ) (columns : List ReadColumn) (literals : List Known) (conten
   few_rows : (xs : List (List Val)) → May xs → 1 ≤ length group.functions → length xs ≤ 10 ^ 18
   few_rows xs may some = let fewer = beginning_few fed.rows xs may in let few = r.few some in omega (arith, fewer, few)
 
-  chosen_rows : (row : List Val) (xs : List (List Val)) → May xs → AreChosenWithin 0 group.functions xs row (r.chosen row)
-  chosen_rows row xs may = chosen_fewer 0 group.functions fed.rows xs row (r.chosen row) may (r.compared row)
-
   abbrev block : Statement
   block = take_block T group.table (length (over_fields group.functions fields)) course
 
@@ -108,8 +104,8 @@ module _ (T n : ℕ) (columns : List ReadColumn) (literals : List Known) (conten
       into_ends T n columns literals contents c base u most fuel N many types s0 grounds stoods room_T p group.values is_select r.chosen (λ known at a more. IsOneGroup fields known at group a more) course next own behind room is own_types source r.finds r.cost
       d (omega (arith, number_is)) (omega (arith, number_is, room_T)) (into_areas c group fields u budget May (beginning_first fed.rows)) (λ k o at wide low. low) (λ k o. ([], append-nil fed.rows))
       (λ k o seen tables. (
-        taken_runs c stoods (rows_left T) (omega (arith, room_T)) most fuel many types group can none fields k o u held r.chosen May (beginning_first fed.rows) (omega (arith, number_is, room_T)) few_rows chosen_rows seen tables,
-        row_taken c stoods (rows_left T) (omega (arith, room_T)) most fuel many types group can none fields k o u held r.chosen May (beginning_first fed.rows) (omega (arith, number_is, room_T)) few_rows chosen_rows seen tables,
+        taken_runs c stoods (rows_left T) (omega (arith, room_T)) most fuel many types group can none fields k o u held r.chosen May (beginning_first fed.rows) (omega (arith, number_is, room_T)) few_rows r.compared seen tables,
+        row_taken c stoods (rows_left T) (omega (arith, room_T)) most fuel many types group can none fields k o u held r.chosen May (beginning_first fed.rows) (omega (arith, number_is, room_T)) few_rows r.compared seen tables,
       ))
       budget s between Taken (λ k o after w has keeps. record { part = k; offset = o; behind = after; has = has; keeps = keeps }) (single_block (32 * length (over_fields group.functions fields)) d) 26 (omega arith)
       (areas_placed c u most fuel group fields May (beginning_first fed.rows) budget s between.part between.offset between.room between.paid (areas_long group fields can none field_kinds) (omega (arith, number_is, room_T, known, own_known, between.keeps.many)) r.fits r.enough)

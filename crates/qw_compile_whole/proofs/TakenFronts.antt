@@ -18,7 +18,7 @@ use Rattle.qw_table.specs.declared.key.Field.{Field}
 use Rattle.qw_physical.specs.Physical.{Pipeline}
 use Rattle.qw_operator.proofs.CarriedTyped.{AreLed}
 use Rattle.qw_emit.proofs.Answered.{IsSomeCode}
-use Rattle.qw_group_sink.specs.Grouping.{CanGroup, Group, over_fields}
+use Rattle.qw_operator.specs.Grouping.{CanGroup, Group, over_fields}
 use Rattle.qw_compile.proofs.PipelineRuns.{fed_over}
 use Rattle.qw_compile.proofs.QueryRuns.{GroundsAt, Joined, Joins, Setting, base, c, grounds, literals, many, n, own_first, source_of, types}
 use Rattle.qw_compile_whole.specs.GuardedSingles.{IsTakingBy}

@@ -9,7 +9,7 @@ use Rattle.qw_expr.specs.Emits.{extent}
 use Rattle.qw_expr.specs.declared.emitter.Emitter.{Emitter}
 use Rattle.qw_group.specs.Single.{single_block}
 use Rattle.qw_physical.specs.declared.pipeline.Pipeline.{Pipeline}
-use Rattle.qw_operator.specs.Span.{span}
+use Rattle.qw_operator.specs.Span.{sink_span, span}
 use Rattle.qw_compile.specs.Statements.{Course, course_block}
 use Rattle.qw_compile.proofs.CourseLengths.{course_short}
 use Rattle.qw_compile_whole.specs.GroupedLimits.{walk_span}
@@ -30,9 +30,9 @@ taking_short guard t c areas d readers spanned old counted placed scanned new ow
 
 -- the row of the one group
 pub one_short : (functions : ℕ) (behind : Pipeline) (old new : List LowStep) (own_old own_new : List ValType) (e0 e1 : Emitter) → e0.block.code.items ≡ [] → e0.own.items ≡ [] → new ≡ old ++ e1.block.code.items → own_new ≡ own_old ++ e1.own.items →
-    extent e1 ≤ extent e0 + (328 * functions + span behind.operators.items behind.sink) → length new + length own_new + 100 ≤ length old + length own_old + walk_span 0 functions behind
+    extent e1 ≤ extent e0 + (328 * functions + span behind.operators.items (sink_span behind.sink)) → length new + length own_new + 100 ≤ length old + length own_old + walk_span 0 functions behind
 one_short functions behind old new own_old own_new e0 e1 code0 own0 code own short =
-    let all = added_short old new own_old own_new e0 e1 (328 * functions + span behind.operators.items behind.sink) code0 own0 code own short in
+    let all = added_short old new own_old own_new e0 e1 (328 * functions + span behind.operators.items (sink_span behind.sink)) code0 own0 code own short in
     omega (arith, all)
 
 -- all of them

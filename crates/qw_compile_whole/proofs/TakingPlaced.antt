@@ -17,12 +17,11 @@ use Rattle.qw_table.specs.Joins.{sources_of}
 use Rattle.qw_table.specs.declared.key.Field.{Field}
 use Rattle.qw_group.specs.Single.{single_block}
 use Rattle.qw_physical.specs.Physical.{Operator, Pipeline, Sink}
-use Rattle.qw_operator.specs.Carries.{directory, result_kinds}
-use Rattle.qw_group_sink.specs.Carrying.{EmitsRowTo}
-use Rattle.qw_group_sink.specs.Grouping.{Group}
-use Rattle.qw_group_sink.specs.Guarded.{IsOneGroupWithin}
-use Rattle.qw_group_sink.specs.OneGroup.{IsOneGroup}
-use Rattle.qw_group_sink.proofs.Unguarded.{row_map, unguarded_one}
+use Rattle.qw_operator.specs.Carries.{EmitsRow, directory, result_kinds}
+use Rattle.qw_operator.specs.Grouping.{Group}
+use Rattle.qw_operator.specs.Puts.{IsOneGroupWithin}
+use Rattle.qw_operator.specs.OneGroup.{IsOneGroup}
+use Rattle.qw_operator.proofs.Unguarded.{row_map, unguarded_one}
 use Rattle.qw_group_pipeline.specs.Groups.{EmitsOneTo, InSink, IsOneRow}
 use Rattle.qw_group_pipeline.specs.declared.columns.ValueColumn.{ValueColumn}
 use Rattle.qw_compile.specs.Placed.{EmitsBuilds, literals_placed}
@@ -36,14 +35,11 @@ use Rattle.qw_compile_whole.specs.GuardedStatements.{count_from, stop_at}
 use Rattle.qw_compile_whole.specs.SinglePlaced.{EmitsOne, EmitsSingle, EmitsTaking}
 use Rattle.qw_compile_whole.specs.SingleStatements.{take_block}
 use Rattle.qw_compile_whole.proofs.GatheringPlaced.{front_chained}
-use Rattle.qw_compile_whole.proofs.ScanPlaced.{behind_none, free_at, row_over, scan_as, scan_placed}
+use Rattle.qw_compile_whole.proofs.ScanPlaced.{behind_none, free_at, scan_as, scan_placed}
 
 -- ---- the scan
 abbrev pub End : (guard : Option ℕ) → List Field → Group → List Known → (next : ℕ) → Statement → List ValType → Type 0
 End guard fields g = λ known at a more. IsOneGroupWithin guard fields known at g a more
-
-pub row_taken : (guard : Option ℕ) (fields : List Field) (g : Group) (ks known : List Known) (rs readers : List Reader) (operators : List Operator) (old new : Emitter) → ks ≡ known → rs ≡ readers → EmitsRowTo (End guard fields g) ks rs operators old new → EmitsRowTo (End guard fields g) known readers operators old new
-row_taken guard fields g ks known rs readers operators old new one two h = row_over (End guard fields g) ks known rs readers operators operators old new one two refl h
 
 -- its steps, with those that count around them
 take_steps : (guard : Option ℕ) (t n f : ℕ) (c : Course) → steps_of (take_block_by guard t n f c) ≡ steps_of (count_from guard) ++ ((steps_of (single_block (32 * f) (directory n)) ++ steps_of (course_block t c)) ++ steps_of (stop_at guard))
@@ -59,7 +55,7 @@ taken_code guard t n f c old code1 code2 code3 code4 one two three four =
 -- whatever is innermost
 module _ (guard : Option ℕ) (E : List Known → (next : ℕ) → Statement → List ValType → Type 0) (p : Places) (first entry : ℕ) (operators : List Operator) (g : Group) (fields : List Field) (old counted placed scanned new : List LowStep) (own_old own_new : List ValType) (e0 e1 : Emitter) (head : Reader) (begins : Statement) where
   emitted_by : ((c : Course) (own : List ValType) → IsGatheringTo E (literals_placed p) p.readers.items (first + length own_old) (gathering_of entry operators g) c own → IsTakingBy guard (literals_placed p) p.readers.items (first + length own_old) (gathering_of entry operators g) g fields c own) →
-      e0.first ≡ first + length own_old → e0.block.code.items ≡ [] → e0.own.items ≡ [] → EmitsRowTo E (literals_placed p) (readers_over entry p.readers.items) operators e0 e1 → kinds_of (sources_of fields) ≡ map kind_of g.values → counted ≡ old ++ steps_of (count_from guard) →
+      e0.first ≡ first + length own_old → e0.block.code.items ≡ [] → e0.own.items ≡ [] → EmitsRow E (literals_placed p) (readers_over entry p.readers.items) operators e0 e1 → kinds_of (sources_of fields) ≡ map kind_of g.values → counted ≡ old ++ steps_of (count_from guard) →
       placed ≡ counted ++ steps_of (single_block (32 * length g.functions) (directory g.table)) → slice_get (readers_over entry p.readers.items) 0 ≡ Some head → BeginsAll (readers_over entry p.readers.items) begins →
       ((a : Statement) → e1.block.code.items ≡ steps_of a → scanned ≡ placed ++ steps_of (course_block p.tables (record { index = head.index; begins = begins; row = a }))) → new ≡ scanned ++ steps_of (stop_at guard) → own_new ≡ own_old ++ e1.own.items → EmitsTaking guard p first entry operators g old new own_old own_new
   emitted_by is_by first_is code0 own0 e kinds counted_is placed_is head_is all coded stopped own_is = record {
@@ -73,7 +69,7 @@ module _ (guard : Option ℕ) (E : List Known → (next : ℕ) → Statement →
   }
 
 pub taking_emitted : (guard : Option ℕ) (p : Places) (first entry : ℕ) (operators : List Operator) (g : Group) (fields : List Field) (old counted placed scanned new : List LowStep) (own_old own_new : List ValType) (e0 e1 : Emitter) (head : Reader) (begins : Statement) → e0.first ≡ first + length own_old →
-    e0.block.code.items ≡ [] → e0.own.items ≡ [] → EmitsRowTo (End guard fields g) (literals_placed p) (readers_over entry p.readers.items) operators e0 e1 → kinds_of (sources_of fields) ≡ map kind_of g.values → counted ≡ old ++ steps_of (count_from guard) →
+    e0.block.code.items ≡ [] → e0.own.items ≡ [] → EmitsRow (End guard fields g) (literals_placed p) (readers_over entry p.readers.items) operators e0 e1 → kinds_of (sources_of fields) ≡ map kind_of g.values → counted ≡ old ++ steps_of (count_from guard) →
     placed ≡ counted ++ steps_of (single_block (32 * length g.functions) (directory g.table)) → slice_get (readers_over entry p.readers.items) 0 ≡ Some head → BeginsAll (readers_over entry p.readers.items) begins →
     ((a : Statement) → e1.block.code.items ≡ steps_of a → scanned ≡ placed ++ steps_of (course_block p.tables (record { index = head.index; begins = begins; row = a }))) → new ≡ scanned ++ steps_of (stop_at guard) → own_new ≡ own_old ++ e1.own.items → EmitsTaking guard p first entry operators g old new own_old own_new
 taking_emitted None p first entry operators g fields old counted placed scanned new own_old own_new e0 e1 head begins first_is code0 own0 e kinds counted_is placed_is head_is all coded stopped own_is =

@@ -52,8 +52,8 @@ use Rattle.qw_operator.proofs.Seen.{AreWithin, LiesIn, StandsIn, held_more, long
 use Rattle.qw_operator.proofs.Stood.{spend_values}
 use Rattle.qw_emit.proofs.QueryBegins.{RowsBegun, rows_begin_end, rows_keep}
 use Rattle.qw_emit.proofs.QueryEnds.{BehindWords}
-use Rattle.qw_group_sink.specs.Grouping.{Group, aggregates_of, key_fields, over_fields}
-use Rattle.qw_group_sink.proofs.FieldParts.{kinds_dropped}
+use Rattle.qw_operator.specs.Grouping.{Group, aggregates_of, key_fields, over_fields}
+use Rattle.qw_operator.proofs.FieldParts.{kinds_dropped}
 use Rattle.qw_group_pipeline.specs.Groups.{IsGroupPipeline, most_read}
 use Rattle.qw_group_pipeline.specs.declared.columns.ValueColumn.{ValueColumn}
 use Rattle.qw_group_pipeline.proofs.GroupsFeed.{AreTheir, IsGood, IsGoodTo, group_units}

@@ -47,9 +47,9 @@ use Rattle.qw_operator.specs.Takes.{CanCarry}
 use Rattle.qw_operator.proofs.Promised.{AreOwn}
 use Rattle.qw_operator.proofs.Seen.{StandsIn, held_more, longer_keeps, stands_later}
 use Rattle.qw_operator.proofs.Stood.{spend_values}
-use Rattle.qw_group_sink.specs.Carrying.{cost_to}
-use Rattle.qw_group_sink.specs.Grouping.{CanGroup, Group, aggregates_of, key_fields, turn_of}
-use Rattle.qw_group_sink.proofs.FieldParts.{kinds_dropped}
+use Rattle.qw_operator.specs.Costs.{cost_to}
+use Rattle.qw_operator.specs.Grouping.{CanGroup, Group, aggregates_of, key_fields, turn_of}
+use Rattle.qw_operator.proofs.FieldParts.{kinds_dropped}
 use Rattle.qw_group_pipeline.specs.Groups.{Grouping, InEnd, IsGroupPipelineTo, all_anywhere}
 use Rattle.qw_group_pipeline.specs.declared.columns.ValueColumn.{ValueColumn}
 use Rattle.qw_group_pipeline.proofs.GroupsFeed.{AreTheir, IsGoodTo}
@@ -59,7 +59,7 @@ use Rattle.qw_group_pipeline.proofs.WholeGroups.{all_come}
 use Rattle.qw_compile.specs.QueryLocals.{cell_start, own_start, query_readers, rows_end, rows_left}
 use Rattle.qw_compile.proofs.PipelineRuns.{Grounds, Steady, less_known}
 use Rattle.qw_compile.proofs.TableBegins.{Begun, table_begins}
-use Rattle.qw_compile_whole.proofs.Beginnings.{IsPart, part_chosen, part_few, part_first, part_keys, part_slot}
+use Rattle.qw_compile_whole.proofs.Beginnings.{IsPart, part_few, part_first, part_keys, part_slot}
 use Rattle.qw_compile_whole.proofs.EnterBounded.{EnterReach, enter_units}
 use Rattle.qw_compile_whole.proofs.Gathered.{AreGathered, Suits, gathered_paid, key_long, none_begun, suits}
 use Rattle.qw_compile_whole.proofs.GroupBounded.{GoTogether, groups_paid, walked_of}
@@ -139,7 +139,7 @@ module _ (T n : ℕ) (columns : List ReadColumn) (literals : List Known) (conten
 
     q : Suits into into_fields u most before r.entries r.chosen May
     q = suits into into_fields u most paid_for r.entries r.chosen walked.rows can_into into_kinds May (part_first walked.rows) (λ xs may some. (let fewer = part_few walked.rows xs may in let all = r.few some in omega (arith, fewer, all)))
-        (λ row xs may. part_chosen into.columns into.functions walked.rows xs row (r.chosen row) may (r.compared row)) (part_keys into.columns walked.rows) (λ j xs may. part_slot j into.columns walked.rows xs may) r.met r.fits r.enough
+        r.compared (part_keys into.columns walked.rows) (λ j xs may. part_slot j into.columns walked.rows xs may) r.met r.fits r.enough
 
     -- ---- the second directory has been placed
     module _ (t : LowState) (begun : Begun d u paid_for front s t) where
@@ -186,7 +186,7 @@ module _ (T n : ℕ) (columns : List ReadColumn) (literals : List Known) (conten
       held row = held_more c (seen more t) literals row (less_widened from front t.cells c less) (grounds.held t (λ i low high. same_t.locals i (inr (low, high))) (begun.room.pages 0 (omega arith)) row)
 
       abbrev sink : Sink
-      sink = entered more (rows_left T) (omega arith) most fuel many types turns into can_into into_fields k o u before r.entries r.chosen May q.first (omega (arith, low_into)) q.small q.few_rows q.chosen_rows q.enough q.met seen_before
+      sink = entered more (rows_left T) (omega arith) most fuel many types turns into can_into into_fields k o u before r.entries r.chosen May q.first (omega (arith, low_into)) q.small q.few_rows q.chosen_within q.enough q.met seen_before
 
       module _ (Told : ℕ → Type 0) (told : (raised : ℕ) → Tells walked.codes raised → Told raised) where
         enters_end : Ends (size enters * N) (AreEntered T n c base u s0 query into into_fields paid_for rows) Never Told (meaning most fuel enters t)
@@ -198,7 +198,7 @@ module _ (T n : ℕ) (columns : List ReadColumn) (literals : List Known) (conten
             let together_some = together.some in
             let key_many = together.key_many in
             let done =
-            query_enters more (rows_left T) (omega arith) most fuel many types turns into can_into into_fields k o u before r.entries r.chosen May q.first (omega (arith, low_into)) q.small q.few_rows q.chosen_rows q.enough q.met seen_before
+            query_enters more (rows_left T) (omega arith) most fuel many types turns into can_into into_fields k o u before r.entries r.chosen May q.first (omega (arith, low_into)) q.small q.few_rows q.chosen_within q.enough q.met seen_before
             query values_are literals (directory group.table) next key values enters own is (omega (arith, behind)) room (within_among (rows_end T) (cell_start T n (length columns)) next literals (omega arith) (omega (arith, behind)) grounds.within)
             (all_front (λ (x : Known). DeclaresValue types x.operand) literals (map known_of (query_readers T n columns)) grounds.declared) own_types
             (subst (λ (es : List Expression). CanCarry (all_anywhere key values ++ literals) (filter query.having ∷ []) (select es)) (sym values_are) together.takes)

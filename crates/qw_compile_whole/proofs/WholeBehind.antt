@@ -157,10 +157,10 @@ module _ (query : Specification) (some : 1 ≤ length query.items) where
         let n : ℕ = length (distinct_columns 0 query.items) in
         let shown : List Expression = map expression_of_column (distinct_columns 0 query.items) in
         let seen : Flow (List Val) = all_groups (distinct_grouping query) rows in
-        told (table_units h (group_keys n rows) (map (key_of n) rows)) (sum_by (chosen_units n [] rows) rows) (length (groups n rows) * read_units []) (tested_units [] seen.rows) (sum_by (λ (row : List Val). units_of_items shown (at_row row)) (each (kept []) seen).rows)
+        told (table_units h (group_keys n rows) (map (key_of n) rows)) (sum_by (chosen_units n []) rows) (length (groups n rows) * read_units []) (tested_units [] seen.rows) (sum_by (λ (row : List Val). units_of_items shown (at_row row)) (each (kept []) seen).rows)
         (length (behind_front (distinct_grouping query) (record { rows = rows; codes = [] })).rows) (table_units h (once rows) rows) (length (once rows))
         (ap₂ (λ (es ks : List (List Val)). table_units h es ks) (keys_are n rows some_column ∙ keys_once) (ap (λ (m : ℕ). map (key_of m) rows) many ∙ whole_keys (length query.items) rows long))
-        (sum_none (chosen_units n [] rows) rows (λ x. refl)) (none_times (length (groups n rows))) (sum_none (λ (row : List Val). units_of_all [] (at_row row)) seen.rows (λ x. refl))
+        (sum_none (chosen_units n []) rows (λ x. refl)) (none_times (length (groups n rows))) (sum_none (λ (row : List Val). units_of_all [] (at_row row)) seen.rows (λ x. refl))
         (sum_none (λ (row : List Val). units_of_items shown (at_row row)) (each (kept []) seen).rows (λ x. columns_none (distinct_columns 0 query.items) (at_row x))) (ap (λ (f : Flow (List Val)). length f.rows) behind_once)
       where
         none_times : (k : ℕ) → k * 0 ≡ 0

@@ -27,6 +27,7 @@ use Rattle.qw_emit.specs.Alike.{AreAlike}
 use Rattle.qw_emit.specs.RunsOf.{IsMadeOf}
 use Rattle.qw_group_pipeline.specs.declared.columns.ValueColumn.{ValueColumn}
 use Rattle.qw_compile.specs.QueryLocals.{query_locals}
+use Rattle.qw_compile.proofs.LiteralOctets.{literal_octets}
 use Rattle.qw_compile.proofs.LocalsPlaced.{literal_count}
 use Rattle.qw_compile.proofs.QueryReach.{table_of}
 use Rattle.qw_whole.specs.WholePromises.{promise_of_whole}
@@ -71,7 +72,7 @@ module _ (row_is : (row other : List Val) → is_same_row row other ≡ true →
   own = s.made.builds_own ++ (s.made.gathers_own ++ s.made.walk_own)
 
   goes : GoesWith (promise_of_whole whole) layout
-  goes = goes_with row_is value_is parts grouped given false (kinds_folded query (pipeline_of s.behind) s.behind_is ∙ folded_kinds given s.made.kinds_are) small
+  goes = goes_with row_is value_is parts grouped given false (kinds_folded query (pipeline_of s.behind) s.behind_is ∙ folded_kinds given s.made.kinds_are) small (literal_octets (texts_of_grouped parts) layout.literals s.made.utf8 s.made.octets_are)
 
   go_together : GoTogether (folded_query given) s.group key values (literals_over given.source T)
   go_together = together row_is value_is parts grouped given T some sized

@@ -40,8 +40,8 @@ use Rattle.qw_physical.proofs.Orders.{Alike}
 use Rattle.qw_operator.proofs.PairRows.{AreStored, IsHeld}
 use Rattle.qw_operator.proofs.Stood.{Stood}
 use Rattle.qw_emit.proofs.Answered.{IsTold}
-use Rattle.qw_group_sink.specs.Carrying.{cost_to}
-use Rattle.qw_group_sink.specs.Grouping.{Group, turn_of}
+use Rattle.qw_operator.specs.Costs.{cost_to}
+use Rattle.qw_operator.specs.Grouping.{Group, turn_of}
 use Rattle.qw_group_pipeline.specs.Groups.{most_read}
 use Rattle.qw_group_pipeline.proofs.RowFeeds.{by_result}
 use Rattle.qw_group_pipeline.proofs.ValuesCome.{AreRead, functions_of}
@@ -379,7 +379,7 @@ module _ (row_is : (row other : List Val) → is_same_row row other ≡ true →
         entries row = length (in_slot slot (slot (key_of into.columns row)) (keys into.columns (walked_of (folded_query given) (fed_over tables stoods given.source.last).rows).rows))
 
         abbrev chosen : List Val → ℕ
-        chosen row = chosen_units into.columns into.functions (walked_of (folded_query given) (fed_over tables stoods given.source.last).rows).rows row
+        chosen row = chosen_units into.columns into.functions row
 
         enter_cost : 1025 + spend (λ (k : List Val). most_read (functions_of (value_columns query)) + by_result (function_values (length (key_columns query)) (functions_of (value_columns query)) (members given.source.group.columns k rows)) (λ vs. cost_to into.values (turn_of into entries chosen) [] (filter given.behind_is.having ∷ []) (k ++ vs))) (keys given.source.group.columns rows) ≤ N
         enter_cost =
@@ -407,7 +407,7 @@ module _ (row_is : (row other : List Val) → is_same_row row other ≡ true →
           entries = entries;
           chosen = chosen;
           met = λ row. omega arith;
-          compared = λ row. compared_within into.columns into.functions W row (chosen row) (omega arith);
+          compared = λ row. compared_within into.columns into.functions row (chosen row) (omega arith);
           cost = enter_cost;
           few = no_function;
           fits = fits_into;

@@ -10,8 +10,8 @@ use Rattle.qw_read.specs.Reading.{BeginsAll}
 use Rattle.qw_read.specs.declared.reader.Reader.{Reader}
 use Rattle.qw_table.specs.declared.key.Field.{Field}
 use Rattle.qw_physical.specs.Physical.{Pipeline}
-use Rattle.qw_group_sink.specs.Carrying.{IsRowTo}
-use Rattle.qw_group_sink.specs.Grouping.{Group, IsGrouped}
+use Rattle.qw_operator.specs.Carries.{IsRow}
+use Rattle.qw_operator.specs.Grouping.{Group, IsGrouped}
 use Rattle.qw_compile.specs.QueryLocals.{readers_over}
 use Rattle.qw_compile.specs.Statements.{Course, build_block, builds_block}
 
@@ -21,7 +21,7 @@ pub record IsGatheringTo (End : List Known → (next : ℕ) → Statement → Li
   pub first_is : slice_get (readers_over p.entry readers) 0 ≡ Some first
   pub index_is : c.index ≡ first.index
   pub begins : BeginsAll (readers_over p.entry readers) c.begins
-  pub row : IsRowTo End literals (readers_over p.entry readers) next p.operators c.row own
+  pub row : IsRow End literals (readers_over p.entry readers) next p.operators c.row own
 
 -- Those of one whose rows go into groups. Where a row's values are when they go into their group is said by `fields`.
 abbrev pub IsGathering : (literals : List Known) → (readers : List Reader) → (next : ℕ) → Pipeline → Group → (fields : List Field) → Course → (own : List ValType) → Type 0

@@ -8,8 +8,8 @@ use Rattle.qw_expr.specs.Computes.{Known}
 use Rattle.qw_read.specs.declared.reader.Reader.{Reader}
 use Rattle.qw_table.specs.declared.key.Field.{Field}
 use Rattle.qw_physical.specs.Physical.{Pipeline}
-use Rattle.qw_group_sink.specs.Grouping.{Group}
-use Rattle.qw_group_sink.specs.Guarded.{IsOneGroupWithin}
+use Rattle.qw_operator.specs.Grouping.{Group}
+use Rattle.qw_operator.specs.Puts.{IsOneGroupWithin}
 use Rattle.qw_compile.specs.Statements.{Course, builds_block}
 use Rattle.qw_compile_whole.specs.GroupedStatements.{IsGatheringTo}
 use Rattle.qw_compile_whole.specs.GuardedStatements.{count_from, stop_at}

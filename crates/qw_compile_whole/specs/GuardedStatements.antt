@@ -11,8 +11,8 @@ use Rattle.qw_expr.specs.Computes.{Known}
 use Rattle.qw_read.specs.declared.reader.Reader.{Reader}
 use Rattle.qw_table.specs.declared.key.Field.{Field}
 use Rattle.qw_physical.specs.Physical.{Pipeline}
-use Rattle.qw_group_sink.specs.Grouping.{Group}
-use Rattle.qw_group_sink.specs.Guarded.{IsGroupedWithin}
+use Rattle.qw_operator.specs.Grouping.{Group}
+use Rattle.qw_operator.specs.Puts.{IsGroupedWithin}
 use Rattle.qw_compile.specs.Statements.{Course, build_block, builds_block}
 use Rattle.qw_compile_whole.specs.GroupedStatements.{IsGathering, IsGatheringTo}
 

@@ -10,8 +10,8 @@ use Rattle.qw_table.specs.declared.key.Field.{Field}
 use Rattle.qw_group.specs.Single.{single_block}
 use Rattle.qw_physical.specs.Physical.{Pipeline}
 use Rattle.qw_operator.specs.Carries.{directory}
-use Rattle.qw_group_sink.specs.Grouping.{Group}
-use Rattle.qw_group_sink.specs.OneGroup.{IsOneGroup}
+use Rattle.qw_operator.specs.Grouping.{Group}
+use Rattle.qw_operator.specs.OneGroup.{IsOneGroup}
 use Rattle.qw_compile.specs.Statements.{Course, builds_block, course_block}
 use Rattle.qw_compile_whole.specs.GroupedStatements.{IsGatheringTo}
 

@@ -14,7 +14,7 @@ use Rattle.qw_physical.specs.Coded.{pipeline_of}
 use Rattle.qw_physical.specs.Named.{numbers}
 use Rattle.qw_physical.specs.declared.pipeline.Pipeline.{Pipeline}
 use Rattle.qw_physical.specs.declared.pipeline.ReadColumn.{ReadColumn}
-use Rattle.qw_group_sink.specs.Grouping.{Group}
+use Rattle.qw_operator.specs.Grouping.{Group}
 use Rattle.qw_compile.specs.QueryColumns.{AreColumnsOf}
 use Rattle.qw_compile.specs.QueryLiterals.{query_texts}
 use Rattle.qw_compile.specs.QueryPasses.{ArePipelinesOf}

@@ -34,7 +34,8 @@ use Rattle.qw_low.proofs.Appended.{four}
 use Rattle.qw_low.proofs.Promises.{Ends-weaker}
 use Rattle.qw_low.proofs.Results.{Kept-same, Kept-set, Kept-then, Comes, comes_then, comes_assign}
 use Rattle.qw_text.specs.Likes.{Likes, SaysLike, like_types, pairs}
-use Rattle.qw_text.specs.Texts.{Compares, DeclaresText, SaysSame, SaysOrder, of_both, of_left, own_types}
+use Rattle.std.proofs.Math.Nat.{min-le_left}
+use Rattle.qw_text.specs.Texts.{Compares, DeclaresText, SaysSame, SaysOrder, of_shorter, of_left, own_types}
 use Rattle.qw_wide.proofs.Words.{held_word}
 use Rattle.qw_expr.specs.declared.emitter.Emitter.{Emitter}
 use Rattle.qw_expr.specs.declared.text.TextLocals.{TextLocals}
@@ -124,9 +125,9 @@ order_from o (inr (inl is)) = subst IsOrder (sym is) (record { own_is = refl; st
 order_from o (inr (inr (inl is))) = subst IsOrder (sym is) (record { own_is = refl; steps_are = refl; octets_are = λ v w. refl; answers_are = λ v w. refl })
 order_from o (inr (inr (inr is))) = subst IsOrder (sym is) (record { own_is = refl; steps_are = refl; octets_are = λ v w. refl; answers_are = λ v w. refl })
 
-pub tests_order : (operator : Comparison) (left right : Cell) (free t out : ℕ) (a : Statement) → IsOrder operator → out ≡ free + 2 → Compares of_both (SaysOrder out) left right free a → TestsTexts operator left right free t (seq a (assign t (zero_test operator out)))
+pub tests_order : (operator : Comparison) (left right : Cell) (free t out : ℕ) (a : Statement) → IsOrder operator → out ≡ free + 2 → Compares of_shorter (SaysOrder out) left right free a → TestsTexts operator left right free t (seq a (assign t (zero_test operator out)))
 tests_order operator left right free t out a order place compares =
-    tests_by of_both own_types operator (SaysOrder out) left right free t a (zero_test operator out) (λ v w. let octets = order.octets_are v w in omega (arith, octets)) order.own_is compares.runs compares.typed
+    tests_by of_shorter own_types operator (SaysOrder out) left right free t a (zero_test operator out) (λ v w. let octets = order.octets_are v w in let less = min-le_left (length v) (length w) in omega (arith, octets, less)) order.own_is compares.runs compares.typed
     (λ u v w says.
     let fit : FitsSigned w64 says.0 = fits_back says.1.0 says.0 says.1.2 says.1.3 in
     rw (held_word u out says.0 says.1) (ap (λ (n : ℕ). Some (Number n)) (zero_told operator says.0 (text_order v w) fit says.2 ∙ ap truth (sym (order.answers_are v w)))))

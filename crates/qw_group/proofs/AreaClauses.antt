@@ -1,9 +1,7 @@
 -- What the block of a set function promises: its runs, its types and its size.
-use Rattle.std.proofs.Common.{◌≡◌, ℕ, suc, ◌+◌, ◌<◌, ◌≤◌, Option, Some, None, List, [], ◌∷◌, slice_get, refl, sym, subst, arith}
-use Rattle.std.specs.List.{AllByRecursion}
+use Rattle.std.proofs.Common.{◌≡◌, ℕ, suc, ◌+◌, ◌<◌, ◌≤◌, Option, Some, None, List, slice_get, refl, sym, subst, arith}
 use Rattle.qw_types.specs.declared.kind.Kind.{Kind}
 use Rattle.qw_types.specs.declared.kind.Kind.TheVariants as kind
-use Rattle.qw_types.specs.declared.value.Val.{Val}
 use Rattle.qw_grouped.specs.declared.set_function.SetFunctionKind.{SetFunctionKind}
 use Rattle.qw_grouped.specs.declared.set_function.SetFunctionKind.TheVariants.{CountRows, Count, Sum, Avg, Min, Max}
 use Rattle.qw_module.specs.declared.instruction.ValType.{ValType}
@@ -18,7 +16,7 @@ use Rattle.qw_low.specs.Typing.{IsTyped}
 use Rattle.qw_low.specs.Size.{size}
 use Rattle.qw_text.specs.Texts.{Compares, SaysOrder, of_both, own_types}
 use Rattle.qw_table.specs.Entries.{Declares}
-use Rattle.qw_table.specs.Keys.{IsBelow, DeclaresKind, DeclaresNull, octets_of}
+use Rattle.qw_table.specs.Keys.{IsBelow, DeclaresKind, DeclaresNull}
 use Rattle.qw_table.specs.Joins.{Told, unless_null}
 use Rattle.qw_table.specs.declared.key.Field.{Field}
 use Rattle.qw_group.specs.Areas.{Aggregates, Takes, OrdersTexts, DeclaresArgument, area_types, count_more, sum_more, plain_put, chosen_read, is_beaten, choose_more, value_more, area_block}
@@ -104,15 +102,10 @@ aggregates_typed function f e at g a is types e_is f_is own = subst (IsTyped typ
 pub aggregates_short : (function : SetFunctionKind) (f : Field) (e at g : ℕ) (a : Statement) → Aggregates function f e at g a → size a ≤ 100
 aggregates_short function f e at g a is = subst (λ (b : Statement). size b ≤ 100) (sym is.is) (area_short function is.order f e at g is.orders)
 
--- units of a comparison, and one
-one_more : (n : ℕ) (v : Val) (values : List Val) → AllByRecursion (λ (w : Val). octets_of w + octets_of v ≤ n) values → AllByRecursion (λ (w : Val). 1 + (octets_of w + octets_of v) ≤ 1 + n) values
-one_more n v [] all = tt
-one_more n v (w ∷ values) all = (let one = all.0 in omega (arith, one), one_more n v values all.1)
-
 pub aggregates_take : (function : SetFunctionKind) (f : Field) (e at g : ℕ) (a : Statement) → e < g → IsBelow g f → Aggregates function f e at g a → Takes function f e at g a
 aggregates_take function f e at g a e_low below is = record {
   runs = λ text most fuel n k o s values v turns few units stands gives e_is sized inside has room.
-      takes_end (Told text) most fuel (1 + n) k o e at g (omega arith) turns e_low f below s values few v e_is sized inside room stands function a is (λ chooses. one_more n v values (units chooses)) gives has;
+      takes_end (Told text) most fuel (1 + n) k o e at g (omega arith) turns e_low f below s values few v e_is sized inside room stands function a is (λ chooses. let unit = units chooses in omega (arith, unit)) gives has;
   typed = aggregates_typed function f e at g a is;
   short = aggregates_short function f e at g a is;
 }

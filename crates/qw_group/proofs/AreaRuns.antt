@@ -1,6 +1,5 @@
 -- The area of a set function takes one value more.
 use Rattle.std.proofs.Common.{◌≡◌, ℕ, suc, ◌+◌, ◌-◌, ◌*◌, ◌^◌, ◌<◌, ◌≤◌, ◌⊎◌, inl, inr, Bool, true, false, if◌then◌else◌, ℤ, ◌+ℤ◌, unsigned_abs, FitsSigned, List, [], ◌∷◌, ◌++◌, length, length-append, length-set, Option, Some, None, slice_get, refl, sym, ap, ◌∙◌, subst, arith, w64}
-use Rattle.std.specs.List.{AllByRecursion}
 use Rattle.std.proofs.lemmas.Bool.{ne_eqb}
 use Rattle.qw_types.specs.Kind.{IsOfKind}
 use Rattle.qw_types.specs.ValueOrder.{value_order}
@@ -27,7 +26,7 @@ use Rattle.qw_low.specs.Size.{size}
 use Rattle.qw_low.specs.Promise.{Ends}
 use Rattle.qw_low.specs.Raising.{Kept}
 use Rattle.qw_low.proofs.Promises.{Ends-weaker}
-use Rattle.qw_text.specs.Texts.{Compares, SaysOrder, of_both}
+use Rattle.qw_text.specs.Texts.{Compares, SaysOrder, of_shorter}
 use Rattle.qw_feed.specs.Cells.{Says, Lacks, Supplies}
 use Rattle.qw_feed.proofs.Frames.{Never, with_cell-apart}
 use Rattle.qw_table.specs.Entries.{Stands}
@@ -43,7 +42,7 @@ use Rattle.qw_group.proofs.AreaSteps as steps
 use Rattle.qw_group.proofs.AreaSteps.{Does, does_within, does_then, does_choose, does_skip, unless_does}
 use Rattle.qw_group.proofs.ChosenRuns.{Plainly, supplied-plainly, plainly-kept, plain-same, Put, put_ends, compare_does}
 use Rattle.qw_group.proofs.SumAreaRuns.{Summed, sum_more_ends}
-use Rattle.qw_group.proofs.TakenFacts.{after, taken-null, taken-there, taken-few, one-more, all-taken, magnitude-add, total-more, least-more, greatest-more, least-in, greatest-in}
+use Rattle.qw_group.proofs.TakenFacts.{after, taken-null, taken-there, taken-few, one-more, magnitude-add, total-more, least-more, greatest-more}
 use Rattle.qw_group.proofs.WideRuns.{none}
 
 -- ---- null or not, as locals say
@@ -194,7 +193,7 @@ module _ (Text : Part → ℕ → List ℕ → Type 0) (most fuel more p off e a
 
     -- ---- MIN and MAX: each value that beats the one that is chosen, as a comparison tells, takes its place
     module _ (choose : Val → List Val → Val) (o : Comparison) (chosen_none : (w : Val) → choose w [] ≡ w) (chosen_more : (w : Val) (ws : List Val) (x : Val) → choose w (ws ++ x ∷ []) ≡ after o (choose w ws) x)
-        (chosen_in : (P : Val → Type 0) (w : Val) (ws : List Val) → P w → AllByRecursion P ws → P (choose w ws)) (order : Statement) (orders : f.kind ≡ kind.Text → Compares of_both (SaysOrder (g + 7)) (record { value = g + 3; length = g + 4; null = None }) c (g + 5) order)
+        (order : Statement) (orders : f.kind ≡ kind.Text → Compares of_shorter (SaysOrder (g + 7)) (record { value = g + 3; length = g + 4; null = None }) c (g + 5) order)
         (of : IsOfKind f.kind v) (h : Plainly Text t.locals c v) where
       abbrev Best : LowState → Type 0
       Best u = In u × (HasCount (length (not_null values')) u.cells p from × HasChosen Text f.kind choose (not_null values') u.cells p from)
@@ -226,24 +225,23 @@ module _ (Text : Part → ℕ → List ℕ → Type 0) (most fuel more p off e a
       choice = conditional (is_beaten f.kind (relation_of o) c g) put skip
 
       -- by the values that were taken
-      chooses : (ws : List Val) → not_null values ≡ ws → HasChosen Text f.kind choose ws t.cells p from → AllByRecursion (λ (w : Val). 1 + (octets_of w + octets_of v) ≤ more) ws →
+      chooses : (ws : List Val) → not_null values ≡ ws → HasChosen Text f.kind choose ws t.cells p from → 1 + octets_of v ≤ more →
           Does most fuel more some Best (conditional (relop I64 Ne (local g) (i64 0)) (seq (chosen_read f.kind order e at g) choice) put) r
-      chooses [] is known all =
+      chooses [] is known unit =
           let g_is : value r (relop I64 Ne (local g) (i64 0)) ≡ Some (Number (truth false)) = rw (slice_get-set_same t.locals g (Number n) (omega (arith, room)) ∙ ap (λ (l : List Val). Some (Number (length l))) is) refl in
           let new : not_null values' ≡ v ∷ [] = whole ∙ ap (λ (l : List Val). l ++ v ∷ []) is in
           does_choose most fuel more some Best (relop I64 Ne (local g) (i64 0)) false (seq (chosen_read f.kind order e at g) choice) put r g_is (λ yes. absurd cc)
           (λ no'. puts r (record { others = refl; many = refl; below = λ i low. refl })
           (λ cells plain. subst (λ (l : List Val). HasChosen Text f.kind choose l cells p from) (sym new)
           (subst (λ (w : Val). IsOfKind f.kind w × HasPlain Text cells p from w) (sym (chosen_none v)) (of, plain))))
-      chooses (w ∷ ws) is known all =
+      chooses (w ∷ ws) is known unit =
           let b : Val = choose w ws in
           let g_is : value r (relop I64 Ne (local g) (i64 0)) ≡ Some (Number (truth true)) = rw (slice_get-set_same t.locals g (Number n) (omega (arith, room)) ∙ ap (λ (l : List Val). Some (Number (length l))) is, ne_eqb (suc (length ws)) 0 (λ i. omega (arith, i))) refl in
           let new : not_null values' ≡ w ∷ (ws ++ v ∷ []) = whole ∙ ap (λ (l : List Val). l ++ v ∷ []) is in
           let plain_b : HasPlain Text r.cells p from b = plain-same Text t.cells r.cells p from b (λ a l wide low high. before_r a l low high) known.1 in
-          let unit_b : 1 + (octets_of b + octets_of v) ≤ more = chosen_in (λ (x : Val). 1 + (octets_of x + octets_of v) ≤ more) w ws all.0 all.1 in
           does_choose most fuel more some Best (relop I64 Ne (local g) (i64 0)) true (seq (chosen_read f.kind order e at g) choice) put r g_is
           (λ yes. does_then most fuel more some (λ u. Kept g r u × (value u (is_beaten f.kind (relation_of o) c g) ≡ Some (Number (truth (answers o (value_order b v)))))) Best (chosen_read f.kind order e at g) choice r
-          (compare_does Text most fuel p off e at g e_low inside c (below.0, below.1) o more some turns order r e_r (omega (arith, many_r, room)) (stands r (in_q n le has)) f.kind b v orders known.0 of plain_b (plainly_r h) unit_b)
+          (compare_does Text most fuel p off e at g e_low inside c (below.0, below.1) o more some turns order r e_r (omega (arith, many_r, room)) (stands r (in_q n le has)) f.kind b v orders known.0 of plain_b (plainly_r h) unit)
           (λ u done. does_choose most fuel more some Best (is_beaten f.kind (relation_of o) c g) (answers o (value_order b v)) put skip u done.1
           (λ win. puts u done.0 (λ cells plain. subst (λ (l : List Val). HasChosen Text f.kind choose l cells p from) (sym new)
           (subst (λ (x : Val). IsOfKind f.kind x × HasPlain Text cells p from x) (sym (chosen_more w ws v ∙ ap (λ (k : Bool). if k then v else b) win)) (of, plain))))
@@ -258,8 +256,8 @@ module _ (Text : Part → ℕ → List ℕ → Type 0) (most fuel more p off e a
           ))))
           (λ no'. absurd cc)
 
-      choose_does : AllByRecursion (λ (w : Val). 1 + (octets_of w + octets_of v) ≤ more) values → HasChosen Text f.kind choose (not_null values) t.cells p from → Does most fuel more some Best (conditional (relop I64 Ne (local g) (i64 0)) (seq (chosen_read f.kind order e at g) choice) put) r
-      choose_does units known = chooses (not_null values) refl known (all-taken (λ (w : Val). 1 + (octets_of w + octets_of v) ≤ more) values units)
+      choose_does : 1 + octets_of v ≤ more → HasChosen Text f.kind choose (not_null values) t.cells p from → Does most fuel more some Best (conditional (relop I64 Ne (local g) (i64 0)) (seq (chosen_read f.kind order e at g) choice) put) r
+      choose_does unit known = chooses (not_null values) refl known unit
 
   -- ---- any set function
   abbrev pub Taken : SetFunctionKind → LowState → Type 0
@@ -272,24 +270,24 @@ module _ (Text : Part → ℕ → List ℕ → Type 0) (most fuel more p off e a
       (λ there. counts_then Sums (sum_more e at c.value g) n (taken-few values) has.0 (sums has.0 there has.1 of (supplied-plainly Text t.locals c v there supplied)))
 
   module _ (choose : Val → List Val → Val) (o : Comparison) (chosen_none : (w : Val) → choose w [] ≡ w) (chosen_more : (w : Val) (ws : List Val) (x : Val) → choose w (ws ++ x ∷ []) ≡ after o (choose w ws) x)
-      (chosen_in : (P : Val → Type 0) (w : Val) (ws : List Val) → P w → AllByRecursion P ws → P (choose w ws)) (order : Statement) (orders : f.kind ≡ kind.Text → Compares of_both (SaysOrder (g + 7)) (record { value = g + 3; length = g + 4; null = None }) c (g + 5) order) where
+      (order : Statement) (orders : f.kind ≡ kind.Text → Compares of_shorter (SaysOrder (g + 7)) (record { value = g + 3; length = g + 4; null = None }) c (g + 5) order) where
     abbrev Chosen : LowState → Type 0
     Chosen u = In u × (HasCount (length (not_null values')) u.cells p from × HasChosen Text f.kind choose (not_null values') u.cells p from)
 
-    chosen_does : AllByRecursion (λ (w : Val). 1 + (octets_of w + octets_of v) ≤ more) values → Supplies Text t.locals c v → IsOfKind f.kind v → HasCount n t.cells p from × HasChosen Text f.kind choose (not_null values) t.cells p from → Does most fuel more some Chosen (unless_null c.null (choose_more f.kind (relation_of o) order c e at g)) t
+    chosen_does : 1 + octets_of v ≤ more → Supplies Text t.locals c v → IsOfKind f.kind v → HasCount n t.cells p from × HasChosen Text f.kind choose (not_null values) t.cells p from → Does most fuel more some Chosen (unless_null c.null (choose_more f.kind (relation_of o) order c e at g)) t
     chosen_does units supplied of has =
         unless Chosen (choose_more f.kind (relation_of o) order c e at g) supplied
         (λ is. (place-none p from (from + 32) g t, (count_null is t.cells has.0, subst (λ (l : List Val). HasChosen Text f.kind choose l t.cells p from) (sym (taken-null values v is)) has.1)))
         (λ there. counts_then Chosen (conditional (relop I64 Ne (local g) (i64 0)) (seq (chosen_read f.kind order e at g) (conditional (is_beaten f.kind (relation_of o) c g) (plain_put f.kind c e at) skip)) (plain_put f.kind c e at)) n (taken-few values) has.0
-        (choose_does has.0 there choose o chosen_none chosen_more chosen_in order orders of (supplied-plainly Text t.locals c v there supplied) units has.1))
+        (choose_does has.0 there choose o chosen_none chosen_more order orders of (supplied-plainly Text t.locals c v there supplied) units has.1))
 
-  pub area_does : (function : SetFunctionKind) (order : Statement) → OrdersTexts function f g order → (Chooses function → AllByRecursion (λ (w : Val). 1 + (octets_of w + octets_of v) ≤ more) values) → Gives Text t.locals function f v → HasAggregate Text function f.kind values t.cells p from → Does most fuel more some (Taken function) (area_block function order f e at g) t
+  pub area_does : (function : SetFunctionKind) (order : Statement) → OrdersTexts function f g order → (Chooses function → 1 + octets_of v ≤ more) → Gives Text t.locals function f v → HasAggregate Text function f.kind values t.cells p from → Does most fuel more some (Taken function) (area_block function order f e at g) t
   area_does CountRows order orders units gives has = rows_does has
   area_does Count order orders units gives has = values_does gives.0 has
   area_does Sum order orders units gives has = summed_does gives.0 gives.1 has
   area_does Avg order orders units gives has = summed_does gives.0 gives.1 has
-  area_does Min order orders units gives has = chosen_does least op.Greater (λ w. refl) least-more least-in order (λ text. orders tt text) (units tt) gives.0 gives.1 has
-  area_does Max order orders units gives has = chosen_does greatest op.Less (λ w. refl) greatest-more greatest-in order (λ text. orders tt text) (units tt) gives.0 gives.1 has
+  area_does Min order orders units gives has = chosen_does least op.Greater (λ w. refl) least-more order (λ text. orders tt text) (units tt) gives.0 gives.1 has
+  area_does Max order orders units gives has = chosen_does greatest op.Less (λ w. refl) greatest-more order (λ text. orders tt text) (units tt) gives.0 gives.1 has
 
-  pub takes_end : (function : SetFunctionKind) (a : Statement) → Aggregates function f e at g a → (Chooses function → AllByRecursion (λ (w : Val). 1 + (octets_of w + octets_of v) ≤ more) values) → Gives Text t.locals function f v → HasAggregate Text function f.kind values t.cells p from → Ends (size a * more) (Taken function) Never none (meaning most fuel a t)
+  pub takes_end : (function : SetFunctionKind) (a : Statement) → Aggregates function f e at g a → (Chooses function → 1 + octets_of v ≤ more) → Gives Text t.locals function f v → HasAggregate Text function f.kind values t.cells p from → Ends (size a * more) (Taken function) Never none (meaning most fuel a t)
   takes_end function a is units gives has = subst (λ (b : Statement). Ends (size b * more) (Taken function) Never none (meaning most fuel b t)) (sym is.is) (area_does function is.order is.orders units gives has)

@@ -29,7 +29,8 @@ use Rattle.qw_low.specs.Raising.{Kept}
 use Rattle.qw_low.proofs.Promises.{Ends-weaker}
 use Rattle.qw_low.proofs.BlockSteps.{load_ends, store_then}
 use Rattle.qw_low.proofs.Results.{Kept-same, Kept-set, Kept-then}
-use Rattle.qw_text.specs.Texts.{Compares, SaysOrder, of_both}
+use Rattle.std.proofs.Math.Nat.{min-le_right}
+use Rattle.qw_text.specs.Texts.{Compares, SaysOrder, of_shorter}
 use Rattle.qw_feed.specs.Cells.{Supplies}
 use Rattle.qw_feed.proofs.CellRuns.{store_ends}
 use Rattle.qw_feed.proofs.Frames.{Never, with_cell-same, with_cell-apart}
@@ -139,7 +140,7 @@ module _ (Text : Part → ℕ → List ℕ → Type 0) (most fuel p off e at g :
             rw (slice_get-set_same q.locals g (Number has.0) (omega (arith, room)), set_other q.locals g c.value (Number has.0) (Number (words.word v)) (λ i. omega (arith, i, below.0)) z_q, is) (ap (λ (n : ℕ). Some (Number n)) (tells_truth o b v fit_b fit_v)),
           )
 
-      pub compare_does : (kd : Kind) (b v : Val) → (kd ≡ kind.Text → Compares of_both (SaysOrder (g + 7)) chosen_cell c (g + 5) order) → IsOfKind kd b → IsOfKind kd v → HasPlain Text q.cells p from b → Plainly Text q.locals c v → 1 + (octets_of b + octets_of v) ≤ more → Does most fuel more some (Compared kd b v) (chosen_read kd order e at g) q
+      pub compare_does : (kd : Kind) (b v : Val) → (kd ≡ kind.Text → Compares of_shorter (SaysOrder (g + 7)) chosen_cell c (g + 5) order) → IsOfKind kd b → IsOfKind kd v → HasPlain Text q.cells p from b → Plainly Text q.locals c v → 1 + octets_of v ≤ more → Does most fuel more some (Compared kd b v) (chosen_read kd order e at g) q
       compare_does (kind.Number s) (val.Num b) (val.Num v) orders of_b of_v has h units = does_within most fuel more some (Compared (kind.Number s) (val.Num b) (val.Num v)) 3 (chosen_read (kind.Number s) order e at g) q (omega arith) (number_compared b v h.1 h.0 has.0)
       compare_does kind.Date (val.Date b) (val.Date v) orders of_b of_v has h units = does_within most fuel more some (Compared kind.Date (val.Date b) (val.Date v)) 3 (chosen_read kind.Date order e at g) q (omega arith) (number_compared b v h.1 h.0 has)
       compare_does kind.Text (val.Text b) (val.Text v) orders of_b of_v has h units =
@@ -185,7 +186,7 @@ module _ (Text : Part → ℕ → List ℕ → Type 0) (most fuel p off e at g :
             (let fit : FitsSigned w64 done.1.0 = fits_back done.1.1.0 done.1.0 done.1.1.2 done.1.1.3 in
                 rw (words.held_word t (g + 7) done.1.0 done.1.1) (ap (λ (n : ℕ). Some (Number n)) (zero_told o done.1.0 (text_order b v) fit done.1.2))),
           )) (λ t y. y) (λ code y. y)
-          ((orders refl).runs most fuel more q2 b v units turns left right (omega (arith, room, many2)))))))
+          ((orders refl).runs most fuel more q2 b v (let less = min-le_right (length b) (length v) in omega (arith, units, less)) turns left right (omega (arith, room, many2)))))))
       compare_does (kind.Number s) val.Null v orders of_b of_v has h units = absurd has
       compare_does (kind.Number s) (val.Date b) v orders of_b of_v has h units = absurd of_b
       compare_does (kind.Number s) (val.Text b) v orders of_b of_v has h units = absurd of_b

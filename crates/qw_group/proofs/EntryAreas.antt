@@ -1,6 +1,5 @@
 -- The areas of an entry: they stay where their octets do, none has taken anything where the octets are 0, and each takes one value more.
 use Rattle.std.proofs.Common.{◌≡◌, ℕ, suc, ◌+◌, ◌*◌, ◌^◌, ◌<◌, ◌≤◌, inl, inr, pos, List, [], ◌∷◌, ◌++◌, length, Option, Some, None, slice_get, refl, sym, ap, ◌∙◌, subst, arith}
-use Rattle.std.specs.List.{AllByRecursion}
 use Rattle.qw_types.specs.declared.kind.Kind.{Kind}
 use Rattle.qw_types.specs.declared.value.Val.{Val}
 use Rattle.qw_types.specs.declared.value.Val.TheVariants as val
@@ -20,10 +19,10 @@ use Rattle.qw_feed.specs.Stages.{Among}
 use Rattle.qw_feed.proofs.StageRuns.{supplies-same}
 use Rattle.qw_feed.proofs.Frames.{Never}
 use Rattle.qw_table.specs.Entries.{Stands}
-use Rattle.qw_table.specs.Keys.{IsBelow, IsBelowNull, octets_of}
+use Rattle.qw_table.specs.Keys.{IsBelow, IsBelowNull}
 use Rattle.qw_table.specs.declared.key.Field.{Field}
 use Rattle.qw_group.specs.Areas.{InPlace, HasSum, HasPlain, HasChosen, HasAggregate, Gives}
-use Rattle.qw_group.specs.Groups.{HasAreas, UpdatesAreas, AllGive, AreChosenWithin, ArgumentsUse, functions_in, octets_at}
+use Rattle.qw_group.specs.Groups.{HasAreas, UpdatesAreas, AllGive, AreChosenWithin, ArgumentsUse, functions_in}
 use Rattle.qw_group.specs.Wides.{IsWide}
 use Rattle.qw_group.specs.declared.group.Aggregate.{Aggregate}
 use Rattle.qw_group.proofs.AreaFrames.{place-none, place-then, place-wider}
@@ -84,12 +83,6 @@ pub values-many : (place : ℕ) (rows : List (List Val)) → length (values_at p
 values-many place [] = refl
 values-many place (x ∷ rows) = ap suc (values-many place rows)
 
--- what is compared with a value, and one, within more units
-chosen-values : (chosen more place : ℕ) (row : List Val) → 1 + chosen ≤ more → (rows : List (List Val)) → AllByRecursion (λ (r : List Val). octets_at place r + octets_at place row ≤ chosen) rows →
-    AllByRecursion (λ (w : Val). 1 + (octets_of w + octets_of (cell_of (slice_get row place))) ≤ more) (values_at place rows)
-chosen-values chosen more place row enough [] all = tt
-chosen-values chosen more place row enough (r ∷ rows) all = (let one = all.0 in omega (arith, one, enough), chosen-values chosen more place row enough rows all.1)
-
 -- ---- the locals of arguments
 pub uses-below : (n m : ℕ) (f : Field) → n ≤ m → Uses (Among n) f.cell → IsBelow m f
 uses-below n m f le uses = (omega (arith, uses.0.1, le), omega (arith, uses.1.1, le), by f.cell.null uses.2)
@@ -113,7 +106,7 @@ module _ (Text : Part → ℕ → List ℕ → Type 0) (n : ℕ) (xs ys : List V
 
 -- ---- the areas of an entry at a place, to which local e leads, take one row's arguments more
 module _ (Text : Part → ℕ → List ℕ → Type 0) (most fuel more chosen p off e g lowest : ℕ) (some : 1 ≤ more) (turns : more ≤ fuel) (e_low : e < g) (g_high : lowest ≤ g) (row : List Val) (enough : 1 + chosen ≤ more) where
-  pub areas_do : (place at : ℕ) (aggregates : List Aggregate) (a : Statement) (rows : List (List Val)) (t : LowState) → UpdatesAreas e at g aggregates a → ArgumentsUse lowest aggregates → (1 ≤ length aggregates → length rows < 10 ^ 18) → AreChosenWithin place (functions_in aggregates) rows row chosen → AllGive Text t.locals place aggregates row →
+  pub areas_do : (place at : ℕ) (aggregates : List Aggregate) (a : Statement) (rows : List (List Val)) (t : LowState) → UpdatesAreas e at g aggregates a → ArgumentsUse lowest aggregates → (1 ≤ length aggregates → length rows < 10 ^ 18) → AreChosenWithin place (functions_in aggregates) row chosen → AllGive Text t.locals place aggregates row →
       slice_get t.locals e ≡ Some (Address (Own p) off) → slice_get t.own p ≡ Some page → off + at + 32 * length aggregates ≤ page → g + 9 ≤ length t.locals →
       ((u : LowState) → InPlace p (off + at) (off + at + 32 * length aggregates) g t u → (k : Part) (o : ℕ) (octets : List ℕ) → Text k o octets → Stands u k o octets) → HasAreas Text place aggregates rows t.cells p (off + at) →
       Does most fuel more some (λ u. InPlace p (off + at) (off + at + 32 * length aggregates) g t u × HasAreas Text place aggregates (rows ++ row ∷ []) u.cells p (off + at)) a t
@@ -131,7 +124,7 @@ module _ (Text : Part → ℕ → List ℕ → Type 0) (most fuel more chosen p 
       subst (λ (b : Statement). Does most fuel more some P b t) (sym is.2)
       (does_then most fuel more some One P is.0 is.1 t
       (takes_end Text most fuel more p off e at g some turns e_low x.argument (uses-below lowest g x.argument g_high uses.0) t values (omega (arith, fewer, values-many place rows)) v e_is sized (omega (arith, inside)) room
-      (λ u done. stands u (place-wider p from (from + 32) from (from + 32 * suc many) g t u (omega arith) (omega arith) done)) x.function is.0 is.3 (λ chooses. chosen-values chosen more place row enough rows (chosen_within.0 chooses)) give.0 has.0)
+      (λ u done. stands u (place-wider p from (from + 32) from (from + 32 * suc many) g t u (omega arith) (omega arith) done)) x.function is.0 is.3 (λ chooses. let least = chosen_within.0 chooses in omega (arith, least, enough)) give.0 has.0)
       (λ u done.
       let own : u.own ≡ t.own = ap (λ (q : LowState). q.own) done.0.others in
       Ends-weaker (size is.1 * more) (size is.1 * more) (λ w. InPlace p (off + (at + 32)) (off + (at + 32) + 32 * many) g u w × HasAreas Text (place + 1) aggregates (rows ++ row ∷ []) w.cells p (off + (at + 32))) P Never Never none none (meaning most fuel is.1 u) (omega arith)

@@ -122,8 +122,8 @@ module _ (directory : ℕ) (key : List Field) (aggregates : List Aggregate) (fre
 
   pub groups_collect : (length key ≤ 2000) × (length aggregates ≤ 2000) → (5 ≤ directory) × (directory < free) → AllUse (Among free) (sources_of key) → ArgumentsUse free aggregates → Collects directory key aggregates free a
   groups_collect few low uses argument_uses = record {
-    runs = λ text may beginnings k o u before most fuel units chosen more row s small stands supplied gives few_rows chosen_rows enough met whole turns chain room.
-        groups_feed (Told text) key aggregates directory free a groups k o u before most fuel units chosen (λ xs. IsTrue (may xs)) beginnings row s low small stands uses supplied argument_uses gives few_rows chosen_rows (omega (arith, whole, turns)) (omega (arith, whole, turns)) room
+    runs = λ text may beginnings k o u before most fuel units chosen more row s small stands supplied gives few_rows chosen_within enough met whole turns chain room.
+        groups_feed (Told text) key aggregates directory free a groups k o u before most fuel units chosen (λ xs. IsTrue (may xs)) beginnings row s low small stands uses supplied argument_uses gives few_rows chosen_within (omega (arith, whole, turns)) (omega (arith, whole, turns)) room
         more chain whole enough met;
     typed = groups_typed few;
     short = groups_short;

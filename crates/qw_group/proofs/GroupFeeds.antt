@@ -1,6 +1,5 @@
 -- What a block of the form `Groups` feeds: the groups of one row more.
 use Rattle.std.proofs.Common.{◌≡◌, ℕ, suc, ◌+◌, ◌*◌, ◌^◌, ◌<◌, ◌≤◌, inl, inr, true, List, [], ◌∷◌, ◌++◌, length, length-append, Option, Some, None, slice_get, refl, sym, ap, ◌∙◌, subst, ⊎_elim, arith}
-use Rattle.std.specs.List.{AllByRecursion}
 use Rattle.std.proofs.lemmas.Nat.{mul-le}
 use Rattle.qw_types.specs.ValueOrder.{is_same_row}
 use Rattle.qw_types.specs.declared.value.Val.{Val}
@@ -9,8 +8,6 @@ use Rattle.qw_linear.specs.Memory.{page}
 use Rattle.qw_layout.specs.Hash.{slot}
 use Rattle.qw_layout.specs.Row.{cell_offset}
 use Rattle.qw_grouped.specs.Groups.{key_of, keys, members}
-use Rattle.qw_grouped.specs.declared.set_function.SetFunctionKind.{SetFunctionKind}
-use Rattle.qw_grouped.proofs.Lists.{all_filter}
 use Rattle.qw_module.specs.Numbers.{truth}
 use Rattle.qw_low.specs.Syntax.{Statement, local}
 use Rattle.qw_low.specs.State.{Part, Own, Number, Cells, LowState}
@@ -35,7 +32,7 @@ use Rattle.qw_table.specs.declared.key.Field.{Field}
 use Rattle.qw_table.proofs.JoinFeeds.{slot-low}
 use Rattle.qw_table.proofs.ProbeFeeds.{supplied_held, cell_map}
 use Rattle.qw_group.specs.Areas.{InPlace}
-use Rattle.qw_group.specs.Groups.{HasAreas, HasGroup, Groups, AllGive, AreChosenWithin, ArgumentsUse, functions_in, group_size, octets_at, groups_sink, group_block}
+use Rattle.qw_group.specs.Groups.{HasAreas, HasGroup, Groups, AllGive, AreChosenWithin, ArgumentsUse, functions_in, group_size, groups_sink, group_block}
 use Rattle.qw_group.specs.declared.group.Aggregate.{Aggregate}
 use Rattle.qw_group.proofs.EntryAreas.{all-give-same, areas-same, areas-none, areas_do}
 use Rattle.qw_group.proofs.GroupRuns.{groups_kept, group_feeds, Searches, Updates, Places}
@@ -74,22 +71,6 @@ module _ (Text : Part → ℕ → List ℕ → Type 0) where
   cells_map Text' c k at [] also h = tt
   cells_map Text' c k at (v ∷ vs) also h = (cell_map Text Text' c k at v also h.0, cells_map Text' c k (at + 16) vs also h.1)
 
-pub all-and-last : {A : Type 0} (P : A → Type 0) (xs : List A) (y : A) → AllByRecursion P (xs ++ y ∷ []) → AllByRecursion P xs × P y
-all-and-last P [] y all = (tt, all.0)
-all-and-last P (x ∷ xs) y all = let rest = all-and-last P xs y all.1 in ((all.0, rest.0), rest.1)
-
--- what is compared with a row is less of fewer rows
-pub chosen-before : (chosen : ℕ) (row : List Val) (place : ℕ) (functions : List SetFunctionKind) (rows : List (List Val)) → AreChosenWithin place functions (rows ++ row ∷ []) row chosen → AreChosenWithin place functions rows row chosen
-chosen-before chosen row place [] rows h = tt
-chosen-before chosen row place (f ∷ functions) rows h = (λ chooses. (all-and-last (λ (r : List Val). octets_at place r + octets_at place row ≤ chosen) rows row (h.0 chooses)).0, chosen-before chosen row (place + 1) functions rows h.1)
-
-chosen-members : (columns : ℕ) (key : List Val) (chosen : ℕ) (row : List Val) (place : ℕ) (functions : List SetFunctionKind) (rows : List (List Val)) → AreChosenWithin place functions rows row chosen → AreChosenWithin place functions (members columns key rows) row chosen
-chosen-members columns key chosen row place [] rows h = tt
-chosen-members columns key chosen row place (f ∷ functions) rows h = (
-  λ chooses. all_filter (λ (r : List Val). octets_at place r + octets_at place row ≤ chosen) (λ r. is_same_row key (key_of columns r)) rows (h.0 chooses),
-  chosen-members columns key chosen row (place + 1) functions rows h.1,
-)
-
 module _ (Text : Part → ℕ → List ℕ → Type 0) (key : List Field) (aggregates : List Aggregate) where
   abbrev columns : ℕ
   columns = length key
@@ -117,7 +98,7 @@ module _ (Text : Part → ℕ → List ℕ → Type 0) (key : List Field) (aggre
       (low : (5 ≤ directory) × (directory < free)) (small : wide + u ≤ page) (stands : (t : LowState) → Keeps (Below free) (Before (pos k o)) s t → (p : Part) (at : ℕ) (octets : List ℕ) → Text p at octets → Stands t p at octets)
       (uses : AllUse (Among free) (sources_of key)) (supplied : AllSupply Text s.locals (sources_of key) (key_of columns row)) (argument_uses : ArgumentsUse free aggregates) (gives : AllGive Text s.locals columns aggregates row)
       (few_rows : (xs : List (List Val)) → May xs → 1 ≤ length aggregates → length xs ≤ 10 ^ 18)
-      (chosen_rows : (xs : List (List Val)) → May xs → AreChosenWithin columns (functions_in aggregates) xs row chosen) (key_turns : 1 + text_octets (key_of columns row) ≤ fuel) (area_turns : 1 + chosen ≤ fuel) (room : free + 24 ≤ length s.locals) where
+      (chosen_within : AreChosenWithin columns (functions_in aggregates) row chosen) (key_turns : 1 + text_octets (key_of columns row) ≤ fuel) (area_turns : 1 + chosen ≤ fuel) (room : free + 24 ≤ length s.locals) where
     abbrev values : List Val
     values = key_of columns row
 
@@ -218,7 +199,7 @@ module _ (Text : Part → ℕ → List ℕ → Type 0) (key : List Field) (aggre
             ),
           )) (λ w y. y) (λ code y. y)
           (areas_do Text most fuel W chosen p off g (free + 15) free (omega arith) area_turns (omega arith) (omega arith) row (omega arith) columns at0 aggregates groups.update ms t' groups.updates argument_uses few
-          (chosen-members columns e.values chosen row columns (functions_in aggregates) rows (chosen-before chosen row columns (functions_in aggregates) rows (chosen_rows (rows ++ row ∷ []) may)))
+          chosen_within
           (all-give-same Text free s.locals t'.locals (λ i among. keeps_s.locals i (inr among)) columns aggregates row argument_uses gives) g_is sized (omega (arith, fits)) (omega (arith, room, keeps_s.many)) standing has.2)
         where
           in_place : (p from to : ℕ) (v w : LowState) → pos k o ≤ pos p from → InPlace p from to (free + 15) v w → Keeps (Below free) (Before (pos k o)) v w

@@ -27,7 +27,6 @@ use Rattle.qw_group.specs.Single.{HasSingle, single_sink, single_block, Begins, 
 use Rattle.qw_group.specs.declared.group.Aggregate.{Aggregate}
 use Rattle.qw_group.proofs.EntryAreas.{areas-none, areas_do}
 use Rattle.qw_group.proofs.GroupClauses.{updates_typed, updates_short}
-use Rattle.qw_group.proofs.GroupFeeds.{chosen-before}
 use Rattle.qw_group.proofs.WideRuns.{none}
 
 -- ---- the areas are placed
@@ -129,7 +128,7 @@ module _ (Text : Part → ℕ → List ℕ → Type 0) (aggregates : List Aggreg
 module _ (Text : Part → ℕ → List ℕ → Type 0) (aggregates : List Aggregate) (e free : ℕ) (a : Statement) (updates : UpdatesAreas e 0 free aggregates a) (low : (5 ≤ e) × (e < free)) (uses : ArgumentsUse free aggregates) (k o u budget most fuel chosen more : ℕ) (May : List (List Val) → Type 0)
     (beginnings : (rows others : List (List Val)) → May (rows ++ others) → May rows) (row : List Val) (s : LowState) (stands : (t : LowState) → Keeps (Below free) (Before (pos k o)) s t → (p : Part) (at : ℕ) (octets : List ℕ) → Text p at octets → Stands t p at octets)
     (gives : AllGive Text s.locals 0 aggregates row) (few_rows : (xs : List (List Val)) → May xs → 1 ≤ length aggregates → length xs ≤ 10 ^ 18)
-    (chosen_rows : (xs : List (List Val)) → May xs → AreChosenWithin 0 (functions_in aggregates) xs row chosen) (units : 1 + chosen ≤ more) (turns : more ≤ fuel) (room : free + 9 ≤ length s.locals) where
+    (chosen_within : AreChosenWithin 0 (functions_in aggregates) row chosen) (units : 1 + chosen ≤ more) (turns : more ≤ fuel) (room : free + 9 ≤ length s.locals) where
   in_place : (to : ℕ) (t : LowState) → InPlace k (o + 0) to free s t → Keeps (Below free) (Before (pos k o)) s t
   in_place to t done = subst (λ (q : LowState). Keeps (Below free) (Before (pos k o)) s q) (sym done.others) (record {
     many = done.many;
@@ -151,7 +150,7 @@ module _ (Text : Part → ℕ → List ℕ → Type 0) (aggregates : List Aggreg
       (meaning most fuel a s) (omega arith)
       (λ t done. record { none = refl; keeps = in_place to t done.0; has = changed so_far has t done.0 (subst (λ (n : ℕ). HasAreas Text 0 aggregates (so_far ++ row ∷ []) t.cells k n) zeroth done.1); after = tt })
       (λ t y. y) (λ code y. absurd y)
-      (areas_do Text most fuel more chosen k o e free free (omega (arith, units)) turns low.1 (omega arith) row units 0 0 aggregates a so_far s updates uses few (chosen-before chosen row 0 (functions_in aggregates) so_far (chosen_rows (so_far ++ row ∷ []) may)) gives has.at has.sized (omega (arith, has.inside)) room
+      (areas_do Text most fuel more chosen k o e free free (omega (arith, units)) turns low.1 (omega arith) row units 0 0 aggregates a so_far s updates uses few chosen_within gives has.at has.sized (omega (arith, has.inside)) room
       (λ t done. stands t (in_place to t done)) (subst (λ (n : ℕ). HasAreas Text 0 aggregates so_far s.cells k n) (sym zeroth) has.areas))
     where
       changed : (so_far : List (List Val)) → HasSingle Text aggregates k o e u budget so_far s → (t : LowState) → InPlace k (o + 0) (o + 0 + 32 * length aggregates) free s t → HasAreas Text 0 aggregates (so_far ++ row ∷ []) t.cells k o → HasSingle Text aggregates k o e u budget (so_far ++ row ∷ []) t
@@ -198,8 +197,8 @@ begins e aggregates high few = record {
 
 pub gathers : (e : ℕ) (aggregates : List Aggregate) (free : ℕ) (a : Statement) → (5 ≤ e) × (e < free) → ArgumentsUse free aggregates → UpdatesAreas e 0 free aggregates a → Gathers e aggregates free a
 gathers e aggregates free a low uses updates = record {
-  runs = λ text may beginnings k o u budget most fuel chosen more row s stands gives few_rows chosen_rows units turns room.
-      single_feeds (Told text) aggregates e free a updates low uses k o u budget most fuel chosen more (λ xs. IsTrue (may xs)) beginnings row s stands gives few_rows chosen_rows units turns room;
+  runs = λ text may beginnings k o u budget most fuel chosen more row s stands gives few_rows chosen_within units turns room.
+      single_feeds (Told text) aggregates e free a updates low uses k o u budget most fuel chosen more (λ xs. IsTrue (may xs)) beginnings row s stands gives few_rows chosen_within units turns room;
   typed = λ types e_is declared own. updates_typed types e 0 free aggregates a e_is own declared updates;
   short = updates_short e 0 free aggregates a updates;
 }

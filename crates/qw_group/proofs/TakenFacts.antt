@@ -1,7 +1,7 @@
 -- The values that aren't null, their sum, and the one that is chosen of them, of one value more.
 use Rattle.std.specs.Prelude.{cond}
 use Rattle.std.proofs.Common.{◌≡◌, suc, ◌+◌, ◌≤◌, Bool, true, false, if◌then◌else◌, ℤ, pos, ◌+ℤ◌, unsigned_abs, List, [], ◌∷◌, ◌++◌, length, length-append, refl, ap, ◌∙◌, arith}
-use Rattle.std.specs.List.{filter, AllByRecursion}
+use Rattle.std.specs.List.{filter}
 use Rattle.std.specs.Ordering.{is_ge, is_le, is_gt, is_lt}
 use Rattle.std.specs.declared.cmp.Ordering.{Ordering}
 use Rattle.std.specs.declared.cmp.Ordering.TheVariants.{Less, Equal, Greater}
@@ -53,15 +53,6 @@ taken-few (v ∷ values) = omega (arith, one (is_not_null v) v (not_null values)
 pub one-more : (values : List Val) (v : Val) → length (values ++ v ∷ []) ≡ length values + 1
 one-more values v = length-append values (v ∷ [])
 
--- what holds of all holds of those that aren't null
-pub all-taken : (P : Val → Type 0) (values : List Val) → AllByRecursion P values → AllByRecursion P (not_null values)
-all-taken P [] all = tt
-all-taken P (v ∷ values) all = one (is_not_null v) all.0 (all-taken P values all.1)
-  where
-    one : (b : Bool) → P v → AllByRecursion P (not_null values) → AllByRecursion P (cond b (v ∷ not_null values) (not_null values))
-    one true first rest = (first, rest)
-    one false first rest = rest
-
 -- ---- sums
 sum-assoc : (a b c : ℤ) → a +ℤ (b +ℤ c) ≡ (a +ℤ b) +ℤ c
 sum-assoc a b c = omega (arith, ints)
@@ -97,16 +88,3 @@ least-more v (x ∷ xs) w = least-more (lesser v x) xs w
 pub greatest-more : (v : Val) (xs : List Val) (w : Val) → greatest v (xs ++ w ∷ []) ≡ after op.Less (greatest v xs) w
 greatest-more v [] w = greatest-one (value_order v w) v w
 greatest-more v (x ∷ xs) w = greatest-more (greater v x) xs w
-
--- what holds of all holds of the one that is chosen
-either : (P : Val → Type 0) (b : Bool) (v w : Val) → P v → P w → P (if b then v else w)
-either P true v w one two = one
-either P false v w one two = two
-
-pub least-in : (P : Val → Type 0) (v : Val) (xs : List Val) → P v → AllByRecursion P xs → P (least v xs)
-least-in P v [] one all = one
-least-in P v (x ∷ xs) one all = least-in P (lesser v x) xs (either P (is_le (value_order v x)) v x one all.0) all.1
-
-pub greatest-in : (P : Val → Type 0) (v : Val) (xs : List Val) → P v → AllByRecursion P xs → P (greatest v xs)
-greatest-in P v [] one all = one
-greatest-in P v (x ∷ xs) one all = greatest-in P (greater v x) xs (either P (is_ge (value_order v x)) v x one all.0) all.1

@@ -1,7 +1,6 @@
 -- What an entry of a table of groups says of a set function (ISO/IEC 9075:1992, 6.5): an area of 32 octets, which has a sum's two words, or the least
 -- or the greatest value, and from octet 16 on how many values were taken. The block of Low that takes one value more in place.
 use Rattle.std.specs.Prelude.{◌≡◌, ℕ, ◌+◌, ◌-◌, ◌*◌, ◌^◌, ◌≤◌, ◌<◌, unsigned_abs, IsTrue, Bool, Option, Some, None, List, [], ◌∷◌, ◌++◌, length, slice_get}
-use Rattle.std.specs.List.{AllByRecursion}
 use Rattle.qw_types.specs.Arithmetic.{fits}
 use Rattle.qw_types.specs.Kind.{IsOfKind}
 use Rattle.qw_types.specs.declared.kind.Kind.{Kind}
@@ -178,11 +177,11 @@ abbrev pub area_types : List ValType
 area_types = I64 ∷ I64 ∷ I64 ∷ I32 ∷ I32 ∷ I32 ∷ I32 ∷ I64 ∷ I64 ∷ []
 
 -- A block that begins where local e leads to an entry, an area of which has taken fewer than 10^18 values, and locals supply one more: it has taken that
--- too, within its size times one more than n. Where it chooses a value, n is at least the octets of that value and of each other; otherwise it may be 0.
+-- too, within its size times one more than n. Where it chooses a value, n is at least the octets of the one that comes; otherwise it may be 0.
 -- Nothing but the area and the block's own locals is changed.
 pub record Takes (function : SetFunctionKind) (f : Field) (e at g : ℕ) (a : Statement) : Type 0 where
   pub runs : (text : Part → (offset : ℕ) → List ℕ → Bool) (most fuel n k o : ℕ) (s : LowState) (values : List Val) (v : Val) → 1 + n ≤ fuel → length values < 10 ^ 18 →
-      (Chooses function → AllByRecursion (λ (w : Val). octets_of w + octets_of v ≤ n) values) → ((t : LowState) → InPlace k (o + at) (o + at + 32) g s t → (p : Part) (place : ℕ) (octets : List ℕ) → Told text p place octets → Stands t p place octets) → Gives (Told text) s.locals function f v →
+      (Chooses function → octets_of v ≤ n) → ((t : LowState) → InPlace k (o + at) (o + at + 32) g s t → (p : Part) (place : ℕ) (octets : List ℕ) → Told text p place octets → Stands t p place octets) → Gives (Told text) s.locals function f v →
       slice_get s.locals e ≡ Some (Address (Own k) o) → slice_get s.own k ≡ Some page → o + at + 32 ≤ page → HasAggregate (Told text) function f.kind values s.cells k (o + at) → g + 9 ≤ length s.locals →
       Ends (size a * (1 + n)) (λ t. InPlace k (o + at) (o + at + 32) g s t × HasAggregate (Told text) function f.kind (values ++ v ∷ []) t.cells k (o + at)) (λ t. ⊥) (λ code. ⊥) (meaning most fuel a s)
   pub typed : (types : List ValType) → slice_get types e ≡ Some I32 → DeclaresArgument types function f → Declares types g area_types → IsTyped types a

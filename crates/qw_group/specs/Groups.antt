@@ -132,11 +132,11 @@ functions_in aggregates = map (λ (a : Aggregate). a.function) aggregates
 abbrev pub octets_at : (place : ℕ) → List Val → ℕ
 octets_at place row = octets_of (cell_of (slice_get row place))
 
--- At a row MIN and MAX compare its text with that of another row: of each of these the octets of both are at most so many. The arguments of the set
--- functions begin at a place.
-abbrev pub AreChosenWithin : (place : ℕ) → List SetFunctionKind → (rows : List (List Val)) → (row : List Val) → ℕ → Type 0
-AreChosenWithin place [] rows row n = Unit {0}
-AreChosenWithin place (f ∷ functions) rows row n = (Chooses f → AllByRecursion (λ (r : List Val). octets_at place r + octets_at place row ≤ n) rows) × AreChosenWithin (place + 1) functions rows row n
+-- At a row MIN and MAX compare its text with the one that they have chosen, as far as the shorter one goes: the octets of the row's own are at most so
+-- many. The arguments of the set functions begin at a place.
+abbrev pub AreChosenWithin : (place : ℕ) → List SetFunctionKind → (row : List Val) → ℕ → Type 0
+AreChosenWithin place [] row n = Unit {0}
+AreChosenWithin place (f ∷ functions) row n = (Chooses f → octets_at place row ≤ n) × AreChosenWithin (place + 1) functions row n
 
 -- ---- what is promised of the block, where tests say which texts lie in memory, and which rows there may be
 -- A row, whose key and arguments are in locals, is put into its group: the table then has the groups of one row more, or a request for a page was
@@ -146,7 +146,7 @@ pub record Collects (directory : ℕ) (key : List Field) (aggregates : List Aggr
   pub runs : (text : Part → (offset : ℕ) → List ℕ → Bool) (may : List (List Val) → Bool) (beginnings : (rows others : List (List Val)) → IsTrue (may (rows ++ others)) → IsTrue (may rows)) (k o u before most fuel units chosen more : ℕ) (row : List Val) (s : LowState) →
       group_size key aggregates + u ≤ page → ((t : LowState) → Keeps (Below free) (Before (pos k o)) s t → (p : Part) (at : ℕ) (octets : List ℕ) → Told text p at octets → Stands t p at octets) →
       AllSupply (Told text) s.locals (sources_of key) (key_of (length key) row) → AllGive (Told text) s.locals (length key) aggregates row → ((xs : List (List Val)) → IsTrue (may xs) → 1 ≤ length aggregates → length xs ≤ 10 ^ 18) →
-      ((xs : List (List Val)) → IsTrue (may xs) → AreChosenWithin (length key) (functions_in aggregates) xs row chosen) →
+      AreChosenWithin (length key) (functions_in aggregates) row chosen →
       ((xs : List (List Val)) → IsTrue (may xs) → before + length (keys (length key) xs) * group_size key aggregates + 2 * u < (most + 1) * u) → ((xs : List (List Val)) → IsTrue (may xs) → length (in_slot slot (slot (key_of (length key) row)) (keys (length key) xs)) ≤ units) →
       1 + text_octets (key_of (length key) row) + units * (1 + text_octets (key_of (length key) row)) + chosen ≤ more → more ≤ fuel → units < fuel → free + 24 ≤ length s.locals →
       FeedsTo (groups_sink (length key) (HasGroup (Told text) key aggregates) (group_size key aggregates) k o directory u before (λ xs. IsTrue (may xs)) beginnings) most fuel more (Below free) Any (one_row row) a s

@@ -54,7 +54,7 @@ pub record Begins (e : ℕ) (aggregates : List Aggregate) (a : Statement) : Type
 pub record Gathers (e : ℕ) (aggregates : List Aggregate) (free : ℕ) (a : Statement) : Type 0 where
   pub runs : (text : Part → (offset : ℕ) → List ℕ → Bool) (may : List (List Val) → Bool) (beginnings : (rows others : List (List Val)) → IsTrue (may (rows ++ others)) → IsTrue (may rows)) (k o u budget most fuel chosen more : ℕ) (row : List Val) (s : LowState) →
       ((t : LowState) → Keeps (Below free) (Before (pos k o)) s t → (p : Part) (at : ℕ) (octets : List ℕ) → Told text p at octets → Stands t p at octets) → AllGive (Told text) s.locals 0 aggregates row →
-      ((xs : List (List Val)) → IsTrue (may xs) → 1 ≤ length aggregates → length xs ≤ 10 ^ 18) → ((xs : List (List Val)) → IsTrue (may xs) → AreChosenWithin 0 (functions_in aggregates) xs row chosen) → 1 + chosen ≤ more → more ≤ fuel → free + 9 ≤ length s.locals →
+      ((xs : List (List Val)) → IsTrue (may xs) → 1 ≤ length aggregates → length xs ≤ 10 ^ 18) → AreChosenWithin 0 (functions_in aggregates) row chosen → 1 + chosen ≤ more → more ≤ fuel → free + 9 ≤ length s.locals →
       FeedsTo (single_sink (Told text) aggregates k o e u budget (λ xs. IsTrue (may xs)) beginnings) most fuel more (Below free) Any (one_row row) a s
   pub typed : (types : List ValType) → slice_get types e ≡ Some I32 → DeclareArguments types aggregates → Declares types free area_types → IsTyped types a
   pub short : size a ≤ 100 * length aggregates

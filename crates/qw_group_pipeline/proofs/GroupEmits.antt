@@ -1,5 +1,5 @@
 -- What is emitted for the groups of a table, from what was emitted for their parts.
-use Rattle.std.proofs.Common.{◌≡◌, ℕ, ◌+◌, ◌*◌, ◌≤◌, inl, inr, Bool, true, false, Some, List, [], ◌∷◌, ◌++◌, length, map, not, refl, sym, ap, ◌∙◌, subst, append_assoc, append-nil, length-append, arith}
+use Rattle.std.proofs.Common.{◌≡◌, ℕ, ◌+◌, ◌*◌, ◌≤◌, inl, inr, Bool, true, false, Some, None, List, [], ◌∷◌, ◌++◌, length, map, not, refl, sym, ap, ◌∙◌, subst, append_assoc, append-nil, length-append, arith}
 use Rattle.std.specs.List.{AllByRecursion}
 use Rattle.qw_types.specs.Kind.{type_kind}
 use Rattle.qw_types.specs.Value.{type_scale}
@@ -27,11 +27,15 @@ use Rattle.qw_physical.specs.Physical.{Operator, Sink}
 use Rattle.qw_physical.specs.declared.pipeline.ReadColumn.{ReadColumn}
 use Rattle.qw_operator.specs.Carries.{EmitsTo, IsCarriedTo, ReadsEntry, entry_types, known_entry}
 use Rattle.qw_operator.specs.Takes.{CanCarry, anywhere}
+use Rattle.qw_operator.specs.Grouping.{Group}
+use Rattle.qw_operator.specs.Puts.{IsGroupedWithin}
 use Rattle.qw_operator.specs.Kept.{ReadsKept}
 use Rattle.qw_operator.proofs.EntryReads.{entry_many}
 use Rattle.qw_operator.proofs.KeptReads.{kept_free}
 use Rattle.qw_operator.proofs.Knowing.{carry_over, served_entry}
-use Rattle.qw_group_pipeline.specs.Groups.{EmitsGroupsTo, InEnd, IsGroupRowTo, ReadsValues, all_anywhere, known_group, known_values, value_anywhere, values_types}
+use Rattle.qw_operator.proofs.Unguarded.{emits_map, unguarded}
+use Rattle.qw_table.specs.declared.key.Field.{Field}
+use Rattle.qw_group_pipeline.specs.Groups.{EmitsGroupsTo, Grouping, InEnd, IsGroupRowTo, ReadsValues, all_anywhere, known_group, known_values, value_anywhere, values_types}
 use Rattle.qw_group_pipeline.specs.Inner.Met.{IsMet}
 use Rattle.qw_group_pipeline.specs.Inner.Valued.{ReadsValued}
 use Rattle.qw_group_pipeline.specs.declared.columns.ValueColumn.{ValueColumn}
@@ -176,3 +180,8 @@ module _ (literals : List Known) (count : ℕ) (key : List ReadColumn) (values :
     pub groups_within : (rest : ℕ) → extent done ≤ extent inner + rest → extent new ≤ extent old + (25 * length key + 328 * length values + rest + 60)
     groups_within rest within =
         groups_short old mid new inner done directory count (25 * length key + 328 * length values) rest at_group at_group_is code own (walked at_group at_group_is) joined (met_long literals (count + 2) key values inner held met) within
+
+-- ---- a row that goes into another table of groups, where none is passed over
+pub into_groups : (fields : List Field) (g : Group) (known : List Known) (operators : List Operator) (old new : Emitter) → EmitsTo (λ ks n a own. IsGroupedWithin None fields ks n g a own) known operators old new → EmitsTo (Grouping fields g) known operators old new
+into_groups fields g known operators old new h =
+    emits_map (λ ks n a own. IsGroupedWithin None fields ks n g a own) (Grouping fields g) (λ ks n a own is. unguarded fields ks n g a own is) known operators old new h

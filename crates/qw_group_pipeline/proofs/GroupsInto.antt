@@ -34,9 +34,9 @@ use Rattle.qw_operator.proofs.KnownLeaves.{AreFit}
 use Rattle.qw_operator.proofs.Promised.{AreOwn}
 use Rattle.qw_operator.proofs.Seen.{AreWithin, StandsIn}
 use Rattle.qw_operator.proofs.Stood.{Stood}
-use Rattle.qw_group_sink.specs.Carrying.{cost_to}
-use Rattle.qw_group_sink.specs.Grouping.{CanGroup, Group, aggregates_of, key_fields, turn_of}
-use Rattle.qw_group_sink.proofs.GroupedFeeds.{grouped, grouped_runs, row_grouped}
+use Rattle.qw_operator.specs.Costs.{cost_to}
+use Rattle.qw_operator.specs.Grouping.{CanGroup, Group, aggregates_of, key_fields, turn_of}
+use Rattle.qw_operator.proofs.GroupedFeeds.{grouped, grouped_runs, row_grouped}
 use Rattle.qw_group_pipeline.specs.Groups.{Grouping, InEnd, IsGroupPipelineTo, all_anywhere}
 use Rattle.qw_group_pipeline.specs.declared.columns.ValueColumn.{ValueColumn}
 use Rattle.qw_group_pipeline.proofs.GroupsFeed.{AreNumbered, AreTheir, IsGoodTo, groups_feed, units_within}
@@ -48,7 +48,7 @@ use Rattle.qw_group_pipeline.proofs.WholeGroups.{all_come, come_alike}
 module _ (c : Cells) (base : ℕ) (high : 5 ≤ base) (most fuel many : ℕ) (types : List ValType) (turns : 1024 < fuel) (g : Group) (can : CanGroup g) (into : List Field) (k o u before : ℕ) (entries chosen : List Val → ℕ) (May : List (List Val) → Type 0) (beginnings : (rows more : List (List Val)) → May (rows ++ more) → May rows)
     (low_d : directory g.table < base) (small : group_size (key_fields g into) (aggregates_of g into) + u ≤ page)
     (few_rows : (xs : List (List Val)) → May xs → 1 ≤ length g.functions → length xs ≤ 10 ^ 18)
-    (chosen_rows : (row : List Val) (xs : List (List Val)) → May xs → AreChosenWithin g.columns g.functions xs row (chosen row))
+    (chosen_within : (row : List Val) → AreChosenWithin g.columns g.functions row (chosen row))
     (enough : (xs : List (List Val)) → May xs → before + length (keys (length (key_fields g into)) xs) * group_size (key_fields g into) (aggregates_of g into) + 2 * u < (most + 1) * u)
     (met : (row : List Val) (xs : List (List Val)) → May xs → length (in_slot slot (slot (key_of (length (key_fields g into)) row)) (keys (length (key_fields g into)) xs)) ≤ entries row)
     (seen_before : (j a w : ℕ) (v : Value) → c (Own j) a w ≡ Some v → pos j a + w ≤ pos k o) where
@@ -56,7 +56,7 @@ module _ (c : Cells) (base : ℕ) (high : 5 ≤ base) (most fuel many : ℕ) (ty
   no_tables t st there = let no = slice_get_within [] t st there in absurd (let zero : t < 0 = no in omega (arith, zero))
 
   abbrev pub entered : FlowSink
-  entered = grouped c [] base high most fuel many types g can into k o u before entries chosen May beginnings low_d small few_rows chosen_rows enough met seen_before no_tables
+  entered = grouped c [] base high most fuel many types g can into k o u before entries chosen May beginnings low_d small few_rows chosen_within enough met seen_before no_tables
 
   abbrev pub turn : List Val → ℕ
   turn = turn_of g entries chosen
@@ -78,8 +78,8 @@ module _ (c : Cells) (base : ℕ) (high : 5 ≤ base) (most fuel many : ℕ) (ty
         (met_entries : List Row) × AreMet (length fields) rows met_entries × Alike (all_come query (length key) (length fields) (functions_of values) rows met_entries) (behind_front query (record { rows = rows; codes = [] }))
         × FeedsTo entered most fuel (1025 + spend (λ (e : Row). units_of (length fields) rows e.values) met_entries) (Below next) Any (all_come query (length key) (length fields) (functions_of values) rows met_entries) a s0
     query_enters Text fields aggregates theirs same_many p q front rows s0 also groups spared table_seen less long few keys_few literals_held literals_fit good =
-        let runs = grouped_runs c [] base high most fuel many types g can into k o u before entries chosen May beginnings low_d small few_rows chosen_rows enough met seen_before no_tables in
-        let ends = row_grouped c [] base high most fuel many types g can into k o u before entries chosen May beginnings low_d small few_rows chosen_rows enough met seen_before no_tables in
+        let runs = grouped_runs c [] base high most fuel many types g can into k o u before entries chosen May beginnings low_d small few_rows chosen_within enough met seen_before no_tables in
+        let ends = row_grouped c [] base high most fuel many types g can into k o u before entries chosen May beginnings low_d small few_rows chosen_within enough met seen_before no_tables in
         let feeds = end_rest c base entered runs most fuel many types (all_anywhere key values ++ literals) operators tt tt (λ row. tt) (Grouping into g) g.values turn ends carries in
         let done = groups_feed c base entered runs most fuel many types turns (InEnd (Grouping into g) operators) (fed [] operators (select g.values)) (cost_to g.values turn [] operators) literals from next key values a own h low room within declared own_types feeds
         kinds sized from_low numbered numbered_values Text fields aggregates theirs same_many p q front rows s0 also groups spared table_seen less long few keys_few literals_held literals_fit good in (

@@ -21,8 +21,8 @@ use Rattle.qw_operator.specs.Takes.{CanSink}
 use Rattle.qw_operator.proofs.CarriedTyped.{AreLed, IsLed, carried_to_typed, carried_typed}
 use Rattle.qw_operator.proofs.EntryReads.{cell_three, entry_declared, entry_many}
 use Rattle.qw_operator.proofs.Promised.{AreOwn, first_own_types, rest_own_types}
-use Rattle.qw_group_sink.specs.Grouping.{CanGroup, Group}
-use Rattle.qw_group_sink.proofs.GroupTyped.{grouped_typed}
+use Rattle.qw_operator.specs.Grouping.{CanGroup, Group}
+use Rattle.qw_operator.proofs.GroupTyped.{grouped_typed}
 use Rattle.qw_group_pipeline.specs.Groups.{Grouping, InEnd, InSink, IsGroupPipeline, IsGroupPipelineTo, IsGroupRowTo, ReadsValues, known_group, known_values, values_types, walk_types}
 use Rattle.qw_group_pipeline.specs.declared.columns.ValueColumn.{ValueColumn}
 use Rattle.qw_group_pipeline.proofs.RowFeeds.{AreOfKinds, values_declared}

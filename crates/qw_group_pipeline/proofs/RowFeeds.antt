@@ -54,7 +54,7 @@ use Rattle.qw_operator.proofs.Served.{AreServed}
 use Rattle.qw_operator.proofs.Stood.{AllStand}
 use Rattle.qw_operator.proofs.WholeFeeds.{FeedsSink}
 use Rattle.qw_group.proofs.EntryAreas.{areas-map}
-use Rattle.qw_group_sink.specs.Carrying.{cost_to}
+use Rattle.qw_operator.specs.Costs.{cost_to}
 use Rattle.qw_group_pipeline.specs.Groups.{InEnd, InSink, IsGroupRowTo, all_anywhere, known_group, known_values, most_read, value_anywhere, values_types}
 use Rattle.qw_group_pipeline.specs.declared.columns.ValueColumn.{ValueColumn}
 use Rattle.qw_group_pipeline.proofs.ValueReads.{values_many}

@@ -22,7 +22,7 @@ use Rattle.qw_physical.specs.Physical.{Operator, Sink}
 use Rattle.qw_physical.specs.declared.pipeline.ReadColumn.{ReadColumn}
 use Rattle.qw_operator.specs.Carries.{IsCarriedTo, IsSunk, ReadsEntry, entry_types, known_entry}
 use Rattle.qw_operator.specs.Takes.{anywhere}
-use Rattle.qw_group_sink.specs.Grouping.{Group, IsGrouped}
+use Rattle.qw_operator.specs.Grouping.{Group, IsGrouped}
 use Rattle.qw_group_pipeline.specs.declared.columns.ValueColumn.{ValueColumn}
 
 -- ---- what is known of a group

@@ -11,10 +11,9 @@ ghost use Rattle.qw_table.specs.Joins.{sources_of};
 ghost use Rattle.qw_physical.specs.Coded.{operator_of, sink_of};
 ghost use Rattle.qw_physical.specs.Physical as physical;
 ghost use Rattle.qw_operator.specs.Carries.{result_kinds};
-ghost use Rattle.qw_operator.specs.Span.{span};
+ghost use Rattle.qw_operator.specs.Span.{sink_span, span};
 ghost use Rattle.qw_operator.specs.Takes.{CanCarry};
-ghost use Rattle.qw_group_sink.specs.Carrying.{span_to};
-ghost use Rattle.qw_group_sink.specs.Grouping.{CanGroup, group_of, group_span};
+ghost use Rattle.qw_operator.specs.Grouping.{CanGroup, group_of, group_span};
 ghost use Rattle.qw_group_pipeline.specs.Groups.{EmitsGroups, EmitsGroupsTo, Grouping, InEnd, all_anywhere};
 ghost use Rattle.qw_group_pipeline.specs.Inner.Met.{IsMet};
 
@@ -23,12 +22,12 @@ use crate::value::read_values;
 use qw_expr::emitter::Emitter;
 use qw_expr::known::Binding;
 use qw_group::walk::emit_group_walk;
-use qw_group_sink::group::Group;
-use qw_group_sink::operators as into;
 use qw_layout::row::{CELL_SIZE, KEY_OFFSET};
 use qw_low::cell::Local;
 use qw_module::instruction::ValType;
+use qw_operator::end::{End, Ended};
 use qw_operator::entry::read_entry;
+use qw_operator::group::{Group, Place};
 use qw_operator::locals::declare;
 use qw_operator::operators::emit_operators;
 use qw_physical::{Operator, Sink};
@@ -89,11 +88,12 @@ pub fn emit_groups(
     requires served { IsServed (free_of emitter.old) (known_of literals.items) }
     ensures emits { OnOk result (EmitsGroups (known_of literals.items) directory columns.now.key.items columns.now.values.items (map operator_of operators.now) (sink_of sink.now) emitter.old emitter.new) }
     ensures kinds { IfOk result (λ kinds. map Some kinds.items ≡ result_kinds (sink_of sink.now)) }
-    ensures short { OnOk result (extent emitter.new ≤ extent emitter.old + (25 * length columns.now.key.items + 328 * length columns.now.values.items + span operators.now sink.now + 60)) }
+    ensures short { OnOk result (extent emitter.new ≤ extent emitter.old + (25 * length columns.now.key.items + 328 * length columns.now.values.items + span operators.now (sink_span sink.now) + 60)) }
 {
     let count = declare(emitter, &[ValType::I32, ValType::I32])?;
     let Met { mut inner, known } = open_group(alloc, count + 2, columns, literals)?;
-    let kinds = emit_operators(alloc, &mut inner, operators, sink, known)?;
+    let end = End::Sink(sink);
+    let Ended { kinds, .. } = emit_operators(alloc, &mut inner, operators, end, known)?;
     emit_group_walk(alloc, &mut emitter.block, directory, count, &inner.block)?;
     emitter.own.extend_from_slice(&inner.own)?;
     Ok(kinds)
@@ -122,11 +122,12 @@ pub fn emit_groups_into(
     requires served { IsServed (free_of emitter.old) (known_of literals.items) }
     ensures emits { IfOk result (λ fields. EmitsGroupsTo (InEnd (Grouping fields.items (group_of group.now)) (map operator_of operators.now)) (known_of literals.items) directory columns.now.key.items columns.now.values.items emitter.old emitter.new) }
     ensures kinds { IfOk result (λ fields. kinds_of (sources_of fields.items) ≡ map kind_of (group_of group.now).values) }
-    ensures short { OnOk result (extent emitter.new ≤ extent emitter.old + (25 * length columns.now.key.items + 328 * length columns.now.values.items + span_to operators.now (group_span group.now) + 60)) }
+    ensures short { OnOk result (extent emitter.new ≤ extent emitter.old + (25 * length columns.now.key.items + 328 * length columns.now.values.items + span operators.now (group_span group.now) + 60)) }
 {
     let count = declare(emitter, &[ValType::I32, ValType::I32])?;
     let Met { mut inner, known } = open_group(alloc, count + 2, columns, literals)?;
-    let fields = into::emit_operators(alloc, &mut inner, operators, group, known)?;
+    let end = End::Group(group, Place::Table, None);
+    let Ended { fields, .. } = emit_operators(alloc, &mut inner, operators, end, known)?;
     emit_group_walk(alloc, &mut emitter.block, directory, count, &inner.block)?;
     emitter.own.extend_from_slice(&inner.own)?;
     Ok(fields)

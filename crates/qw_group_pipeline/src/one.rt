@@ -8,7 +8,7 @@ ghost use Rattle.qw_expr.specs.Bindings.{IsServed, known_of};
 ghost use Rattle.qw_expr.specs.Emits.{extent, free_of};
 ghost use Rattle.qw_physical.specs.Coded.{operator_of, sink_of};
 ghost use Rattle.qw_operator.specs.Carries.{result_kinds};
-ghost use Rattle.qw_operator.specs.Span.{span};
+ghost use Rattle.qw_operator.specs.Span.{sink_span, span};
 ghost use Rattle.qw_operator.specs.Takes.{CanCarry};
 ghost use Rattle.qw_group_pipeline.specs.Groups.{EmitsOneTo, InSink, all_anywhere};
 
@@ -17,6 +17,7 @@ use crate::value::read_values;
 use qw_expr::emitter::Emitter;
 use qw_expr::known::Binding;
 use qw_low::cell::Local;
+use qw_operator::end::{End, Ended};
 use qw_operator::operators::emit_operators;
 use qw_physical::{Operator, Sink};
 use qw_types::{Kind, NoMemory};
@@ -45,11 +46,12 @@ pub fn emit_one_group(
     requires served { IsServed (free_of emitter.old) (known_of literals.items) }
     ensures emits { OnOk result (EmitsOneTo (InSink (map operator_of operators.now) (sink_of sink.now)) (known_of literals.items) areas values.now emitter.old emitter.new) }
     ensures kinds { IfOk result (λ kinds. map Some kinds.items ≡ result_kinds (sink_of sink.now)) }
-    ensures short { OnOk result (extent emitter.new ≤ extent emitter.old + (328 * length values.now + span operators.now sink.now)) }
+    ensures short { OnOk result (extent emitter.new ≤ extent emitter.old + (328 * length values.now + span operators.now (sink_span sink.now))) }
 {
     let mut rest = literals;
     let mut known = read_values(alloc, emitter, areas, 0, values)?;
     known.append(&mut rest)?;
-    let kinds = emit_operators(alloc, emitter, operators, sink, known)?;
+    let end = End::Sink(sink);
+    let Ended { kinds, .. } = emit_operators(alloc, emitter, operators, end, known)?;
     Ok(kinds)
 }

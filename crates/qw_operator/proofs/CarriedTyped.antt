@@ -327,6 +327,22 @@ module _ (types : List ValType) where
           pushed_typed (8 + 16 * length items) (cells_block 8 (outs_of h.made)) (omega (arith, can)) led.0 led.1 (sources_typed (outs_of h.made) 8 (plain_outs known next items h.made own declared own_types h.computed)),
         )
 
+    -- ---- columns behind a test of null bits
+    reader_sure_declared : (f : Reader → Bool) (r : Reader) → IsReaderDeclared types r → IsReaderDeclared types (sure_where f r)
+    reader_sure_declared f r h = by (f r)
+      where
+        by : (b : Bool) → IsReaderDeclared types (if b then sure_reader r else r)
+        by true = (h.0, h.1, record { values = h.2.values; octets = h.2.octets; nulls = λ is. absurd cc }, (h.3.0, tt))
+        by false = h
+
+    all_sure_declared : (f : Reader → Bool) (readers : List Reader) → AllByRecursion (IsReaderDeclared types) readers → AllByRecursion (IsReaderDeclared types) (map (sure_where f) readers)
+    all_sure_declared f [] all = tt
+    all_sure_declared f (r ∷ readers) all = (reader_sure_declared f r all.0, all_sure_declared f readers all.1)
+
+    known_sure_declared : (readers : List Reader) → AllByRecursion (IsReaderDeclared types) readers → AreDeclared types (map known_of readers)
+    known_sure_declared [] all = tt
+    known_sure_declared (r ∷ readers) all = (all.0.3, known_sure_declared readers all.1)
+
     -- ---- all operators, and a row of the scan, where what is innermost is typed
     pub led_behind : (operators : List Operator) → AreLed types operators → AreLed types (behind_filter operators)
     led_behind operators led = behind_first (AreLed types) (λ cs os rest. rest) operators led
@@ -349,49 +365,38 @@ module _ (types : List ValType) where
             carried_to_typed operators (literals ++ map known_of readers) (next + length h.tests_own) h.rest h.rest_own declared (rest_own_types types next own h.tests_own h.rest_own h.own_is own_types) led h.carried,
           ))
 
+      -- behind a test of null bits
+      guarded_row_typed : (literals : List Known) (readers : List Reader) (next : ℕ) (cs : List Condition) (operators : List Operator) (a : Statement) (own : List ValType) → AreDeclared types (literals ++ map known_of readers) → AllByRecursion (IsReaderDeclared types) readers → AreOwn types next own →
+          AreLed types operators → IsGuardedRow End literals readers next cs operators a own → IsTyped types a
+      guarded_row_typed literals readers next cs operators a own declared readers_declared own_types led h =
+          let tested : List Reader = picked h.is_tested readers in
+          let sure : List Reader = map (sure_where h.is_tested) readers in
+          let sure_types = all_sure_declared h.is_tested readers readers_declared in
+          let known : AreDeclared types (literals ++ map known_of sure) = all-append (λ (k : Known). DeclaresValue types k.operand) literals (map known_of sure) (all_front (λ (k : Known). DeclaresValue types k.operand) literals (map known_of readers) declared) (known_sure_declared sure sure_types) in
+          let bases : AllByRecursion (λ (r : Reader). (slice_get types r.left ≡ Some I32) × (slice_get types r.end ≡ Some I32) × DeclaresBases types r) tested =
+          all_more (IsReaderDeclared types) (λ (r : Reader). (slice_get types r.left ≡ Some I32) × (slice_get types r.end ≡ Some I32) × DeclaresBases types r) tested (λ r one. (one.0, one.1, one.2)) (all_picked h.is_tested (IsReaderDeclared types) readers readers_declared) in
+          let test = h.tests.typed types bases (first_own_types types next own (test_types tested) h.inner_own h.own_is own_types) in
+          subst (IsTyped types) (sym h.is) (
+            test.0,
+            (
+              test.1,
+              read_row_typed literals sure (next + length (test_types tested)) cs operators h.inner h.inner_own known sure_types (rest_own_types types next own (test_types tested) h.inner_own h.own_is own_types) led h.within,
+              tt,
+            ),
+          )
+
+      -- with a test or without
+      pub row_to_typed : (literals : List Known) (readers : List Reader) (next : ℕ) (operators : List Operator) (a : Statement) (own : List ValType) → AreDeclared types (literals ++ map known_of readers) → AllByRecursion (IsReaderDeclared types) readers → AreOwn types next own →
+          AreLed types operators → IsRow End literals readers next operators a own → IsTyped types a
+      row_to_typed literals readers next operators a own declared readers_declared own_types led (inl h) = read_row_typed literals readers next (first_filter operators) (behind_filter operators) a own declared readers_declared own_types (led_behind operators led) h
+      row_to_typed literals readers next operators a own declared readers_declared own_types led (inr h) = guarded_row_typed literals readers next (first_filter operators) (behind_filter operators) a own declared readers_declared own_types (led_behind operators led) h
+
     -- ---- where a sink is innermost
     pub carried_typed : (operators : List Operator) (snk : Sink) (known : List Known) (next : ℕ) (a : Statement) (own : List ValType) → AreDeclared types known → AreOwn types next own → AreLed types operators → IsLed types snk → CanSink snk → IsCarriedTo (IsSunk snk) known next operators a own → IsTyped types a
     carried_typed operators snk known next a own declared own_types led sink_led can h =
         carried_to_typed (IsSunk snk) (λ ks n b more is_known are_own sunk. sunk_typed snk ks n b more is_known are_own sink_led can sunk) operators known next a own declared own_types led h
 
-    -- behind a test of null bits
-    reader_sure_declared : (f : Reader → Bool) (r : Reader) → IsReaderDeclared types r → IsReaderDeclared types (sure_where f r)
-    reader_sure_declared f r h = by (f r)
-      where
-        by : (b : Bool) → IsReaderDeclared types (if b then sure_reader r else r)
-        by true = (h.0, h.1, record { values = h.2.values; octets = h.2.octets; nulls = λ is. absurd cc }, (h.3.0, tt))
-        by false = h
-
-    all_sure_declared : (f : Reader → Bool) (readers : List Reader) → AllByRecursion (IsReaderDeclared types) readers → AllByRecursion (IsReaderDeclared types) (map (sure_where f) readers)
-    all_sure_declared f [] all = tt
-    all_sure_declared f (r ∷ readers) all = (reader_sure_declared f r all.0, all_sure_declared f readers all.1)
-
-    known_sure_declared : (readers : List Reader) → AllByRecursion (IsReaderDeclared types) readers → AreDeclared types (map known_of readers)
-    known_sure_declared [] all = tt
-    known_sure_declared (r ∷ readers) all = (all.0.3, known_sure_declared readers all.1)
-
-    guarded_row_typed : (literals : List Known) (readers : List Reader) (next : ℕ) (cs : List Condition) (operators : List Operator) (snk : Sink) (a : Statement) (own : List ValType) → AreDeclared types (literals ++ map known_of readers) → AllByRecursion (IsReaderDeclared types) readers → AreOwn types next own →
-        AreLed types operators → IsLed types snk → CanSink snk → IsGuardedRow literals readers next cs operators snk a own → IsTyped types a
-    guarded_row_typed literals readers next cs operators snk a own declared readers_declared own_types led sink_led can h =
-        let tested : List Reader = picked h.is_tested readers in
-        let sure : List Reader = map (sure_where h.is_tested) readers in
-        let sure_types = all_sure_declared h.is_tested readers readers_declared in
-        let known : AreDeclared types (literals ++ map known_of sure) = all-append (λ (k : Known). DeclaresValue types k.operand) literals (map known_of sure) (all_front (λ (k : Known). DeclaresValue types k.operand) literals (map known_of readers) declared) (known_sure_declared sure sure_types) in
-        let bases : AllByRecursion (λ (r : Reader). (slice_get types r.left ≡ Some I32) × (slice_get types r.end ≡ Some I32) × DeclaresBases types r) tested =
-        all_more (IsReaderDeclared types) (λ (r : Reader). (slice_get types r.left ≡ Some I32) × (slice_get types r.end ≡ Some I32) × DeclaresBases types r) tested (λ r one. (one.0, one.1, one.2)) (all_picked h.is_tested (IsReaderDeclared types) readers readers_declared) in
-        let test = h.tests.typed types bases (first_own_types types next own (test_types tested) h.inner_own h.own_is own_types) in
-        subst (IsTyped types) (sym h.is) (
-          test.0,
-          (
-            test.1,
-            read_row_typed (IsSunk snk) (λ ks n b more is_known are_own sunk. sunk_typed snk ks n b more is_known are_own sink_led can sunk) literals sure (next + length (test_types tested)) cs operators h.inner h.inner_own known sure_types (rest_own_types types next own (test_types tested) h.inner_own h.own_is own_types) led h.within,
-            tt,
-          ),
-        )
-
     pub row_typed : (literals : List Known) (readers : List Reader) (next : ℕ) (operators : List Operator) (snk : Sink) (a : Statement) (own : List ValType) → AreDeclared types (literals ++ map known_of readers) → AllByRecursion (IsReaderDeclared types) readers → AreOwn types next own →
-        AreLed types operators → IsLed types snk → CanSink snk → IsRow literals readers next operators snk a own → IsTyped types a
-    row_typed literals readers next operators snk a own declared readers_declared own_types led sink_led can (inl h) =
-        read_row_typed (IsSunk snk) (λ ks n b more is_known are_own sunk. sunk_typed snk ks n b more is_known are_own sink_led can sunk) literals readers next (first_filter operators) (behind_filter operators) a own declared readers_declared own_types (led_behind operators led) h
-    row_typed literals readers next operators snk a own declared readers_declared own_types led sink_led can (inr h) =
-        guarded_row_typed literals readers next (first_filter operators) (behind_filter operators) snk a own declared readers_declared own_types (led_behind operators led) sink_led can h
+        AreLed types operators → IsLed types snk → CanSink snk → IsRow (IsSunk snk) literals readers next operators a own → IsTyped types a
+    row_typed literals readers next operators snk a own declared readers_declared own_types led sink_led can h =
+        row_to_typed (IsSunk snk) (λ ks n b more is_known are_own sunk. sunk_typed snk ks n b more is_known are_own sink_led can sunk) literals readers next operators a own declared readers_declared own_types led h

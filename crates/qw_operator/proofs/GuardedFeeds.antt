@@ -45,7 +45,7 @@ use Rattle.qw_feed.proofs.InnerFeeds.{tests_feed}
 use Rattle.qw_physical.specs.Courses.{fed, sink_values}
 use Rattle.qw_physical.specs.Physical.{Operator, Sink, filter, probe}
 use Rattle.qw_physical.specs.declared.pipeline.ReadColumn.{ReadColumn}
-use Rattle.qw_operator.specs.Carries.{IsGuardedRow, IsRow, IsSunk, behind_filter, first_filter}
+use Rattle.qw_operator.specs.Carries.{IsGuardedRow, IsRow, behind_filter, first_filter}
 use Rattle.qw_operator.specs.Costs.{cost_to}
 use Rattle.qw_operator.specs.Guarded.{picked, sure_where}
 use Rattle.qw_operator.specs.Takes.{CanCarry, anywhere}
@@ -54,7 +54,7 @@ use Rattle.qw_operator.proofs.Filters.{Runs, old_low}
 use Rattle.qw_operator.proofs.Fronts.{all_more}
 use Rattle.qw_operator.proofs.KnownLeaves.{AreFit, Fits}
 use Rattle.qw_operator.proofs.Knowing.{carry_over}
-use Rattle.qw_operator.proofs.OperatorsFeed.{FeedsEnd, sink_turn}
+use Rattle.qw_operator.proofs.OperatorsFeed.{FeedsEnd}
 use Rattle.qw_operator.proofs.PairRows.{AreApart, AreNew, IsNullAt}
 use Rattle.qw_operator.proofs.Promised.{AreOwn, rest_own_types}
 use Rattle.qw_operator.proofs.RowFeeds.{fed_first, read_row_feeds}
@@ -176,8 +176,8 @@ told_word false = refl
 rejected : (first : Condition) (others : List Condition) (row : List Val) → truth_of first (at_row row) ≡ Ok Unknown → passes (first ∷ others) (at_row row) ≡ Ok false
 rejected first others row is = ap (λ (r : Result Truth Code). r >>= (λ t. chosen t (passes others (at_row row)) (let no : Result Bool Code = Ok Bool.false in no))) is
 
-module _ (c : Cells) (stoods : List Stood) (base : ℕ) (sink : FlowSink) (runs : Runs c stoods base sink) (most fuel many : ℕ) (types : List ValType) (snk : Sink)
-    (sunk : FeedsEnd c stoods base sink most fuel many types (IsSunk snk) snk (sink_turn snk))
+module _ (c : Cells) (stoods : List Stood) (base : ℕ) (sink : FlowSink) (runs : Runs c stoods base sink) (most fuel many : ℕ) (types : List ValType) (End : List Known → (next : ℕ) → Statement → List ValType → Type 0) (snk : Sink) (turn : List Val → ℕ)
+    (ends : FeedsEnd c stoods base sink most fuel many types End snk turn)
     (count : ℕ) (literals : List Known) (readers : List Reader) (low next : ℕ) (operators : List Operator) (a : Statement) (own : List ValType) where
   abbrev known : List Known
   known = literals ++ map known_of readers
@@ -186,9 +186,9 @@ module _ (c : Cells) (stoods : List Stood) (base : ℕ) (sink : FlowSink) (runs 
   built = built_of stoods
 
   abbrev units : List Val → ℕ
-  units row = cost_to (sink_values snk) (sink_turn snk) built operators row
+  units row = cost_to (sink_values snk) turn built operators row
 
-  module _ (h : IsGuardedRow literals readers next (first_filter operators) (behind_filter operators) snk a own) (base_low : base ≤ low) (room : next + length own ≤ many)
+  module _ (h : IsGuardedRow End literals readers next (first_filter operators) (behind_filter operators) a own) (base_low : base ≤ low) (room : next + length own ≤ many)
       (cells : AreCellsIn low next readers) (within : AreWithin low literals) (readers_within : AreWithin next (map known_of readers)) (declared : AreDeclared types known) (own_types : AreOwn types next own)
       (can : CanCarry known operators snk) (apart : AreApart known operators) (served : AreServed stoods operators) (row : List Val) (fit : AreFit row known) (nulls : IsNullAt row operators) where
     abbrev f : Reader → Bool
@@ -256,7 +256,7 @@ module _ (c : Cells) (stoods : List Stood) (base : ℕ) (sink : FlowSink) (runs 
         let sure_declared : AreDeclared types (literals ++ map known_of sure) =
         all-append (λ (k : Known). DeclaresValue types k.operand) literals (map known_of sure) (all_front (λ (k : Known). DeclaresValue types k.operand) literals (map known_of readers) declared)
         (sure_values f types readers (all_back (λ (k : Known). DeclaresValue types k.operand) literals (map known_of readers) declared)) in
-        read_row_feeds c stoods base sink runs most fuel many types (IsSunk snk) snk (sink_turn snk) sunk count literals sure low after operators h.inner h.inner_own h.within base_low room_after sure_cells_after within sure_within_after sure_declared
+        read_row_feeds c stoods base sink runs most fuel many types End snk turn ends count literals sure low after operators h.inner h.inner_own h.within base_low room_after sure_cells_after within sure_within_after sure_declared
         (rest_own_types types next own locals h.inner_own h.own_is own_types) (can_sure f literals readers operators snk can) (apart_sure f [] literals readers operators apart) served row
         (names_sure f (HasLeaves (Fits row)) [] literals readers fit) nulls s
         (record {
@@ -298,7 +298,7 @@ module _ (c : Cells) (stoods : List Stood) (base : ℕ) (sink : FlowSink) (runs 
             ∙ sym (fed_first built operators snk row ∙ ap (λ (q : Result Bool Code). flow_by q (where_true (fed built (behind_filter operators) snk row))) no)
 
   -- with a test or without
-  module _ (h : IsRow literals readers next operators snk a own) (base_low : base ≤ low) (room : next + length own ≤ many)
+  module _ (h : IsRow End literals readers next operators a own) (base_low : base ≤ low) (room : next + length own ≤ many)
       (cells : AreCellsIn low next readers) (within : AreWithin low literals) (readers_within : AreWithin next (map known_of readers)) (declared : AreDeclared types known) (own_types : AreOwn types next own)
       (can : CanCarry known operators snk) (apart : AreApart known operators) (served : AreServed stoods operators) (row : List Val) (fit : AreFit row known) (nulls : IsNullAt row operators) (s : LowState) where
     pub many_next : next ≤ many
@@ -308,6 +308,6 @@ module _ (c : Cells) (stoods : List Stood) (base : ℕ) (sink : FlowSink) (runs 
         FeedsTo sink most fuel (1 + units row) (Below low) Any (fed built operators snk row) a s
     row_feeds at enough = by h
       where
-        by : IsRow literals readers next operators snk a own → FeedsTo sink most fuel (1 + units row) (Below low) Any (fed built operators snk row) a s
-        by (inl read) = read_row_feeds c stoods base sink runs most fuel many types (IsSunk snk) snk (sink_turn snk) sunk count literals readers low next operators a own read base_low room cells within readers_within declared own_types can apart served row fit nulls s (record { here = at.here; there = record { whole = at.there.whole; seen_so = at.there.seen_so } }) enough
+        by : IsRow End literals readers next operators a own → FeedsTo sink most fuel (1 + units row) (Below low) Any (fed built operators snk row) a s
+        by (inl read) = read_row_feeds c stoods base sink runs most fuel many types End snk turn ends count literals readers low next operators a own read base_low room cells within readers_within declared own_types can apart served row fit nulls s (record { here = at.here; there = record { whole = at.there.whole; seen_so = at.there.seen_so } }) enough
         by (inr guarded) = guarded_feeds guarded base_low room cells within readers_within declared own_types can apart served row fit nulls s (record { here = at.here; there = record { whole = at.there.whole; seen_so = at.there.seen_so } }) enough

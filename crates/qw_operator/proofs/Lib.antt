@@ -40,3 +40,18 @@ pub mod FrontServes
 mod GuardEmits
 mod GuardedEmitted
 mod StrictLemmas
+pub mod FieldParts
+pub mod GroupTyped
+pub mod OneTyped
+pub mod GroupSunk
+pub mod GroupedFeeds
+pub mod OneFeeds
+mod GroupEmitted
+mod PlainRows
+pub mod Redeclared
+pub mod RowCounted
+pub mod LimitedFeeds
+pub mod LimitedOne
+pub mod GuardTyped
+pub mod Unguarded
+mod EndLemmas

@@ -1,5 +1,6 @@
--- What a pipeline's scan feeds its sink, whatever the block of a row is.
+-- What a pipeline's scan feeds, whatever the block of a row is, and whatever is innermost in it.
 use Rattle.std.proofs.Common.{◌≡◌, ℕ, zero, suc, ◌+◌, ◌-◌, ◌*◌, ◌^◌, ◌<◌, ◌≤◌, inr, Option, Some, None, List, [], ◌∷◌, ◌++◌, length, map, slice_get, refl, sym, ap, ◌∙◌, subst, arith}
+use Rattle.std.proofs.Math.Path.{fun_ext}
 use Rattle.std.proofs.lemmas.List.{append-nil}
 use Rattle.std.proofs.lemmas.Option.{same_Some, slice_get_within}
 use Rattle.std.specs.List.{AllByRecursion}
@@ -11,6 +12,7 @@ use Rattle.qw_module.specs.declared.instruction.ValType.{ValType}
 use Rattle.qw_map.proofs.AreaLemmas.{all-append}
 use Rattle.qw_meaning.specs.From.{entry_flow}
 use Rattle.qw_scalar.specs.Evaluation.{cell_of}
+use Rattle.qw_scalar.specs.Expression.{Expression}
 use Rattle.qw_low.specs.Syntax.{Statement}
 use Rattle.qw_low.specs.State.{Column, Value, Number, Cells, LowState}
 use Rattle.qw_low.proofs.LessKnown.{IsLess, seen}
@@ -24,9 +26,10 @@ use Rattle.qw_feed.specs.Frames.{Below, But, Keeps}
 use Rattle.qw_feed.specs.Scans.{rows_block}
 use Rattle.qw_feed.specs.Stages.{Among}
 use Rattle.qw_feed.proofs.ScanFeeds.{scan_feeds}
-use Rattle.qw_physical.specs.Courses.{cost, fed, pipeline_cost, pipeline_fed}
-use Rattle.qw_physical.specs.Physical.{Pipeline, Sink}
+use Rattle.qw_physical.specs.Courses.{fed, pipeline_cost, pipeline_fed, sink_values}
+use Rattle.qw_physical.specs.Physical.{Pipeline, Sink, select}
 use Rattle.qw_operator.specs.Carries.{IsRow, IsSunk}
+use Rattle.qw_operator.specs.Costs.{cost_to, pipeline_cost_to}
 use Rattle.qw_operator.specs.Takes.{CanCarry}
 use Rattle.qw_operator.proofs.ColumnReads.{cells_ahead}
 use Rattle.qw_operator.proofs.Filters.{Runs, Here, base_high}
@@ -92,7 +95,7 @@ pub record ScannedBy (Row : Statement → List ValType → Type 0) (snk : Sink) 
 
 abbrev pub Scanned : (c : Cells) → (stoods : List Stood) → (literals : List Known) → (readers : List Reader) → (base left end low next many fuel : ℕ) → (types : List ValType) → (tables : List (List (List Val))) → (p : Pipeline) → (row : Statement) → (own : List ValType) → (s : LowState) → Type 0
 Scanned c stoods literals readers base left end low next many fuel types tables p row own s =
-    ScannedBy (IsRow literals readers next p.operators p.sink) p.sink (pipeline_cost tables (built_of stoods) p) c stoods literals readers base left end low next many fuel types tables p row own s
+    ScannedBy (IsRow (IsSunk p.sink) literals readers next p.operators) p.sink (pipeline_cost tables (built_of stoods) p) c stoods literals readers base left end low next many fuel types tables p row own s
 
 -- ---- lists
 one_spent : (u : List Val → ℕ) (rows : List (List Val)) (i : ℕ) (row : List Val) → slice_get rows i ≡ Some row → 1 + u row ≤ spend u rows
@@ -235,16 +238,40 @@ module _ (c : Cells) (stoods : List Stood) (base : ℕ) (sink : FlowSink) (runs 
       (λ i r s there keeps left_now. row_fed i r s there keeps left_now)
       (omega (arith, all, spent)) h.left_is (omega (arith, order.1, order.2, ahead, room, long))
 
--- ---- a pipeline whose rows go to its sink
+-- ---- a pipeline whose rows are taken by what is innermost, where so much is spent on the values that are evaluated there
+module _ (c : Cells) (stoods : List Stood) (base : ℕ) (sink : FlowSink) (runs : Runs c stoods base sink) (most fuel many : ℕ) (types : List ValType) (tables : List (List (List Val))) (p : Pipeline) (End : List Known → (next : ℕ) → Statement → List ValType → Type 0) (snk : Sink) (turn : List Val → ℕ)
+    (ends : FeedsEnd c stoods base sink most fuel many types End snk turn) (literals : List Known) (readers : List Reader) (left end low next : ℕ) (row : Statement) (own : List ValType) (s0 : LowState)
+    (h : ScannedBy (IsRow End literals readers next p.operators) snk (pipeline_cost_to (sink_values snk) turn tables (built_of stoods) p) c stoods literals readers base left end low next many fuel types tables p row own s0) where
+  taken : FeedsTo sink most fuel (1 + pipeline_cost_to (sink_values snk) turn tables (built_of stoods) p) (But left (Below low)) Any (flow_over (fed (built_of stoods) p.operators snk) (entry_flow tables p.entry p.table).rows) (rows_block left row) s0
+  taken =
+      let low_base = laid_low literals readers base left end low next h.laid in
+      let within = laid_within literals readers base left end low next h.laid (base_high c stoods base sink runs) in
+      scan_fed c stoods base sink runs most fuel many types tables p (IsRow End literals readers next p.operators) snk (cost_to (sink_values snk) turn (built_of stoods) p.operators) literals readers left end low next row own s0 h
+      (λ r s fit nulls here whole seen_so enough.
+      row_feeds c stoods base sink runs most fuel many types End snk turn ends (length (entry_flow tables p.entry p.table).rows) literals readers low next p.operators row own h.is_row low_base h.room h.laid.cells within h.laid.readers_within h.declared h.own_types h.can h.apart h.served r fit nulls s
+      (record { here = here; there = record { whole = whole; seen_so = seen_so } }) enough)
+
+-- ---- its sink
 pub pipeline_feeds : (c : Cells) (stoods : List Stood) (base : ℕ) (sink : FlowSink) (runs : Runs c stoods base sink) (most fuel many : ℕ) (types : List ValType) (tables : List (List (List Val))) (p : Pipeline) → FeedsEnd c stoods base sink most fuel many types (IsSunk p.sink) p.sink (sink_turn p.sink) →
     (literals : List Known) (readers : List Reader) (left end low next : ℕ) (row : Statement) (own : List ValType) (s0 : LowState) → Scanned c stoods literals readers base left end low next many fuel types tables p row own s0 →
     FeedsTo sink most fuel (1 + pipeline_cost tables (built_of stoods) p) (But left (Below low)) Any (pipeline_fed tables (built_of stoods) p) (rows_block left row) s0
 pipeline_feeds c stoods base sink runs most fuel many types tables p sunk literals readers left end low next row own s0 h =
-    let low_base = laid_low literals readers base left end low next h.laid in
-    let within = laid_within literals readers base left end low next h.laid (base_high c stoods base sink runs) in
-    scan_fed c stoods base sink runs most fuel many types tables p (IsRow literals readers next p.operators p.sink) p.sink (cost (built_of stoods) p.operators p.sink) literals readers left end low next row own s0 h
-    (λ r s fit nulls here whole seen_so enough.
-    let same = same_cost (built_of stoods) p.operators p.sink r in
-    subst (λ (n : ℕ). FeedsTo sink most fuel (1 + n) (Below low) Any (fed (built_of stoods) p.operators p.sink r) row s) same
-    (row_feeds c stoods base sink runs most fuel many types p.sink sunk (length (entry_flow tables p.entry p.table).rows) literals readers low next p.operators row own h.is_row low_base h.room h.laid.cells within h.laid.readers_within h.declared h.own_types h.can h.apart h.served r fit nulls s
-    (record { here = here; there = record { whole = whole; seen_so = seen_so } }) (omega (arith, same, enough))))
+    let same : pipeline_cost_to (sink_values p.sink) (sink_turn p.sink) tables (built_of stoods) p ≡ pipeline_cost tables (built_of stoods) p =
+    ap (λ (units : List Val → ℕ). spend units (entry_flow tables p.entry p.table).rows) (fun_ext (same_cost (built_of stoods) p.operators p.sink)) in
+    subst (λ (n : ℕ). FeedsTo sink most fuel (1 + n) (But left (Below low)) Any (pipeline_fed tables (built_of stoods) p) (rows_block left row) s0) same
+    (taken c stoods base sink runs most fuel many types tables p (IsSunk p.sink) p.sink (sink_turn p.sink) sunk literals readers left end low next row own s0
+    (subst (λ (n : ℕ). ScannedBy (IsRow (IsSunk p.sink) literals readers next p.operators) p.sink n c stoods literals readers base left end low next many fuel types tables p row own s0) (sym same) h))
+
+-- ---- what takes the values of a result that isn't made
+abbrev pub ScannedTo : (End : List Known → (next : ℕ) → Statement → List ValType → Type 0) → (values : List Expression) → (turn : List Val → ℕ) → (c : Cells) → (stoods : List Stood) → (literals : List Known) → (readers : List Reader) → (base left end low next many fuel : ℕ) → (types : List ValType) → (tables : List (List (List Val))) → (p : Pipeline) → (row : Statement) → (own : List ValType) → (s : LowState) → Type 0
+ScannedTo End values turn c stoods literals readers base left end low next many fuel types tables p row own s =
+    ScannedBy (IsRow End literals readers next p.operators) (select values) (pipeline_cost_to values turn tables (built_of stoods) p) c stoods literals readers base left end low next many fuel types tables p row own s
+
+-- the rows of a pipeline that makes a result of these values
+pub pipeline_to_feeds : (c : Cells) (stoods : List Stood) (base : ℕ) (sink : FlowSink) (runs : Runs c stoods base sink) (most fuel many : ℕ) (types : List ValType) (tables : List (List (List Val))) (p : Pipeline) (End : List Known → (next : ℕ) → Statement → List ValType → Type 0) (values : List Expression) (turn : List Val → ℕ) →
+    FeedsEnd c stoods base sink most fuel many types End (select values) turn → (literals : List Known) (readers : List Reader) (left end low next : ℕ) (row : Statement) (own : List ValType) (s0 : LowState) →
+    ScannedTo End values turn c stoods literals readers base left end low next many fuel types tables p row own s0 → p.sink ≡ select values →
+    FeedsTo sink most fuel (1 + pipeline_cost_to values turn tables (built_of stoods) p) (But left (Below low)) Any (pipeline_fed tables (built_of stoods) p) (rows_block left row) s0
+pipeline_to_feeds c stoods base sink runs most fuel many types tables p End values turn ends literals readers left end low next row own s0 h is =
+    subst (λ (snk : Sink). FeedsTo sink most fuel (1 + pipeline_cost_to values turn tables (built_of stoods) p) (But left (Below low)) Any (flow_over (fed (built_of stoods) p.operators snk) (entry_flow tables p.entry p.table).rows) (rows_block left row) s0) (sym is)
+    (taken c stoods base sink runs most fuel many types tables p End (select values) turn ends literals readers left end low next row own s0 h)

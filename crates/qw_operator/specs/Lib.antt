@@ -1,11 +1,16 @@
 pub mod Carries
 pub mod Costs
 pub mod Emitted
+pub mod Ends
+pub mod Grouping
 pub mod Guarded
 pub mod Inner
 pub mod Kept
 pub mod Needed
 pub mod Nesting
+pub mod OneGroup
 pub mod Opened
+pub mod Puts
 pub mod Span
 pub mod Takes
+pub mod WorkedEnds

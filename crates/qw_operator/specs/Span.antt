@@ -1,4 +1,4 @@
--- How long what is emitted for a pipeline's row may be, by its trees.
+-- How long what is emitted for a pipeline's row may be, by its trees and what is innermost.
 use Rattle.std.specs.Prelude.{ℕ, ◌+◌, ◌*◌, List, [], ◌∷◌, length, sum_by}
 use Rattle.qw_scalar.specs.Nodes.{nodes, nodes_of}
 use Rattle.qw_physical.specs.declared.pipeline.Operator.{Operator}
@@ -20,6 +20,7 @@ abbrev pub operator_span : Operator → ℕ
 operator_span (operator.Filter conjuncts) = 420 * sum_by nodes_of conjuncts.items
 operator_span (operator.Probe p) = probe_span p
 
-abbrev pub span : List Operator → Sink → ℕ
-span [] sunk = sink_span sunk
-span (o ∷ operators) sunk = operator_span o + span operators sunk
+-- the operators, and within them so much
+abbrev pub span : List Operator → (inner : ℕ) → ℕ
+span [] inner = inner
+span (o ∷ operators) inner = operator_span o + span operators inner

@@ -4,7 +4,7 @@ use Rattle.std.specs.List.{AllByRecursion}
 use Rattle.qw_types.specs.declared.code.Code.{Code}
 use Rattle.qw_types.specs.declared.code.Code.TheVariants.{DivZero, OutOfRange}
 use Rattle.qw_types.specs.declared.value.Val.{Val}
-use Rattle.qw_linear.specs.Memory.{page}
+use Rattle.qw_linear.specs.Memory.{AreOctets, page}
 use Rattle.qw_module.specs.declared.module.Function.{Function}
 use Rattle.qw_module.specs.declared.module.Module.{Module}
 use Rattle.qw_module.specs.Form.{CallsNestWithin, NeverAsksSize, NeverGrows}
@@ -73,11 +73,12 @@ IsUsedOf entries used =
     × (slice_get entry.columns used.column ≡ Some (record { ty = used.ty; not_null = used.not_null }))
 
 -- The layout goes with what is promised: its columns are columns of the entries, the cells of result rows are of the kinds that are
--- promised, and the descriptor fits a page.
+-- promised, and the descriptor fits a page. What it says of texts are octets, since in no memory anything else can stand.
 pub record GoesWith (promise : Promise) (layout : Layout) : Type 0 where
   pub columns : AllByRecursion (IsUsedOf promise.entries) layout.columns
   pub cells : promise.cells ≡ map Some layout.cells
   pub small : descriptor_size layout ≤ page
+  pub literals : AreOctets layout.literals
 
 -- The module, with a layout that goes with the promise, is a compiled form of it.
 pub record IsCompiled (promise : Promise) (layout : Layout) (m : Module) : Type 0 where

@@ -8,6 +8,7 @@ ghost use Rattle.qw_types.specs.declared.kind.Kind.TheVariants as kind;
 ghost use Rattle.qw_types.specs.declared.value.Ty.TheVariants.{Integer, Date};
 ghost use Rattle.qw_types.specs.declared.value.Val.{Val};
 ghost use Rattle.qw_types.specs.declared.value.Val.TheVariants.{Num};
+ghost use Rattle.qw_linear.specs.Memory.{AreOctets};
 ghost use Rattle.qw_module.specs.declared.instruction.Instr.TheVariants as i;
 ghost use Rattle.qw_module.specs.declared.instruction.Op.TheVariants as o;
 ghost use Rattle.qw_module.specs.declared.module.Function.{Function};
@@ -31,7 +32,7 @@ ghost use Rattle.qw_promise.specs.WorkedQueries.{above_five, of_integers, three_
 /// With `SELECT A FROM T WHERE A > 5`, T being table 0, goes a layout of its column A and one whole number, and one that uses no column;
 /// not one with a column of another table, of another type, that may be null, or that T hasn't, nor one whose cells are a date, two
 /// numbers or a number of another scale. A layout of 65,472 octets of texts has a descriptor of a page, and goes with it; one of an octet
-/// more doesn't, nor with anything else.
+/// more doesn't, nor with anything else, and none goes with anything whose texts have what is no octet.
 pub fn layouts_that_go_with_a_query()
     ensures goes { GoesWith (above_five 1) of_integers }
     ensures no_column { GoesWith (above_five 1) (record of_integers { columns = [] }) }
@@ -42,8 +43,9 @@ pub fn layouts_that_go_with_a_query()
     ensures other_kind { GoesWith (above_five 1) (record of_integers { cells = kind.Date ∷ [] }) → ⊥ }
     ensures two_cells { GoesWith (above_five 1) (record of_integers { cells = kind.Number 0 ∷ kind.Number 0 ∷ [] }) → ⊥ }
     ensures other_scale { GoesWith (above_five 1) (record of_integers { cells = kind.Number 2 ∷ [] }) → ⊥ }
-    ensures page_of_texts { (literals : List ℕ) → length literals ≡ 65472 → GoesWith (above_five 1) (record of_integers { columns = []; literals = literals }) }
+    ensures page_of_texts { (literals : List ℕ) → AreOctets literals → length literals ≡ 65472 → GoesWith (above_five 1) (record of_integers { columns = []; literals = literals }) }
     ensures past_a_page { (promise : Promise) (literals : List ℕ) (cells : List Kind) → length literals ≡ 65473 → GoesWith promise (record { columns = []; literals = literals; cells = cells }) → ⊥ }
+    ensures no_octet { (promise : Promise) (cells : List Kind) → GoesWith promise (record { columns = []; literals = 256 ∷ []; cells = cells }) → ⊥ }
 {}
 
 /// A function of 87 instructions executes at most 87 * (1 + 4) = 435 over three rows of which one is found, 87 * (1 + 6) = 609 where all

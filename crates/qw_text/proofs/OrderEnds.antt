@@ -1,10 +1,11 @@
 -- The block of order keeps what `Texts` says of it.
-use Rattle.std.proofs.Common.{◌≡◌, ℕ, ◌+◌, ◌-◌, ◌*◌, ◌^◌, ◌<◌, ◌≤◌, nat_lt, ℤ, pos, negsuc, int_cmp, inl, inr, List, length, drop, Some, slice_get, refl, sym, ◌∙◌, subst, ⊎_elim, arith, w32, w64}
+use Rattle.std.proofs.Common.{◌≡◌, ℕ, ◌+◌, ◌-◌, ◌*◌, ◌^◌, ◌<◌, ◌≤◌, min, nat_lt, ℤ, pos, negsuc, int_cmp, inl, inr, List, length, drop, Some, slice_get, refl, sym, ◌∙◌, subst, ⊎_elim, arith, w32, w64}
 use Rattle.std.specs.Int.{cast_signed}
 use Rattle.std.specs.Ordering.{MatchOrdering, nat_cmp}
 use Rattle.std.specs.Cmp.{nat_cmp_is, ranks}
 use Rattle.std.specs.declared.cmp.Ordering.{Ordering}
 use Rattle.std.specs.declared.cmp.Ordering.TheVariants.{Less, Equal, Greater}
+use Rattle.std.proofs.Math.Nat.{min-eq_left, min-eq_right}
 use Rattle.std.proofs.lemmas.Bool.{cases_lt, eq-eqb, ne_eqb, lt-ltb, le-ltb}
 use Rattle.qw_types.specs.TextOrder.{text_order}
 use Rattle.qw_module.specs.declared.instruction.ValType.{ValType}
@@ -129,14 +130,16 @@ module _ (pages fuel : ℕ) (s : LowState) (a ca b cb n : ℕ) (v w : List ℕ) 
         assign_ends (λ t. t ≡ put s n (Number (length w))) Never NoCode pages fuel n (local cb) (Number (length w)) s right.is_long (omega (arith, room)) refl,
       ))
 
-  pub order_ends : length v < fuel → Ends (35 + length v * 23) Told Never NoCode (meaning pages fuel (order_block a ca b cb n) s)
+  pub order_ends : min (length v) (length w) < fuel → Ends (35 + min (length v) (length w) * 23) Told Never NoCode (meaning pages fuel (order_block a ca b cb n) s)
   order_ends more = ⊎_elim
       (λ (less : length v < length w).
-      Ends-more Told Never NoCode (6 + (6 + (length v * 23 + 4) + 19)) (35 + length v * 23) (meaning pages fuel (order_block a ca b cb n) s) (omega arith)
-      (ordered_ends (length v) (omega arith) (omega (arith, less)) more (left_ends v w (omega (arith, less))) (left_shorter less)))
+      let least : min (length v) (length w) ≡ length v = min-eq_left (omega (arith, less)) in
+      Ends-more Told Never NoCode (6 + (6 + (length v * 23 + 4) + 19)) (35 + min (length v) (length w) * 23) (meaning pages fuel (order_block a ca b cb n) s) (omega (arith, least))
+      (ordered_ends (length v) (omega arith) (omega (arith, less)) (omega (arith, more, least)) (left_ends v w (omega (arith, less))) (left_shorter less)))
       (λ (less : length w ≤ length v).
-      Ends-more Told Never NoCode (6 + (6 + (length w * 23 + 4) + 19)) (35 + length v * 23) (meaning pages fuel (order_block a ca b cb n) s) (omega (arith, less))
-      (ordered_ends (length w) less (omega arith) (omega (arith, more, less)) (right_ends v w less) (right_shorter less)))
+      let least : min (length v) (length w) ≡ length w = min-eq_right less in
+      Ends-more Told Never NoCode (6 + (6 + (length w * 23 + 4) + 19)) (35 + min (length v) (length w) * 23) (meaning pages fuel (order_block a ca b cb n) s) (omega (arith, least))
+      (ordered_ends (length w) less (omega arith) (omega (arith, more, least)) (right_ends v w less) (right_shorter less)))
       (cases_lt (length v) (length w))
 
 -- ---- types

@@ -1,5 +1,5 @@
 -- What blocks promise that compare two texts (ISO/IEC 9075:1992, 8.2), or fold one into a hash.
-use Rattle.std.specs.Prelude.{◌≡◌, ℕ, ◌+◌, ◌*◌, ◌≤◌, ℤ, pos, List, [], ◌∷◌, length, Some, slice_get}
+use Rattle.std.specs.Prelude.{◌≡◌, ℕ, ◌+◌, ◌*◌, ◌≤◌, min, ℤ, pos, List, [], ◌∷◌, length, Some, slice_get}
 use Rattle.std.specs.Ordering.{int_cmp, is_eq}
 use Rattle.qw_types.specs.TextOrder.{text_order}
 use Rattle.qw_module.specs.declared.instruction.ValType.{ValType}
@@ -24,12 +24,12 @@ own_types = I32 ∷ I32 ∷ I64 ∷ I64 ∷ []
 abbrev pub DeclaresText : List ValType → Cell → Type 0
 DeclaresText types c = (slice_get types c.value ≡ Some I32) × (slice_get types c.length ≡ Some I32)
 
--- the octets that bound a comparison: those of the left text, or of both
+-- the octets that bound a comparison: those of the left text, or of the shorter one, behind whose end nothing is compared (8.2)
 abbrev pub of_left : (left right : List ℕ) → ℕ
 of_left v w = length v
 
-abbrev pub of_both : (left right : List ℕ) → ℕ
-of_both v w = length v + length w
+abbrev pub of_shorter : (left right : List ℕ) → ℕ
+of_shorter v w = min (length v) (length w)
 
 -- A block that begins with two texts in their locals, and whose own locals begin at `free`. Within as many instructions as it has, times
 -- one more than these octets, it is completed, and what is said of the texts holds; it changes nothing but its own locals.

@@ -4,7 +4,7 @@
 ghost use Rattle.std.specs.Prelude.{◌≡◌, ◌+◌, ◌<◌, ◌^◌, ◌++◌, IfOk, OnOk, ◌≤◌, length};
 ghost use Rattle.qw_low.specs.Syntax.{Statement};
 ghost use Rattle.qw_low.specs.Steps.{steps_of};
-ghost use Rattle.qw_text.specs.Texts.{Compares, SaysOrder, of_both};
+ghost use Rattle.qw_text.specs.Texts.{Compares, SaysOrder, of_shorter};
 ghost use Rattle.qw_text.specs.Inner.Blocks.{shorter_block, lengths_block, sign_block, order_block};
 
 use crate::walk::push_walk;
@@ -97,7 +97,7 @@ pub fn emit_text_order(
     requires right { (right.value < free) × (right.length < free) }
     requires room { free + 3 < 2 ^ 32 }
     ensures block { IfOk result (λ out. (a : Statement) × (block.new.code.items ≡ block.old.code.items ++ steps_of a)
-        × Compares of_both (SaysOrder out) left right free a) }
+        × Compares of_shorter (SaysOrder out) left right free a) }
     ensures place { IfOk result (λ out. out ≡ free + 2) }
     ensures short { OnOk result (length block.new.code.items ≤ length block.old.code.items + 100) }
 {

@@ -7,11 +7,7 @@ use Rattle.std.proofs.lemmas.List.Elements.{filter-append}
 use Rattle.std.proofs.lemmas.List.Sums.{sum_by-cons}
 use Rattle.qw_types.specs.ValueOrder.{is_same_row}
 use Rattle.qw_types.specs.declared.value.Val.{Val}
-use Rattle.qw_scalar.specs.Units.{most_by}
-use Rattle.qw_scalar.proofs.UnitsLemmas.{most_append, most_each}
 use Rattle.qw_grouped.specs.Groups.{Group, groups, key_of, keys, members, once}
-use Rattle.qw_grouped.proofs.Lists.{all_filter}
-use Rattle.qw_whole.specs.GroupTables.{octets_at}
 
 abbrev unlike : List Val → List Val → Bool
 unlike row other = not (is_same_row row other)
@@ -60,13 +56,6 @@ met_many is_there n (x ∷ entries) = sum_by-cons (λ other. if is_there other t
 
 pub members_more : (columns : ℕ) (key : List Val) (rows more : List (List Val)) → members columns key (rows ++ more) ≡ members columns key rows ++ members columns key more
 members_more columns key rows more = filter-append (λ row. is_same_row key (key_of columns row)) rows more
-
-pub members_short : (place columns : ℕ) (key : List Val) (rows more : List (List Val))
-    → AllByRecursion (λ row. octets_at place row ≤ most_by (octets_at place) (rows ++ more)) (members columns key rows)
-members_short place columns key rows more =
-    let bound : most_by (octets_at place) rows ≤ most_by (octets_at place) (rows ++ more) = (let both = most_append (octets_at place) rows more in omega (arith, both)) in
-    all_filter (λ row. octets_at place row ≤ most_by (octets_at place) (rows ++ more)) (λ row. is_same_row key (key_of columns row)) rows
-    (most_each (octets_at place) (most_by (octets_at place) (rows ++ more)) rows bound)
 
 -- ---- without GROUP BY
 

@@ -1,5 +1,5 @@
 -- What tables of groups and of distinct rows take is the same of rows in another order.
-use Rattle.std.proofs.Common.{◌≡◌, ◌∙◌, ℕ, zero, suc, ◌+◌, ◌*◌, max, nat_eq, if◌then◌else◌, List, [], ◌∷◌, map, length, sum_by, refl, sym, ap, ap₂, subst, arith}
+use Rattle.std.proofs.Common.{◌≡◌, ◌∙◌, ℕ, zero, suc, ◌+◌, ◌*◌, nat_eq, if◌then◌else◌, List, [], ◌∷◌, map, length, sum_by, refl, sym, ap, ap₂, subst}
 use Rattle.std.specs.List.Sorted.{IsPermutation}
 use Rattle.std.proofs.lemmas.List.{length-map}
 use Rattle.std.proofs.lemmas.List.Sorted.{IsPermutation-map, IsPermutation-refl, length_permutation, sum_by-IsPermutation}
@@ -8,26 +8,17 @@ use Rattle.qw_types.specs.Value.{text_octets}
 use Rattle.qw_types.specs.declared.value.Val.{Val}
 use Rattle.qw_scalar.specs.Evaluation.{at_row}
 use Rattle.qw_scalar.specs.Expression.{Expression}
-use Rattle.qw_scalar.specs.Units.{most_by, units_of_all, units_of_items}
+use Rattle.qw_scalar.specs.Units.{units_of_all, units_of_items}
 use Rattle.qw_meaning.specs.Flow.{Flow, each, kept, selected}
 use Rattle.qw_grouped.specs.Grouped.{Grouped, kinds_of}
 use Rattle.qw_grouped.specs.Groups.{Group, groups, key_of, keys, members, once}
 use Rattle.qw_grouped.specs.declared.set_function.SetFunctionKind.{SetFunctionKind}
 use Rattle.qw_grouped.proofs.GroupLemmas.{once_permuted}
 use Rattle.qw_grouped.proofs.OrderLemmas.{Alike, each_alike, table_alike}
-use Rattle.qw_grouped.proofs.Permuting.{permuted}
 use Rattle.qw_pipe.specs.Units.{Hashing, made_units}
-use Rattle.qw_whole.specs.GroupTables.{all_groups, chooses, chosen_units, distinct_octets, distinct_size, distinct_units, group_keys, group_octets, group_size, group_units, octets_at, read_units, table_octets, table_units, unraised}
+use Rattle.qw_whole.specs.GroupTables.{all_groups, chosen_units, distinct_octets, distinct_size, distinct_units, group_keys, group_octets, group_size, group_units, read_units, table_octets, table_units, unraised}
 
--- ---- sums and the greatest
-
-most_permuted : {A : Type 0} (f : A → ℕ) (xs ys : List A) → IsPermutation xs ys → most_by f xs ≡ most_by f ys
-most_permuted f = permuted (λ xs ys. most_by f xs ≡ most_by f ys)
-    (λ xs. refl)
-    (λ xs ys h. sym h)
-    (λ xs ys zs h g. h ∙ g)
-    (λ x xs ys h. ap (λ m. max (f x) m) h)
-    (λ x y xs. omega arith)
+-- ---- sums
 
 sum_same : {A : Type 0} (f g : A → ℕ) (xs : List A) → ((x : A) → f x ≡ g x) → sum_by f xs ≡ sum_by g xs
 sum_same f g [] h = refl
@@ -73,11 +64,6 @@ groups_many columns rows others h =
     ∙ sym (length_permutation (group_keys columns rows) (group_keys columns others) (keys_permuted columns rows others h))
     ∙ length-map (groups columns others) (λ (g : Group). g.key)
 
-chosen_permuted : (place : ℕ) (functions : List SetFunctionKind) (rows others : List (List Val)) → IsPermutation rows others → (row : List Val) → chosen_units place functions rows row ≡ chosen_units place functions others row
-chosen_permuted place [] rows others h row = refl
-chosen_permuted place (f ∷ functions) rows others h row =
-    ap₂ (λ (m n : ℕ). max (if chooses f then octets_at place row + m else 0) n) (most_permuted (octets_at place) rows others h) (chosen_permuted (place + 1) functions rows others h row)
-
 pub made_permuted : (items : List Expression) (flow other : Flow (List Val)) → Alike flow other → made_units items flow ≡ made_units items other
 made_permuted items flow other h =
     ap₂ (λ (a b : ℕ). a + b) (sym (sum_by-IsPermutation (λ (row : List Val). units_of_items items (at_row row)) flow.rows other.rows h.rows))
@@ -93,7 +79,7 @@ groups_permuted h query rows others p =
     (ap₂ (λ (a b : ℕ). a + b)
     (ap₂ (λ (a b : ℕ). a + b)
     (table_permuted h (group_keys columns rows) (group_keys columns others) (map (key_of columns) rows) (map (key_of columns) others) (keys_permuted columns rows others p) (IsPermutation-map (key_of columns) rows others p))
-    (sum_permuted (chosen_units columns functions rows) (chosen_units columns functions others) rows others (chosen_permuted columns functions rows others p) p))
+    (sym (sum_by-IsPermutation (chosen_units columns functions) rows others p)))
     (ap (λ (n : ℕ). n * read_units functions) (groups_many columns rows others p)))
     (sym (sum_by-IsPermutation (λ (row : List Val). units_of_all query.having (at_row row)) (all_groups query rows).rows (all_groups query others).rows alike.rows)))
     (made_permuted query.items (each (kept query.having) (all_groups query rows)) (each (kept query.having) (all_groups query others))

@@ -84,10 +84,10 @@ units_told h query rows =
     let ks : List (List Val) = map (key_of columns) rows in
     let made : Group → List (List Val) = λ g. rows_given (group_row columns functions g) in
     let all : List Group = groups columns rows in
-    told (length entries) (sum_by h.folded ks) (h.slots (length entries)) (sum_by (met_units h entries) ks) (sum_by (chosen_units columns functions rows) rows)
+    told (length entries) (sum_by h.folded ks) (h.slots (length entries)) (sum_by (met_units h entries) ks) (sum_by (chosen_units columns functions) rows)
     (length all * read_units functions) (tested_units query.having (all_groups query rows).rows) (made_units query.items (each (kept query.having) (all_groups query rows)))
     (sum_by (row_share h query rows) rows) (sum_by (group_share query) all) (sum_by (λ g. behind_units query (made g)) all)
-    (added (key_of columns) h.folded (met_units h entries) (chosen_units columns functions rows) rows)
+    (added (key_of columns) h.folded (met_units h entries) (chosen_units columns functions) rows)
     (reads (read_units functions) (λ g. behind_units query (made g)) all)
     (behind_each query made all)
 

@@ -6,7 +6,6 @@ use Rattle.qw_types.specs.Value.{text_octets}
 use Rattle.qw_types.specs.declared.value.Val.{Val}
 use Rattle.qw_layout.specs.Row.{entry_size}
 use Rattle.qw_scalar.specs.Evaluation.{cell_of}
-use Rattle.qw_scalar.specs.Units.{most_by}
 use Rattle.qw_meaning.specs.Flow.{Flow, each, kept}
 use Rattle.qw_grouped.specs.Grouped.{Grouped, kinds_of}
 use Rattle.qw_grouped.specs.Groups.{Group, behind_front, grouped_table, groups, key_of, once, values_at}
@@ -51,12 +50,11 @@ is_average Max = false
 abbrev pub octets_at : (place : ℕ) → List Val → ℕ
 octets_at place row = text_octets (cell_of (slice_get row place) ∷ [])
 
--- At a row MIN and MAX compare its text with the one that they have chosen of the rows before: at most the octets of both, the chosen one being no
--- longer than the longest of all rows. Of several set functions, the arguments of which begin at this place, the greatest counts.
-abbrev pub chosen_units : (place : ℕ) → List SetFunctionKind → (rows : List (List Val)) → List Val → ℕ
-chosen_units place [] rows row = 0
-chosen_units place (f ∷ functions) rows row =
-    max (if chooses f then octets_at place row + most_by (octets_at place) rows else 0) (chosen_units (place + 1) functions rows row)
+-- At a row MIN and MAX compare its text with the one that they have chosen of the rows before, no further than the shorter one goes: at most its own
+-- octets. Of several set functions, the arguments of which begin at this place, the greatest counts.
+abbrev pub chosen_units : (place : ℕ) → List SetFunctionKind → List Val → ℕ
+chosen_units place [] row = 0
+chosen_units place (f ∷ functions) row = max (if chooses f then octets_at place row else 0) (chosen_units (place + 1) functions row)
 
 -- what it takes at a group to read the values of its set functions: an average is divided bit by bit, in 128 turns
 abbrev pub read_units : List SetFunctionKind → ℕ
@@ -92,7 +90,7 @@ rows_behind query rows = (behind_front query (unraised rows)).rows
 abbrev pub group_units : Hashing → Grouped → List (List Val) → ℕ
 group_units h query rows =
     table_units h (group_keys (length query.columns) rows) (map (key_of (length query.columns)) rows)
-    + sum_by (chosen_units (length query.columns) (kinds_of query.functions) rows) rows
+    + sum_by (chosen_units (length query.columns) (kinds_of query.functions)) rows
     + length (groups (length query.columns) rows) * read_units (kinds_of query.functions)
     + tested_units query.having (all_groups query rows).rows
     + made_units query.items (each (kept query.having) (all_groups query rows))

@@ -20,7 +20,7 @@ key_share h entries key = h.folded key + met_units h entries key
 -- a row's, among all rows
 abbrev pub row_share : Hashing → Grouped → (rows : List (List Val)) → List Val → ℕ
 row_share h query rows row =
-    key_share h (group_keys (length query.columns) rows) (key_of (length query.columns) row) + chosen_units (length query.columns) (kinds_of query.functions) rows row
+    key_share h (group_keys (length query.columns) rows) (key_of (length query.columns) row) + chosen_units (length query.columns) (kinds_of query.functions) row
 
 -- of rows of the grouped table what HAVING and the select list take, and the rows that are made
 abbrev pub behind_units : Grouped → List (List Val) → ℕ

@@ -4,12 +4,11 @@ ghost use Rattle.std.specs.Prelude.{◌≡◌, ◌≤◌, ℕ, ◌+◌, ◌*◌,
 ghost use Rattle.std.specs.List.{AllByRecursion, filter};
 ghost use Rattle.qw_types.specs.declared.code.Code.{Code};
 ghost use Rattle.qw_types.specs.declared.value.Val.{Val};
-ghost use Rattle.qw_scalar.specs.Units.{most_by};
 ghost use Rattle.qw_grouped.specs.Grouped.{Grouped, IsGrouped};
 ghost use Rattle.qw_grouped.specs.Groups.{Group, group_row, groups, keys, members, once, values_at};
 ghost use Rattle.qw_grouped.specs.SetFunctions.{set_function_value};
 ghost use Rattle.qw_grouped.specs.declared.set_function.SetFunctionKind.{SetFunctionKind};
-ghost use Rattle.qw_whole.specs.GroupTables.{AreValues, distinct_size, group_size, octets_at};
+ghost use Rattle.qw_whole.specs.GroupTables.{AreValues, distinct_size, group_size};
 
 /// While rows come, the keys so far are the first of all keys, so a slot has at most the entries that it has at last; the units of a row's slot are
 /// those entries, each so many.
@@ -20,11 +19,9 @@ pub fn entries_of_slots()
     ensures met { (is_there : List Val → Bool) (n : ℕ) (entries : List (List Val)) → sum_by (λ other. if is_there other then n else 0) entries ≡ length (filter is_there entries) * n }
 {}
 
-/// The members of a key among all rows are those so far and those that come; no text of the members so far is longer than the longest of all rows.
+/// The members of a key among all rows are those so far and those that come.
 pub fn members_so_far()
-    ensures more { (columns : ℕ) (key : List Val) (rows more : List (List Val)) → members columns key (rows ++ more) ≡ members columns key rows ++ members columns key more }
-    ensures short { (place columns : ℕ) (key : List Val) (rows more : List (List Val)) →
-        AllByRecursion (λ row. octets_at place row ≤ most_by (octets_at place) (rows ++ more)) (members columns key rows) }
+    ensures { (columns : ℕ) (key : List Val) (rows more : List (List Val)) → members columns key (rows ++ more) ≡ members columns key rows ++ members columns key more }
 {}
 
 /// Where there is a row, the groups are those of the keys, each with its members, also without GROUP BY; and rows of so many values, each once, are

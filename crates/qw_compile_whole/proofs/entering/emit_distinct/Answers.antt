@@ -2,7 +2,7 @@ use Rattle.std.proofs.Common.{◌++◌, ℕ, map, ap, ◌∙◌}
 use Rattle.qw_low.specs.Steps.{steps_of}
 use Rattle.qw_table.specs.Tables.{directory_block}
 use Rattle.qw_physical.specs.Coded.{operator_of, pipeline_of}
-use Rattle.qw_group_sink.specs.Grouping.{group_of}
+use Rattle.qw_operator.specs.Grouping.{group_of}
 use Rattle.qw_compile_whole.proofs.EnterPlaced.{distinct_emitted, distinct_short}
 use Rattle.qw_compile_whole.proofs.entering.emit_distinct.Goals as goal
 

@@ -8,8 +8,8 @@ use Rattle.qw_physical.specs.declared.pipeline.Pipeline.{Pipeline}
 use Rattle.qw_physical.specs.declared.pipeline.Sink.{Sink}
 use Rattle.qw_physical.specs.declared.pipeline.Sink.TheVariants as sinks
 use Rattle.qw_physical.proofs.Reading.{if_ok}
-use Rattle.qw_group_sink.specs.Grouping.{Group, group_of}
-use Rattle.qw_group_sink.specs.declared.group.Group as coded
+use Rattle.qw_operator.specs.Grouping.{Group, group_of}
+use Rattle.qw_operator.specs.declared.group.Group as coded
 use Rattle.qw_group_pipeline.specs.declared.columns.ValueColumn.{ValueColumn}
 use Rattle.qw_compile.specs.CourseSpan.{course_span}
 use Rattle.qw_compile.specs.Placed.{CanPlace}

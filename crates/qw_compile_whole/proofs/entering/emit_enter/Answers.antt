@@ -9,7 +9,7 @@ use Rattle.qw_read.specs.declared.constant.Constant.{Constant}
 use Rattle.qw_physical.specs.Coded.{operator_of}
 use Rattle.qw_physical.specs.Physical.{select}
 use Rattle.qw_operator.specs.Takes.{CanCarry}
-use Rattle.qw_group_sink.specs.Grouping.{group_of}
+use Rattle.qw_operator.specs.Grouping.{group_of}
 use Rattle.qw_group_pipeline.specs.Groups.{all_anywhere}
 use Rattle.qw_compile.specs.Placed.{literals_placed}
 use Rattle.qw_compile_whole.proofs.EnterPlaced.{enter_emitted, enter_short}

@@ -4,7 +4,7 @@ use Rattle.qw_low.specs.Steps.{steps_of}
 use Rattle.qw_module.specs.declared.instruction.ValType.{ValType}
 use Rattle.qw_table.specs.Tables.{directory_block}
 use Rattle.qw_physical.specs.Coded.{operator_of, pipeline_of}
-use Rattle.qw_group_sink.specs.Grouping.{group_of}
+use Rattle.qw_operator.specs.Grouping.{group_of}
 use Rattle.qw_compile.specs.Placed.{EmitsBuilds}
 use Rattle.qw_compile_whole.proofs.GatheringLengths.{front_short}
 use Rattle.qw_compile_whole.proofs.GatheringPlaced.{front_emitted}

@@ -15,12 +15,12 @@ use Rattle.qw_read.specs.declared.constant.Constant.{Constant}
 use Rattle.qw_read.specs.declared.reader.Reader.{Reader}
 use Rattle.qw_physical.specs.Coded.{operator_of}
 use Rattle.qw_operator.specs.Emitted.{AreOrdered}
-use Rattle.qw_group_sink.specs.Carrying.{span_to}
-use Rattle.qw_group_sink.specs.Grouping.{group_of, group_span}
+use Rattle.qw_operator.specs.Span.{span}
+use Rattle.qw_operator.specs.Grouping.{group_of, group_span}
 use Rattle.qw_compile.specs.QueryLocals.{readers_over}
 use Rattle.qw_compile.proofs.CourseLengths.{course_short}
-use Rattle.qw_compile.proofs.CoursePlaced.{indices_over, literals_first, ordered_over, served_over, sized_over, words_over}
-use Rattle.qw_compile_whole.proofs.GatheringPlaced.{gathering_emitted, row_to_as}
+use Rattle.qw_compile.proofs.CoursePlaced.{indices_over, literals_first, ordered_over, row_as, served_over, sized_over, words_over}
+use Rattle.qw_compile_whole.proofs.GatheringPlaced.{End, gathering_emitted}
 use Rattle.qw_compile_whole.proofs.gathering.emit_gathering.Goals as goal
 
 pub bindings_of-requires-clause-sized : goal.bindings_of-requires-clause-sized
@@ -28,8 +28,8 @@ bindings_of-requires-clause-sized c =
     let r = c.in_ok-readers.ensures ∙ ap (readers_over c.args.entry) c.deref.ensures.value in
     subst (λ (l : List Reader). All (λ (q : Reader). IsSized q.ty) l) (sym (c.deref-2.ensures.value ∙ r)) (sized_over c.args.places.now c.args.first c.requires.placed c.args.entry)
 
-pub emit_placed_row-requires-clause-served : goal.emit_placed_row-requires-clause-served
-emit_placed_row-requires-clause-served c =
+pub emit_row-requires-clause-served : goal.emit_row-requires-clause-served
+emit_row-requires-clause-served c =
     let r = c.in_ok-readers.ensures ∙ ap (readers_over c.args.entry) c.deref.ensures.value in
     let k = c.in_ok-known.ensures ∙ ap₂ (λ (l : List Known) (rs : List Reader). l ++ map known_of rs)
     (ap₂ (λ (l : List Known) (cs : List Constant). l ++ map known_constant cs) (ap₂ known_texts c.deref-3.ensures.value c.deref-4.ensures.value) c.deref-5.ensures.value) (c.deref-2.ensures.value ∙ r) in
@@ -38,13 +38,13 @@ emit_placed_row-requires-clause-served c =
     subst (λ (l : List Known). IsServed (free_of c.new-emitter.result) l) (sym k)
     (served_over c.args.places.now c.args.first c.requires.placed c.args.entry (free_of c.new-emitter.result) (omega (arith, none, own, c.new-emitter.ensures.0, c.in_ok-behind.ensures)))
 
-pub emit_placed_row-requires-clause-words : goal.emit_placed_row-requires-clause-words
-emit_placed_row-requires-clause-words c =
+pub emit_row-requires-clause-words : goal.emit_row-requires-clause-words
+emit_row-requires-clause-words c =
     let r = c.in_ok-readers.ensures ∙ ap (readers_over c.args.entry) c.deref.ensures.value in
     subst (λ (l : List Reader). AllByRecursion (λ (q : Reader). HasNullWord q.not_null q.cell.null) l) (sym (c.deref-7.ensures.value ∙ r)) (words_over c.args.places.now c.args.first c.requires.placed c.args.entry)
 
-pub emit_placed_row-requires-clause-ordered : goal.emit_placed_row-requires-clause-ordered
-emit_placed_row-requires-clause-ordered c =
+pub emit_row-requires-clause-ordered : goal.emit_row-requires-clause-ordered
+emit_row-requires-clause-ordered c =
     let r = c.in_ok-readers.ensures ∙ ap (readers_over c.args.entry) c.deref.ensures.value in
     let k = c.in_ok-known.ensures ∙ ap₂ (λ (l : List Known) (rs : List Reader). l ++ map known_of rs)
     (ap₂ (λ (l : List Known) (cs : List Constant). l ++ map known_constant cs) (ap₂ known_texts c.deref-3.ensures.value c.deref-4.ensures.value) c.deref-5.ensures.value) (c.deref-2.ensures.value ∙ r) in
@@ -65,12 +65,12 @@ returns-clause-emits c =
     let n = ap₂ (λ (x y : ℕ). x + y) (c.len.ensures ∙ c.args.places.now.literals.ok.0) (c.len-2.ensures ∙ c.args.places.now.constants.ok.0) in
     let front = literals_first c.args.places.now c.args.first c.requires.placed c.args.entry c.in_ok-known.known.items (c.len.result + c.len-2.result) n k in
     let pushed = c.in_ok-push_course.ensures in
-    let fields = c.in_ok-_fields._fields.items in
+    let fields = c.in_ok-_ended._ended.fields.items in
     gathering_emitted c.args.guard c.args.places.now c.args.first c.args.entry (map operator_of c.args.operators.now) (group_of c.args.group.now) fields c.args.block.now.code.items c.push_course.new.block.code.items c.args.own.now.items c.extend_from_slice.new.self.items c.new-emitter.result
-    c.emit_placed_row.new.emitter pushed.0 pushed.2
+    c.emit_row.new.emitter pushed.0 pushed.2
     (c.new-emitter.ensures.0 ∙ (c.in_ok-behind.ensures ∙ ap (λ (l : List ValType). c.args.first + length l) c.deref-6.ensures.value)) c.new-emitter.ensures.1 c.new-emitter.ensures.2
-    (row_to_as c.args.guard fields (group_of c.args.group.now) _ _ _ _ _ (map operator_of c.args.operators.now) c.new-emitter.result c.emit_placed_row.new.emitter front (c.deref-7.ensures.value ∙ r) refl c.in_ok-_fields.ensures.emits)
-    c.in_ok-_fields.ensures.kinds
+    (row_as (End c.args.guard fields (group_of c.args.group.now)) _ _ _ _ _ (map operator_of c.args.operators.now) c.new-emitter.result c.emit_row.new.emitter front (c.deref-7.ensures.value ∙ r) refl c.in_ok-_ended.ensures.emits)
+    c.in_ok-_ended.ensures.values
     (ap (λ (l : List Reader). slice_get l 0) (sym (c.deref-8.ensures.value ∙ r)) ∙ pushed.1)
     (subst (λ (l : List Reader). BeginsAll l pushed.2) (c.deref-8.ensures.value ∙ r) pushed.3)
     pushed.4
@@ -80,11 +80,11 @@ pub returns-clause-short : goal.returns-clause-short
 returns-clause-short c =
     let r = c.in_ok-readers.ensures ∙ ap (readers_over c.args.entry) c.deref.ensures.value in
     let pushed = c.in_ok-push_course.ensures in
-    let row = c.in_ok-_fields.ensures.emits in
+    let row = c.in_ok-_ended.ensures.emits in
     let coded = row.code_is ∙ ap (λ (l : List LowStep). l ++ steps_of row.statement) c.new-emitter.ensures.1 in
     let readers = c.args.places.now.readers.items in
-    course_short c.args.places.now.tables (record { index = pushed.0.index; begins = pushed.2; row = row.statement }) (length (readers_over c.args.entry readers)) (span_to c.args.operators.now (group_span c.args.group.now))
-    c.args.block.now.code.items c.push_course.new.block.code.items c.args.own.now.items c.extend_from_slice.new.self.items c.new-emitter.result c.emit_placed_row.new.emitter
+    course_short c.args.places.now.tables (record { index = pushed.0.index; begins = pushed.2; row = row.statement }) (length (readers_over c.args.entry readers)) (span c.args.operators.now (group_span c.args.group.now))
+    c.args.block.now.code.items c.push_course.new.block.code.items c.args.own.now.items c.extend_from_slice.new.self.items c.new-emitter.result c.emit_row.new.emitter
     (subst (λ (l : List Reader). size pushed.2 ≤ 13 * length l) (c.deref-8.ensures.value ∙ r) pushed.3.short) (pushed.4 row.statement coded) coded
     (c.in_ok-extend_from_slice.ensures.items ∙ ap (λ (l : List ValType). c.args.own.now.items ++ l) c.deref-9.ensures.value) c.new-emitter.ensures.1 c.new-emitter.ensures.2
-    (subst (λ (rs : List Reader). extent c.emit_placed_row.new.emitter ≤ extent c.new-emitter.result + (span_to c.args.operators.now (group_span c.args.group.now) + 117 * length rs + 40)) (c.deref-7.ensures.value ∙ r) c.in_ok-_fields.ensures.short)
+    (subst (λ (rs : List Reader). extent c.emit_row.new.emitter ≤ extent c.new-emitter.result + (span c.args.operators.now (group_span c.args.group.now) + 117 * length rs + 40)) (c.deref-7.ensures.value ∙ r) c.in_ok-_ended.ensures.short)

@@ -1,6 +1,6 @@
 use Rattle.std.proofs.Common.{map}
 use Rattle.qw_physical.specs.Coded.{operator_of, pipeline_of}
-use Rattle.qw_group_sink.specs.Grouping.{group_of}
+use Rattle.qw_operator.specs.Grouping.{group_of}
 use Rattle.qw_compile_whole.proofs.GatheringLengths.{grouped_short}
 use Rattle.qw_compile_whole.proofs.GatheringPlaced.{grouped_emitted}
 use Rattle.qw_compile_whole.proofs.gathering.emit_grouped.Goals as goal

@@ -9,7 +9,7 @@ use Rattle.qw_grouped.specs.Query.{grouped_of}
 use Rattle.qw_physical.specs.Coded.{pipeline_of}
 use Rattle.qw_physical.specs.Named.{numbers}
 use Rattle.qw_physical.specs.declared.pipeline.ReadColumn.{ReadColumn}
-use Rattle.qw_group_sink.specs.Grouping.{CanGroup}
+use Rattle.qw_operator.specs.Grouping.{CanGroup}
 use Rattle.qw_group_pipeline.specs.declared.columns.ValueColumn.{ValueColumn}
 use Rattle.qw_compile.specs.QueryLiterals.{query_texts}
 use Rattle.qw_compile.specs.QueryPasses.{ArePipelinesOf}

@@ -1,5 +1,5 @@
 use Rattle.std.proofs.Common.{◌∙◌, refl, arith}
-use Rattle.qw_group_sink.specs.Grouping.{Group}
+use Rattle.qw_operator.specs.Grouping.{Group}
 use Rattle.qw_grouped.specs.Query.{grouped_of}
 use Rattle.qw_compile.specs.declared.query_statement.QueryStatement.{QueryStatement}
 use Rattle.qw_compile_whole.specs.GroupColumns.{key_columns, value_columns}

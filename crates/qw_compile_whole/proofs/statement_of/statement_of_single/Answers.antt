@@ -4,7 +4,7 @@ use Rattle.qw_types.specs.Value.{IsSized}
 use Rattle.qw_grouped.specs.Query.{grouped_of}
 use Rattle.qw_physical.specs.Coded.{pipeline_of}
 use Rattle.qw_physical.specs.declared.pipeline.ReadColumn.{ReadColumn}
-use Rattle.qw_group_sink.specs.Grouping.{CanGroup, Group}
+use Rattle.qw_operator.specs.Grouping.{CanGroup, Group}
 use Rattle.qw_group_pipeline.specs.declared.columns.ValueColumn.{ValueColumn}
 use Rattle.qw_compile.specs.declared.query_statement.QueryStatement.{QueryStatement}
 use Rattle.qw_compile_whole.specs.GroupColumns.{value_columns}

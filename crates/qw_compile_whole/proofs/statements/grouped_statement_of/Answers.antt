@@ -1,7 +1,7 @@
 use Rattle.std.proofs.Common.{◌≡◌, ◌++◌, ◌∷◌, [], false, true, IsSome, Option, List, length, map, sym, ap, subst, arith}
 use Rattle.qw_physical.specs.Coded.{pipeline_of}
 use Rattle.qw_physical.specs.declared.pipeline.Pipeline.{Pipeline}
-use Rattle.qw_group_sink.specs.Grouping.{CanGroup}
+use Rattle.qw_operator.specs.Grouping.{CanGroup}
 use Rattle.qw_compile_whole.specs.GroupedPlaced.{LastSelects, group_over}
 use Rattle.qw_compile_whole.specs.StatementAround.{ArePlacedPasses}
 use Rattle.qw_compile_whole.specs.declared.statement_around.PlacedPasses.{PlacedPasses}

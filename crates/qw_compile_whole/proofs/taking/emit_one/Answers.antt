@@ -8,7 +8,7 @@ use Rattle.qw_read.specs.Texts.{known_texts}
 use Rattle.qw_read.specs.declared.constant.Constant.{Constant}
 use Rattle.qw_physical.specs.Coded.{operator_of, pipeline_of}
 use Rattle.qw_physical.specs.declared.pipeline.Operator.{Operator}
-use Rattle.qw_operator.specs.Span.{span}
+use Rattle.qw_operator.specs.Span.{sink_span, span}
 use Rattle.qw_operator.specs.Takes.{CanCarry}
 use Rattle.qw_group_pipeline.specs.Groups.{all_anywhere}
 use Rattle.qw_compile.specs.Placed.{literals_placed}
@@ -51,4 +51,4 @@ returns-clause-short c =
     let values = c.args.values.now in
     one_short (length values) c.args.pipeline.now c.args.block.now.code.items c.append.new.self.code.items c.args.own.now.items c.extend_from_slice.new.self.items c.new-emitter.result c.emit_one_group.new.emitter c.new-emitter.ensures.1 c.new-emitter.ensures.2
     c.in_ok-append.ensures (c.in_ok-extend_from_slice.ensures.items ∙ ap (λ (l : List ValType). c.args.own.now.items ++ l) c.deref-6.ensures.value)
-    (subst (λ (os : List Operator). extent c.emit_one_group.new.emitter ≤ extent c.new-emitter.result + (328 * length values + span os c.args.pipeline.now.sink)) c.deref-5.ensures.value c.in_ok-kinds.ensures.short)
+    (subst (λ (os : List Operator). extent c.emit_one_group.new.emitter ≤ extent c.new-emitter.result + (328 * length values + span os (sink_span c.args.pipeline.now.sink))) c.deref-5.ensures.value c.in_ok-kinds.ensures.short)

@@ -2,7 +2,7 @@ use Rattle.std.proofs.Common.{List, [], map, subst}
 use Rattle.qw_low.specs.declared.step.LowStep.{LowStep}
 use Rattle.qw_module.specs.declared.instruction.ValType.{ValType}
 use Rattle.qw_physical.specs.Coded.{operator_of, pipeline_of}
-use Rattle.qw_group_sink.specs.Grouping.{group_of}
+use Rattle.qw_operator.specs.Grouping.{group_of}
 use Rattle.qw_compile.specs.Placed.{EmitsBuilds}
 use Rattle.qw_compile_whole.proofs.TakingLengths.{single_short}
 use Rattle.qw_compile_whole.proofs.TakingPlaced.{single_emitted}

@@ -4,7 +4,7 @@ use Rattle.qw_physical.specs.Coded.{operator_of, pipeline_of}
 use Rattle.qw_physical.specs.declared.pipeline.Operator.{Operator}
 use Rattle.qw_physical.specs.declared.pipeline.Pipeline.{Pipeline}
 use Rattle.qw_physical.proofs.Reading.{if_ok}
-use Rattle.qw_group_sink.specs.Grouping.{group_of}
+use Rattle.qw_operator.specs.Grouping.{group_of}
 use Rattle.qw_compile.specs.CourseSpan.{course_span}
 use Rattle.qw_compile.specs.Placed.{CanPlace}
 use Rattle.qw_compile.specs.declared.courses.Emitted.{Emitted}

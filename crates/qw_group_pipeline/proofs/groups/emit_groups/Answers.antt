@@ -5,7 +5,7 @@ use Rattle.qw_expr.specs.Computes.{Known}
 use Rattle.qw_expr.specs.Emits.{free_of}
 use Rattle.qw_physical.specs.Coded.{operator_of, sink_of}
 use Rattle.qw_operator.specs.Carries.{IsSunk}
-use Rattle.qw_operator.specs.Span.{span}
+use Rattle.qw_operator.specs.Span.{sink_span, span}
 use Rattle.qw_operator.specs.Takes.{CanCarry}
 use Rattle.qw_group_pipeline.proofs.GroupEmits.{group_served, group_takes, groups_emit, groups_within, inner_free}
 use Rattle.qw_group_pipeline.proofs.groups.emit_groups.Goals as goal
@@ -38,4 +38,4 @@ returns-clause-short c =
     groups_within (known_of c.args.literals.items) c.in_ok-count.count c.args.columns.now.key.items c.args.columns.now.values.items c.in_ok-inner.field-0.inner (known_of c.in_ok-inner.field-0.known.items) c.in_ok-inner.ensures (IsSunk (sink_of c.args.sink.now)) (map operator_of c.args.operators.now)
     c.args.directory c.args.emitter.now c.declare.new.emitter (record { first = c.declare.new.emitter.first; block = c.emit_group_walk.new.block; own = c.extend_from_slice.new.self }) c.emit_operators.new.emitter c.in_ok-count.ensures.local.0 c.in_ok-kinds.ensures.emits
     c.in_ok-count.ensures.same.1 c.in_ok-count.ensures.own c.in_ok-emit_group_walk.ensures.block (c.in_ok-extend_from_slice.ensures.items ∙ ap (λ (l : List ValType). c.declare.new.emitter.own.items ++ l) c.deref.ensures.value)
-    (span c.args.operators.now c.args.sink.now) c.in_ok-kinds.ensures.short
+    (span c.args.operators.now (sink_span c.args.sink.now)) c.in_ok-kinds.ensures.short

@@ -6,10 +6,10 @@ use Rattle.qw_expr.specs.Emits.{free_of}
 use Rattle.qw_physical.specs.Coded.{operator_of}
 use Rattle.qw_physical.specs.Physical.{select}
 use Rattle.qw_operator.specs.Takes.{CanCarry}
-use Rattle.qw_group_sink.specs.Carrying.{span_to}
-use Rattle.qw_group_sink.specs.Grouping.{group_of, group_span}
+use Rattle.qw_operator.specs.Span.{span}
+use Rattle.qw_operator.specs.Grouping.{group_of, group_span}
 use Rattle.qw_group_pipeline.specs.Groups.{Grouping}
-use Rattle.qw_group_pipeline.proofs.GroupEmits.{group_served, group_takes, groups_emit, groups_within, inner_free}
+use Rattle.qw_group_pipeline.proofs.GroupEmits.{group_served, group_takes, groups_emit, groups_within, inner_free, into_groups}
 use Rattle.qw_group_pipeline.proofs.groups.emit_groups_into.Goals as goal
 
 pub emit_operators-requires-clause-takes : goal.emit_operators-requires-clause-takes
@@ -31,13 +31,13 @@ emit_operators-requires-clause-served c =
 
 pub returns-clause-emits : goal.returns-clause-emits
 returns-clause-emits c =
-    groups_emit (known_of c.args.literals.items) c.in_ok-count.count c.args.columns.now.key.items c.args.columns.now.values.items c.in_ok-inner.field-0.inner (known_of c.in_ok-inner.field-0.known.items) c.in_ok-inner.ensures (Grouping c.in_ok-fields.fields.items (group_of c.args.group.now)) (map operator_of c.args.operators.now)
-    c.args.directory c.args.emitter.now c.declare.new.emitter (record { first = c.declare.new.emitter.first; block = c.emit_group_walk.new.block; own = c.extend_from_slice.new.self }) c.emit_operators.new.emitter c.in_ok-count.ensures.local.0 c.in_ok-fields.ensures.emits
+    groups_emit (known_of c.args.literals.items) c.in_ok-count.count c.args.columns.now.key.items c.args.columns.now.values.items c.in_ok-inner.field-0.inner (known_of c.in_ok-inner.field-0.known.items) c.in_ok-inner.ensures (Grouping c.in_ok-fields.field-0.fields.items (group_of c.args.group.now)) (map operator_of c.args.operators.now)
+    c.args.directory c.args.emitter.now c.declare.new.emitter (record { first = c.declare.new.emitter.first; block = c.emit_group_walk.new.block; own = c.extend_from_slice.new.self }) c.emit_operators.new.emitter c.in_ok-count.ensures.local.0 (into_groups c.in_ok-fields.field-0.fields.items (group_of c.args.group.now) (known_of c.in_ok-inner.field-0.known.items) (map operator_of c.args.operators.now) c.in_ok-inner.field-0.inner c.emit_operators.new.emitter c.in_ok-fields.ensures.emits)
     c.in_ok-count.ensures.same.1 c.in_ok-count.ensures.own c.in_ok-emit_group_walk.ensures.block (c.in_ok-extend_from_slice.ensures.items ∙ ap (λ (l : List ValType). c.declare.new.emitter.own.items ++ l) c.deref.ensures.value) c.in_ok-count.ensures.same.0
 
 pub returns-clause-short : goal.returns-clause-short
 returns-clause-short c =
-    groups_within (known_of c.args.literals.items) c.in_ok-count.count c.args.columns.now.key.items c.args.columns.now.values.items c.in_ok-inner.field-0.inner (known_of c.in_ok-inner.field-0.known.items) c.in_ok-inner.ensures (Grouping c.in_ok-fields.fields.items (group_of c.args.group.now)) (map operator_of c.args.operators.now)
-    c.args.directory c.args.emitter.now c.declare.new.emitter (record { first = c.declare.new.emitter.first; block = c.emit_group_walk.new.block; own = c.extend_from_slice.new.self }) c.emit_operators.new.emitter c.in_ok-count.ensures.local.0 c.in_ok-fields.ensures.emits
+    groups_within (known_of c.args.literals.items) c.in_ok-count.count c.args.columns.now.key.items c.args.columns.now.values.items c.in_ok-inner.field-0.inner (known_of c.in_ok-inner.field-0.known.items) c.in_ok-inner.ensures (Grouping c.in_ok-fields.field-0.fields.items (group_of c.args.group.now)) (map operator_of c.args.operators.now)
+    c.args.directory c.args.emitter.now c.declare.new.emitter (record { first = c.declare.new.emitter.first; block = c.emit_group_walk.new.block; own = c.extend_from_slice.new.self }) c.emit_operators.new.emitter c.in_ok-count.ensures.local.0 (into_groups c.in_ok-fields.field-0.fields.items (group_of c.args.group.now) (known_of c.in_ok-inner.field-0.known.items) (map operator_of c.args.operators.now) c.in_ok-inner.field-0.inner c.emit_operators.new.emitter c.in_ok-fields.ensures.emits)
     c.in_ok-count.ensures.same.1 c.in_ok-count.ensures.own c.in_ok-emit_group_walk.ensures.block (c.in_ok-extend_from_slice.ensures.items ∙ ap (λ (l : List ValType). c.declare.new.emitter.own.items ++ l) c.deref.ensures.value)
-    (span_to c.args.operators.now (group_span c.args.group.now)) c.in_ok-fields.ensures.short
+    (span c.args.operators.now (group_span c.args.group.now)) c.in_ok-fields.ensures.short

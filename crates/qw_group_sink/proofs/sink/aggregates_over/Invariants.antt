@@ -1,6 +1,0 @@
-use Rattle.std.proofs.Common.{◌≡◌, take}
-use Rattle.qw_group_sink.specs.Grouping.{over_fields}
-use Rattle.qw_group_sink.proofs.sink.aggregates_over.Given as goal
-
-abbrev pub invariant-loop-index : goal.invariant-loop-index
-invariant-loop-index l = l.made.items ≡ over_fields (take l.index l.functions) l.arguments
