@@ -14,7 +14,7 @@ use Rattle.qw_low.specs.Syntax.{Statement}
 use Rattle.qw_low.specs.Typing as low
 use Rattle.qw_low.specs.Typing.{IsTyped}
 use Rattle.qw_low.specs.Size.{size}
-use Rattle.qw_text.specs.Texts.{Compares, SaysOrder, of_both, own_types}
+use Rattle.qw_text.specs.Texts.{Compares, SaysOrder, of_shorter, own_types}
 use Rattle.qw_table.specs.Entries.{Declares}
 use Rattle.qw_table.specs.Keys.{IsBelow, DeclaresKind, DeclaresNull}
 use Rattle.qw_table.specs.Joins.{Told, unless_null}
@@ -46,7 +46,7 @@ module _ (types : List ValType) (e at g : ℕ) (e_is : slice_get types e ≡ Som
   order_own : (i : ℕ) (t : ValType) → slice_get own_types i ≡ Some t → slice_get types (g + 5 + i) ≡ Some t
   order_own i t is = let same : g + suc (suc (suc (suc (suc i)))) ≡ g + 5 + i = omega arith in subst (λ (j : ℕ). slice_get types j ≡ Some t) same (own (suc (suc (suc (suc (suc i))))) t is)
 
-  read_typed : (kd : Kind) (c : Cell) (order : Statement) → DeclaresKind types kd c → (kd ≡ kind.Text → Compares of_both (SaysOrder (g + 7)) (record { value = g + 3; length = g + 4; null = None }) c (g + 5) order) → IsTyped types (chosen_read kd order e at g)
+  read_typed : (kd : Kind) (c : Cell) (order : Statement) → DeclaresKind types kd c → (kd ≡ kind.Text → Compares of_shorter (SaysOrder (g + 7)) (record { value = g + 3; length = g + 4; null = None }) c (g + 5) order) → IsTyped types (chosen_read kd order e at g)
   read_typed (kind.Number s) c order is orders = (g_is, e_is)
   read_typed kind.Date c order is orders = (g_is, e_is)
   read_typed kind.Text c order is orders = ((own 3 I32 refl, e_is), ((own 4 I32 refl, e_is), (orders refl).typed types (own 3 I32 refl, own 4 I32 refl) is order_own))
@@ -56,7 +56,7 @@ module _ (types : List ValType) (e at g : ℕ) (e_is : slice_get types e ≡ Som
   beaten_typed kind.Date r c is = (g_is, is, refl)
   beaten_typed kind.Text r c is = (own 7 I64 refl, (omega arith, refl), refl)
 
-  choose_typed : (kd : Kind) (r : Relation) (c : Cell) (order : Statement) → DeclaresKind types kd c → (kd ≡ kind.Text → Compares of_both (SaysOrder (g + 7)) (record { value = g + 3; length = g + 4; null = None }) c (g + 5) order) → IsTyped types (choose_more kd r order c e at g)
+  choose_typed : (kd : Kind) (r : Relation) (c : Cell) (order : Statement) → DeclaresKind types kd c → (kd ≡ kind.Text → Compares of_shorter (SaysOrder (g + 7)) (record { value = g + 3; length = g + 4; null = None }) c (g + 5) order) → IsTyped types (choose_more kd r order c e at g)
   choose_typed kd r c order is orders =
       (count_typed, ((g_is, (omega arith, refl), refl), (read_typed kd c order is orders, (beaten_typed kd r c is, put_typed kd c is, tt)), put_typed kd c is))
 

@@ -26,7 +26,7 @@ use Rattle.qw_low.specs.Meaning.{meaning}
 use Rattle.qw_low.specs.Typing.{IsTyped}
 use Rattle.qw_low.specs.Size.{size}
 use Rattle.qw_low.specs.Promise.{Ends}
-use Rattle.qw_text.specs.Texts.{Compares, SaysOrder, of_both}
+use Rattle.qw_text.specs.Texts.{Compares, SaysOrder, of_shorter}
 use Rattle.qw_feed.specs.Cells.{HasNumber, Supplies}
 use Rattle.qw_feed.specs.Frames.{pos, Outside}
 use Rattle.qw_table.specs.Entries.{Stands, Declares}
@@ -156,7 +156,7 @@ Chooses Min = Unit {0}
 Chooses Max = Unit {0}
 
 abbrev pub OrdersTexts : SetFunctionKind → Field → (g : ℕ) → (order : Statement) → Type 0
-OrdersTexts function f g order = Chooses function → f.kind ≡ kind.Text → Compares of_both (SaysOrder (g + 7)) (record { value = g + 3; length = g + 4; null = None }) f.cell (g + 5) order
+OrdersTexts function f g order = Chooses function → f.kind ≡ kind.Text → Compares of_shorter (SaysOrder (g + 7)) (record { value = g + 3; length = g + 4; null = None }) f.cell (g + 5) order
 
 -- the block takes one value more
 pub record Aggregates (function : SetFunctionKind) (f : Field) (e at g : ℕ) (a : Statement) : Type 0 where

@@ -46,7 +46,7 @@ pub struct Ended {
 pub fn emit_end(
     alloc: Global,
     emitter: &mut Emitter,
-    end: End,
+    end: End<'_>,
     known: &[Binding],
 ) -> Result<Ended, NoMemory>
     requires takes { CanCarry (known_of known.now) [] (values_sink (end_of end)) }
