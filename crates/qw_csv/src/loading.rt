@@ -200,11 +200,7 @@ pub(crate) fn none_taken(alloc: Global, columns: &[Column]) -> Result<Taken, Loa
     ensures memory { IfErr result (λ e. e ≡ LoadFault.NoMemory) }
 {
     let values = no_values(alloc, columns)?;
-    Ok(Taken {
-        loaded: loaded(alloc, columns, values, 0)?,
-        before: 0,
-        named: false,
-    })
+    Ok(next_part(loaded(alloc, columns, values, 0)?))
 }
 
 /// That of no record of the next part, behind the parts whose rows these are.
@@ -216,8 +212,8 @@ pub(crate) fn next_part(loaded: Loaded) -> Taken
 {
     Taken {
         before: loaded.len(),
-        loaded,
         named: false,
+        loaded,
     }
 }
 
