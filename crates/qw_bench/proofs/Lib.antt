@@ -3,6 +3,7 @@ mod BenchStart
 mod BenchTurns
 mod FirstPages
 mod FirstSeatLemmas
+mod FreeCounts
 mod FreeLemmas
 mod GivingBack
 mod LayoutLemmas

@@ -13,7 +13,8 @@ use Rattle.qw_map.specs.Free.{marked}
 use Rattle.qw_map.proofs.FreeFacts.{length-marked}
 use Rattle.qw_map.specs.Turns.{Common, flags_after}
 use Rattle.qw_bench.specs.declared.pool.Pool.{Pool}
-use Rattle.qw_bench.specs.Inner.Pools.{IsPool, common_of}
+use Rattle.qw_bench.specs.Inner.Pools.{IsPool, common_of, free_among}
+use Rattle.qw_bench.proofs.FreeCounts.{counted-added}
 
 -- pages of the memory are marked
 pub flags-there : (common : Common) (first n : ℕ) → first < pages_of common.memory → flags_after common (AsksHost n (Some first)) ≡ marked false first n common.free
@@ -35,8 +36,9 @@ module _ (before after : Pool) (old : IsPool before) (first n : ℕ) where
 
   -- a run of free pages is given
   pub gives-run : 1 ≤ n → first + n ≤ length before.free.items → after.memory.octets ≡ cleared first n before.memory.octets →
-      after.memory.reserved ≡ before.memory.reserved → after.free.items ≡ marked false first n before.free.items → vec_capacity after.free ≡ vec_capacity before.free → Gives
-  gives-run some there octets reserved flags capacity =
+      after.memory.reserved ≡ before.memory.reserved → after.free.items ≡ marked false first n before.free.items → vec_capacity after.free ≡ vec_capacity before.free →
+      after.free_count ≡ free_among after.free.items → Gives
+  gives-run some there octets reserved flags capacity counted =
       let within : (first + n) * page ≤ length before.memory.octets = omega (arith, there, old.flags, old.whole) in
       let same : length after.memory.octets ≡ length before.memory.octets = ap length octets ∙ length-cleared first n before.memory.octets within in
       let many : length after.free.items ≡ length before.free.items = ap length flags ∙ length-marked false first n before.free.items in
@@ -50,6 +52,7 @@ module _ (before after : Pool) (old : IsPool before) (first n : ℕ) where
           within = omega (arith, same, reserved, old.within);
           limit = omega (arith, reserved, old.limit);
           room = omega (arith, reserved, capacity, old.room);
+          counted = counted;
         };
         inside = omega (arith, there, many);
         longer = omega (arith, many);
@@ -60,8 +63,9 @@ module _ (before after : Pool) (old : IsPool before) (first n : ℕ) where
   -- the memory's next pages are given
   pub gives-next : first ≡ pages_of before.memory.octets → length before.memory.octets + n * page ≤ before.memory.reserved * page →
       after.memory.octets ≡ grown_by n before.memory.octets →
-      after.memory.reserved ≡ before.memory.reserved → after.free.items ≡ before.free.items ++ replicate n false → vec_capacity after.free ≡ vec_capacity before.free → Gives
-  gives-next next room octets reserved flags capacity =
+      after.memory.reserved ≡ before.memory.reserved → after.free.items ≡ before.free.items ++ replicate n false → vec_capacity after.free ≡ vec_capacity before.free →
+      after.free_count ≡ before.free_count → Gives
+  gives-next next room octets reserved flags capacity count =
       let whole : length before.memory.octets ≡ first * page = rw next old.whole in
       let grown : after.memory.octets ≡ cleared first n before.memory.octets = octets ∙ sym (cleared-next first n before.memory.octets whole) in
       let long : length after.memory.octets ≡ length before.memory.octets + n * page = ap length octets ∙ length-grown_by n before.memory.octets in
@@ -77,6 +81,7 @@ module _ (before after : Pool) (old : IsPool before) (first n : ℕ) where
           within = omega (arith, long, reserved, room);
           limit = omega (arith, reserved, old.limit);
           room = omega (arith, reserved, capacity, old.room);
+          counted = count ∙ old.counted ∙ sym (ap free_among flags ∙ counted-added before.free.items n);
         };
         inside = omega (arith, many, old.flags, next);
         longer = omega (arith, many);

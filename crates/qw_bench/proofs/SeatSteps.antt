@@ -188,6 +188,7 @@ kept-pool pool after kept same reserved = record {
   within = omega (arith, same, reserved, kept.within);
   limit = omega (arith, reserved, kept.limit);
   room = omega (arith, reserved, kept.room);
+  counted = kept.counted;
 }
 
 -- ---- what is noted of a grant

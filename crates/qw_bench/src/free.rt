@@ -3,6 +3,7 @@
 ghost use Rattle.std.specs.Prelude.{◌≡◌, ◌+◌, ◌≤◌, ◌++◌, false, length, replicate};
 ghost use Rattle.std.specs.Vec.{vec_capacity};
 ghost use Rattle.qw_map.specs.Free.{lowest_run, marked};
+ghost use Rattle.qw_bench.specs.Inner.Pools.{IsChanged, free_among};
 
 /// The lowest place of so many neighbouring flags that are true. It looks at each flag once.
 pub(crate) fn lowest_free(flags: &[bool], pages: usize) -> Option<usize>
@@ -19,18 +20,22 @@ pub(crate) fn lowest_free(flags: &[bool], pages: usize) -> Option<usize>
     None
 }
 
-/// Marks so many flags from one on.
-pub(crate) fn mark(flags: &mut [bool], first: usize, pages: usize, flag: bool)
+/// Marks so many flags from one on. Answers how many of them it changed.
+pub(crate) fn mark(flags: &mut [bool], first: usize, pages: usize, flag: bool) -> usize
     requires { first + pages ≤ length flags.old }
-    ensures { flags.new ≡ marked flag first pages flags.old }
+    ensures marked { flags.new ≡ marked flag first pages flags.old }
+    ensures changed { IsChanged flag result (free_among flags.old) (free_among flags.new) }
 {
     let mut at = first;
     let mut left = pages;
+    let mut changed = 0;
     while left > 0 {
+        changed += usize::from(flags[at] != flag);
         flags[at] = flag;
         at += 1;
         left -= 1;
     }
+    changed
 }
 
 /// Adds the flags of so many pages, which are taken.

@@ -7,7 +7,7 @@ ghost use Rattle.qw_module.specs.Execution.{AsksHost};
 ghost use Rattle.qw_module.specs.Step.{can_place};
 ghost use Rattle.qw_map.specs.Free.{marked, place_among};
 ghost use Rattle.qw_map.specs.Turns.{flags_after, placing};
-ghost use Rattle.qw_bench.specs.Inner.Pools.{IsPool, common_of};
+ghost use Rattle.qw_bench.specs.Inner.Pools.{IsPool, common_of, free_among};
 
 use crate::free::{add_taken, lowest_free, mark};
 use qw_linear::linear::Linear;
@@ -18,6 +18,8 @@ pub(crate) struct Pool {
     pub(crate) memory: Linear,
     /// A flag for each page of the memory. There is room for one of each page that the memory may ever have.
     pub(crate) free: Vec<bool>,
+    /// How many pages are free, so that a request for more isn't looked for.
+    pub(crate) free_count: usize,
 }
 
 impl Pool {
@@ -32,12 +34,17 @@ impl Pool {
         let mut free = room;
         let _limit = memory.reserved();
         add_taken(&mut free, memory.size());
-        Pool { memory, free }
+        Pool {
+            memory,
+            free,
+            free_count: 0,
+        }
     }
 
     /// Notes that the memory grew by so many pages, which are taken.
     pub(crate) fn note_growth(&mut self, pages: u32)
         requires flags { length self.old.free.items + pages ≡ pages_of self.old.memory.octets }
+        requires counted { self.old.free_count ≡ free_among self.old.free.items }
         requires whole { length self.old.memory.octets ≡ pages_of self.old.memory.octets * page }
         requires room { self.old.memory.reserved ≤ vec_capacity self.old.free }
         requires within { length self.old.memory.octets ≤ self.old.memory.reserved * page }
@@ -74,18 +81,20 @@ impl Pool {
         };
         self.memory.clear(first, pages);
         let at = first as usize;
-        mark(self.free.as_mut_slice(), at, pages as usize, false);
+        let taken = mark(self.free.as_mut_slice(), at, pages as usize, false);
+        self.free_count -= taken;
         first
     }
 
-    /// The first of the lowest so many neighbouring pages that are free, if there are such; none of no pages.
+    /// The first of the lowest so many neighbouring pages that are free, if there are such; none of no pages. It looks at no flag
+    /// where fewer pages are free.
     fn lowest(&self, pages: u32) -> Option<u32>
         requires kept { IsPool self.now }
         ensures place { placing (common_of self.now) pages ≡ unwrap_or result (pages_of self.now.memory.octets) }
         ensures within { IfSome result (λ first. first + pages ≤ length self.now.free.items) }
         ensures some { IfSome result (λ first. 1 ≤ pages) }
     {
-        if pages == 0 {
+        if pages == 0 || self.free_count < pages as usize {
             return None;
         }
         let first = lowest_free(self.free.as_slice(), pages as usize)?;
@@ -101,6 +110,7 @@ impl Pool {
         ensures kept { IsPool self.new }
     {
         let at = first as usize;
-        mark(self.free.as_mut_slice(), at, pages as usize, true);
+        let freed = mark(self.free.as_mut_slice(), at, pages as usize, true);
+        self.free_count += freed;
     }
 }

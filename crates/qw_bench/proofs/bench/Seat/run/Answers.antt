@@ -83,6 +83,11 @@ note_growth-requires-clause-within c =
     let has = (last l (ap asked_by c.in-Grew.is)).taken.has in
     omega (arith, it.longer, it.fits, has.asks, c.requires.room, c.run-run.ensures.reserved, c.loop-taken.invariant.0.reserved)
 
+pub note_growth-requires-clause-counted : goal.note_growth-requires-clause-counted
+note_growth-requires-clause-counted c =
+    let l = (goal.at.note_growth-requires-clause-counted c).After-run-run in
+    (kept l (ap asked_by c.in-Grew.is)).counted
+
 pub note_grant-requires-clause-fits : goal.note_grant-requires-clause-fits
 note_grant-requires-clause-fits c =
     let l = (goal.at.note_grant-requires-clause-fits c).After-run-run in
