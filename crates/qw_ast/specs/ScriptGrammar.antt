@@ -418,11 +418,10 @@ pub data IsHaving (Inner : Clause → List Lexeme → List Lexeme → Type 0) : 
   no_having : (rest : List Lexeme) → IsHaving Inner None rest rest
   a_having : (c : Condition) (word : Lexeme) (ts rest : List Lexeme) → IsTrue (is_word (codes "HAVING") word) → Inner (condition c) ts rest → IsHaving Inner (Some c) (word ∷ ts) rest
 
--- a sort key (13.1): a number without a point, or a column reference
+-- a sort key (13.1): a column name or an unsigned integer, and no column reference, which may have a qualifier
 pub data IsKey : Key → List Lexeme → List Lexeme → Type 0 where
   an_ordinal : (t : Lexeme) (rest : List Lexeme) → IsTrue (is_integer t) → IsKey (ordinal t.octets) (t ∷ rest) rest
-  a_key_column : (t : Lexeme) (rest : List Lexeme) → IsTrue (is_name t) → IsKey (result_column None t.octets) (t ∷ rest) rest
-  a_qualified_key : (q point t : Lexeme) (rest : List Lexeme) → IsTrue (is_name q) → IsTrue (is_symbol (codes ".") point) → IsTrue (is_name t) → IsKey (result_column (Some q.octets) t.octets) (q ∷ point ∷ t ∷ rest) rest
+  a_key_column : (t : Lexeme) (rest : List Lexeme) → IsTrue (is_name t) → IsKey (result_column t.octets) (t ∷ rest) rest
 
 -- an ordering specification (13.1): whether it is DESC; ASC and nothing are one
 pub data IsDirection : Bool → List Lexeme → List Lexeme → Type 0 where

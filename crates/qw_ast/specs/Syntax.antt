@@ -102,10 +102,10 @@ pub record Reference : Type 0 where
   pub qualifier : Option (List ℕ)
   pub name : List ℕ
 
--- a sort key: a result column by its position, or by its name, behind a qualifier or not (13.1)
+-- a sort key: a result column by its position, or by its name (13.1)
 pub data Key : Type 0 where
   ordinal : List ℕ → Key
-  result_column : Option (List ℕ) → List ℕ → Key
+  result_column : List ℕ → Key
 
 -- a key, and whether DESC stands behind it (13.1)
 pub record SortSpecification : Type 0 where

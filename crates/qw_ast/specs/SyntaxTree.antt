@@ -90,7 +90,7 @@ reference_of r = record { qualifier = octets_of r.qualifier; name = r.name.now }
 
 abbrev pub key_of : coded_key.Key → Key
 key_of (Ordinal digits) = ordinal digits.now
-key_of (coded_keys.Column qualifier name) = result_column (octets_of qualifier) name.now
+key_of (coded_keys.Column name) = result_column name.now
 
 abbrev pub sort_of : coded_sort.SortSpecification → SortSpecification
 sort_of s = record { key = key_of s.key; is_descending = s.is_descending }

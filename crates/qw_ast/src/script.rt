@@ -163,8 +163,8 @@ pub struct Reference<'a> {
 pub enum Key<'a> {
     /// Its position, an unsigned number without a point.
     Ordinal(&'a [u8]),
-    /// `[qualifier.]name`.
-    Column(Option<&'a [u8]>, &'a [u8]),
+    /// Its name.
+    Column(&'a [u8]),
 }
 
 /// `key [ASC | DESC]` (13.1 "sort specification").

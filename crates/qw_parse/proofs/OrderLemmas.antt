@@ -5,11 +5,11 @@ use Rattle.std.proofs.lemmas.Bool.{and_parts, or_left, or_right}
 use Rattle.qw_types.specs.Digits.{are_digits}
 use Rattle.qw_token.specs.Token.{Lexeme}
 use Rattle.qw_ast.specs.Syntax.{Key, ordinal, result_column, SortSpecification}
-use Rattle.qw_ast.specs.ScriptGrammar.{is_word, is_symbol, is_integer, is_name, is_number, is_string, is_comma, IsOperator, IsKey, an_ordinal, a_key_column, a_qualified_key, IsDirection, no_direction, ascending, descending, IsSort, a_sort, IsOrder, unordered, ordered}
+use Rattle.qw_ast.specs.ScriptGrammar.{is_word, is_symbol, is_integer, is_name, is_number, is_string, is_comma, IsOperator, IsKey, an_ordinal, a_key_column, IsDirection, no_direction, ascending, descending, IsSort, a_sort, IsOrder, unordered, ordered}
 use Rattle.qw_parse.specs.Inner.Readers.{token_at, word_at, symbol_at, octets_if, key_at, direction_at, sort_at, order_at}
 use Rattle.qw_parse.proofs.LoopLemmas.{bind_some, cases_option, some_same}
 use Rattle.qw_parse.proofs.TokenLemmas.{word_is, symbol_is, one_is, one_not, one_none, token_is, token_not, token_none, octets_are, octets_hold}
-use Rattle.qw_parse.proofs.ExactLemmas.{Starts, starts_at, Exact, comma_is, further_is, further_ends, clause_takes, names_take, one_name, two_names, words_take, other_word, no_word}
+use Rattle.qw_parse.proofs.ExactLemmas.{Starts, starts_at, Exact, comma_is, further_is, further_ends, clause_takes, words_take, other_word, no_word}
 use Rattle.qw_parse.proofs.PrimaryLemmas.{name_kind}
 
 -- ---- a sort key
@@ -19,23 +19,23 @@ unfolding key_at
 key_takes ts x e =
     elim (cases_option (token_at (octets_if is_integer) ts)) [
       | inr t ↦ subst (λ (y : Key × List Lexeme). IsKey y.0 ts y.1) (some_same (ordinal t.0.0, t.0.1) x (rw t.1 at e)) (octets_hold is_integer (λ octets us. IsKey (ordinal octets) us t.0.1) ts t.0 (λ u h. an_ordinal u t.0.1 h) t.1)
-      | inl no_integer ↦ names_take result_column IsKey a_key_column a_qualified_key ts x (rw no_integer at e)
+      | inl no_integer ↦ (
+          let t = bind_some (token_at (octets_if is_name) ts) _ x (rw no_integer at e) in
+          subst (λ (y : Key × List Lexeme). IsKey y.0 ts y.1) (some_same (result_column t.0.0, t.0.1) x t.2) (octets_hold is_name (λ octets us. IsKey (result_column octets) us t.0.1) ts t.0 (λ u h. a_key_column u t.0.1 h) t.1))
     ]
 
 -- a name is no number
 no_integer : (t : Lexeme) (rest : List Lexeme) → IsTrue (is_name t) → token_at (octets_if is_integer) (t ∷ rest) ≡ None
 no_integer t rest h = let k = name_kind t t.kind refl h in token_not (octets_if is_integer) t rest (rw k.0 refl)
 
-key_is : (key : Key) (ts rest : List Lexeme) → IsKey key ts rest → symbol_at (codes ".") rest ≡ None → key_at ts ≡ Some (key, rest)
+key_is : (key : Key) (ts rest : List Lexeme) → IsKey key ts rest → key_at ts ≡ Some (key, rest)
 unfolding key_at
-key_is _ _ _ (an_ordinal t rest h) none = rw (token_is (octets_if is_integer) t rest t.octets (octets_are is_integer t h)) refl
-key_is _ _ _ (a_key_column t rest h) none = rw (no_integer t rest h) (one_name result_column t rest h none)
-key_is _ _ _ (a_qualified_key q p t rest h f i) none = rw (no_integer q (p ∷ t ∷ rest) h) (two_names result_column q p t rest h f i)
+key_is _ _ _ (an_ordinal t rest h) = rw (token_is (octets_if is_integer) t rest t.octets (octets_are is_integer t h)) refl
+key_is _ _ _ (a_key_column t rest h) = rw (no_integer t rest h, token_is (octets_if is_name) t rest t.octets (octets_are is_name t h)) refl
 
 key_shorter : (key : Key) (ts rest : List Lexeme) → IsKey key ts rest → length rest < length ts
 key_shorter _ _ _ (an_ordinal t rest h) = omega arith
 key_shorter _ _ _ (a_key_column t rest h) = omega arith
-key_shorter _ _ _ (a_qualified_key q p t rest h f i) = omega arith
 
 pub name_begins : (t : Lexeme) (rest : List Lexeme) → IsTrue (is_name t) → Starts (t ∷ rest)
 name_begins t rest h = starts_at t rest (or_right (is_number t || is_string t) _ (or_left (is_name t) _ h))
@@ -45,28 +45,20 @@ key_begins _ _ _ (an_ordinal t rest h) =
     let n = (and_parts (is_number t) (are_digits t.octets) h).0 in
     starts_at t rest (or_left (is_number t || is_string t) _ (or_left (is_number t) (is_string t) n))
 key_begins _ _ _ (a_key_column t rest h) = name_begins t rest h
-key_begins _ _ _ (a_qualified_key q p t rest h f i) = name_begins q (p ∷ t ∷ rest) h
 
 -- ---- a sort specification
 
--- what ends it: no point, no ASC and no DESC
+-- what ends it: no ASC and no DESC
 pub record EndsSort (ts : List Lexeme) : Type 0 where
-  pub no_point : symbol_at (codes ".") ts ≡ None
   pub no_asc : word_at (codes "ASC") ts ≡ None
   pub no_desc : word_at (codes "DESC") ts ≡ None
 
 none_sort : EndsSort []
-none_sort = record { no_point = one_none (is_symbol (codes ".")); no_asc = one_none (is_word (codes "ASC")); no_desc = one_none (is_word (codes "DESC")) }
+none_sort = record { no_asc = one_none (is_word (codes "ASC")); no_desc = one_none (is_word (codes "DESC")) }
 
 comma_sort : (o : Unit {0}) (ts rest : List Lexeme) → IsOperator is_comma o ts rest → EndsSort ts
 comma_sort =
-    comma_is EndsSort (λ t rest h.
-    let i = symbol_is (codes ",") t h in
-    record {
-      no_point = one_not (is_symbol (codes ".")) t rest (rw (i.0, i.1) refl);
-      no_asc = no_word (codes ",") (codes "ASC") t rest h;
-      no_desc = no_word (codes ",") (codes "DESC") t rest h;
-    })
+    comma_is EndsSort (λ t rest h. record { no_asc = no_word (codes ",") (codes "ASC") t rest h; no_desc = no_word (codes ",") (codes "DESC") t rest h })
 
 direction_takes : (ts : List Lexeme) → IsDirection (direction_at ts).0 ts (direction_at ts).1
 unfolding direction_at
@@ -87,11 +79,6 @@ direction_shorter _ _ _ (descending t rest h) = omega arith
 pub word_no_point : (w : List ℕ) (t : Lexeme) (rest : List Lexeme) → IsTrue (is_word w t) → symbol_at (codes ".") (t ∷ rest) ≡ None
 word_no_point w t rest h = let i = word_is w t h in one_not (is_symbol (codes ".")) t rest (rw i.0 refl)
 
-direction_no_point : (is_descending : Bool) (ts rest : List Lexeme) → IsDirection is_descending ts rest → EndsSort rest → symbol_at (codes ".") ts ≡ None
-direction_no_point _ _ _ (no_direction rest) ends = ends.no_point
-direction_no_point _ _ _ (ascending t rest h) ends = word_no_point (codes "ASC") t rest h
-direction_no_point _ _ _ (descending t rest h) ends = word_no_point (codes "DESC") t rest h
-
 sort_takes : (ts : List Lexeme) (x : SortSpecification × List Lexeme) → sort_at ts ≡ Some x → IsSort x.0 ts x.1
 unfolding sort_at
 sort_takes ts x e =
@@ -102,7 +89,7 @@ sort_takes ts x e =
 sort_is : (s : SortSpecification) (ts rest : List Lexeme) → IsSort s ts rest → EndsSort rest → sort_at ts ≡ Some (s, rest)
 unfolding sort_at
 sort_is _ _ _ (a_sort key is_descending ts us rest h i) ends =
-    rw (key_is key ts us h (direction_no_point is_descending us rest i ends), direction_is is_descending us rest i ends) refl
+    rw (key_is key ts us h, direction_is is_descending us rest i ends) refl
 
 sort_shorter : (s : SortSpecification) (ts rest : List Lexeme) → IsSort s ts rest → length rest < length ts
 sort_shorter _ _ _ (a_sort key is_descending ts us rest h i) =

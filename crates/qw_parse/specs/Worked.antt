@@ -51,9 +51,9 @@ all_grouped grouping having order = record { distinct = false; selected = all_co
 abbrev pub reference_named : List ℕ → Reference
 reference_named name = record { qualifier = None; name = name }
 
--- a result column by its name, without a qualifier
+-- a result column by its name
 abbrev pub key_named : List ℕ → Key
-key_named name = result_column None name
+key_named name = result_column name
 
 -- by the result column of this name, ascending
 abbrev pub by_name : List ℕ → SortSpecification

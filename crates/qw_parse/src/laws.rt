@@ -102,12 +102,14 @@ pub fn worked_left_joins()
     ensures no_condition { (query : Select) → IsSelectOf (from (w (codes "a") ∷ w (codes "LEFT") ∷ w (codes "JOIN") ∷ w (codes "b") ∷ [])) query → ⊥ }
 {}
 
-/// A key of ORDER BY is a name, behind a qualifier or not, or a number without a point; without DESC it ascends (ISO/IEC 9075:1992, 13.1).
-/// No key is an expression, a number with a point or with a sign, and ORDER BY stands behind WHERE, with a key at least.
+/// A key of ORDER BY is a name or a number without a point; without DESC it ascends (ISO/IEC 9075:1992, 13.1). No key is a name behind a
+/// qualifier, an expression, a number with a point or with a sign, and ORDER BY stands behind WHERE, with a key at least.
 pub fn worked_order()
     ensures ascending { IsSelectOf (from (w (codes "a") ∷ w (codes "ORDER") ∷ w (codes "BY") ∷ w (codes "k") ∷ [])) (all_in_order (record { key = key_named (codes "k"); is_descending = false } ∷ [])) }
-    ensures keys { IsSelectOf (from (w (codes "a") ∷ w (codes "order") ∷ w (codes "by") ∷ n (codes "2") ∷ w (codes "desc") ∷ s (codes ",") ∷ w (codes "a") ∷ s (codes ".") ∷ w (codes "k") ∷ w (codes "ASC") ∷ s (codes ",") ∷ w (codes "x") ∷ []))
-        (all_in_order (record { key = ordinal (codes "2"); is_descending = true } ∷ record { key = result_column (Some (codes "a")) (codes "k"); is_descending = false } ∷ record { key = key_named (codes "x"); is_descending = false } ∷ [])) }
+    ensures keys { IsSelectOf (from (w (codes "a") ∷ w (codes "order") ∷ w (codes "by") ∷ n (codes "2") ∷ w (codes "desc") ∷ s (codes ",") ∷ w (codes "k") ∷ w (codes "ASC") ∷ s (codes ",") ∷ w (codes "x") ∷ []))
+        (all_in_order (record { key = ordinal (codes "2"); is_descending = true } ∷ record { key = key_named (codes "k"); is_descending = false } ∷ record { key = key_named (codes "x"); is_descending = false } ∷ [])) }
+    ensures qualified { (query : Select) → IsSelectOf (from (w (codes "a") ∷ w (codes "ORDER") ∷ w (codes "BY") ∷ w (codes "a") ∷ s (codes ".") ∷ w (codes "k") ∷ [])) query → ⊥ }
+    ensures further_qualified { (query : Select) → IsSelectOf (from (w (codes "a") ∷ w (codes "ORDER") ∷ w (codes "BY") ∷ w (codes "k") ∷ s (codes ",") ∷ w (codes "a") ∷ s (codes ".") ∷ w (codes "k") ∷ w (codes "DESC") ∷ [])) query → ⊥ }
     ensures expression { (query : Select) → IsSelectOf (from (w (codes "a") ∷ w (codes "ORDER") ∷ w (codes "BY") ∷ w (codes "k") ∷ s (codes "+") ∷ n (codes "1") ∷ [])) query → ⊥ }
     ensures point { (query : Select) → IsSelectOf (from (w (codes "a") ∷ w (codes "ORDER") ∷ w (codes "BY") ∷ n (codes "1.") ∷ [])) query → ⊥ }
     ensures sign { (query : Select) → IsSelectOf (from (w (codes "a") ∷ w (codes "ORDER") ∷ w (codes "BY") ∷ s (codes "-") ∷ n (codes "1") ∷ [])) query → ⊥ }

@@ -339,7 +339,7 @@ fn put_sources(out: &mut Line, sources: &[Source<'_>]) {
 fn put_sort(out: &mut Line, sort: &SortSpecification<'_>) {
     match sort.key {
         Key::Ordinal(digits) => put(out, digits),
-        Key::Column(qualifier, name) => put_column(out, qualifier, name),
+        Key::Column(name) => put(out, name),
     }
     if sort.is_descending {
         put(out, b" DESC");

@@ -3,11 +3,10 @@ use Rattle.std.proofs.Common.{◌≡◌, ℕ, ◌<◌, ◌≤◌, List, [], ◌�
 use Rattle.std.specs.Str.{bytes_eq}
 use Rattle.std.proofs.lemmas.Bool.{cases_Bool}
 use Rattle.std.proofs.lemmas.List.{length-append, length-drop}
-use Rattle.qw_token.specs.declared.token.Kind.{Kind}
-use Rattle.qw_token.specs.declared.token.Kind.TheVariants.{Word, DelimitedIdentifier, CharacterString, Number, Symbol}
-use Rattle.qw_token.specs.Token.{Lexeme, IsAfterGap, IsNext, after_mark, HasForm, Begins, Reads, AreTokens, StopsAt}
+use Rattle.qw_token.specs.Token.{Lexeme, IsAfterGap, IsNext, after_mark, Begins, Reads, AreTokens, StopsAt}
 use Rattle.qw_token.proofs.TokenGap.{AfterGap-shorter, AfterGap-unique}
-use Rattle.qw_token.proofs.TokenLemmas.{Begins-unique}
+use Rattle.qw_token.proofs.TokenEnds.{Begins-unique}
+use Rattle.qw_token.proofs.TokenLongest.{not_empty}
 
 -- what the loop keeps: the tokens so far, and that the rest is behind them
 pub record HasRead (text : List ℕ) (ts : List Lexeme) (rest : List ℕ) : Type 0 where
@@ -33,16 +32,6 @@ HasRead-push text ts t rest after next h b gap = record {
   reads = Reads-push (after_mark text) ts t rest after next h.reads b gap;
   shorter = omega (arith, h.shorter, AfterGap-shorter after next gap, ap length b.parts, length-append t.octets after);
 }
-
-pub not_empty : (kind : Kind) (octets : List ℕ) → HasForm kind octets → 0 < length octets
-not_empty Word [] form = absurd form
-not_empty Word (b ∷ bs) form = omega arith
-not_empty DelimitedIdentifier octets form = rw form.2 (omega arith)
-not_empty CharacterString octets form = rw form.1 (omega arith)
-not_empty Number [] form = absurd (omega (arith, form.some_digit))
-not_empty Number (b ∷ bs) form = omega arith
-not_empty Symbol [] form = absurd form
-not_empty Symbol (b ∷ bs) form = omega arith
 
 -- what follows a token is shorter than the text that it begins
 pub Begins-shorter : (text : List ℕ) (t : Lexeme) (rest : List ℕ) → Begins text t rest → length rest < length text

@@ -111,25 +111,20 @@ HasForm Symbol octets = IsSymbol octets
 
 -- ---- where a token ends
 
--- Whether a symbol can't end before this octet: with it a longer symbol, a number or a comment begins.
-abbrev pub symbol_goes_on : List ℕ → ℕ → Bool
-symbol_goes_on [] c = false
-symbol_goes_on (b ∷ []) c = (is_double_symbol b c || ((b == period) && is_ascii_digit c)) || ((b == minus) && (c == minus))
-symbol_goes_on (b ∷ d ∷ bs) c = false
+-- Whether a token can't end before this octet: a letter, a digit, `_` or a point is no part of a number, and yet none ends before it.
+abbrev pub token_goes_on : Kind → ℕ → Bool
+token_goes_on Word c = false
+token_goes_on DelimitedIdentifier c = false
+token_goes_on CharacterString c = false
+token_goes_on Number c = is_word_octet_or_point c
+token_goes_on Symbol c = false
 
--- Whether a token can't end before this octet. Letters and `_` are no part of a number, and yet none ends before them.
-abbrev pub token_goes_on : Kind → List ℕ → ℕ → Bool
-token_goes_on Word octets c = is_word_octet c
-token_goes_on DelimitedIdentifier octets c = c == double_quote
-token_goes_on CharacterString octets c = c == single_quote
-token_goes_on Number octets c = is_word_octet_or_point c
-token_goes_on Symbol octets c = symbol_goes_on octets c
-
--- The token begins the text, and rest follows it.
+-- The token begins the text, and rest follows it: of the fronts of the text that have the form of a token it is the longest.
 pub record Begins (text : List ℕ) (t : Lexeme) (rest : List ℕ) : Type 0 where
   pub parts : text ≡ t.octets ++ rest
   pub form : HasForm t.kind t.octets
-  pub ends : begins_with (token_goes_on t.kind t.octets) rest ≡ false
+  pub longest : (other : Lexeme) (more : List ℕ) → text ≡ other.octets ++ more → HasForm other.kind other.octets → length other.octets ≤ length t.octets
+  pub ends : begins_with (token_goes_on t.kind) rest ≡ false
 
 -- ---- the tokens of a text
 

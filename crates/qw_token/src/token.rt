@@ -2,9 +2,9 @@
 
 mod lexer;
 
-ghost use Rattle.std.specs.Prelude.{◌≡◌, ◌↔◌, ◌≤◌, ◌++◌, ℕ, IfOk, IsErrOf, List, length};
+ghost use Rattle.std.specs.Prelude.{◌≡◌, ◌↔◌, ℕ, IfOk, IsErrOf, List};
 ghost use Rattle.std.specs.Str.{IsUtf8};
-ghost use Rattle.qw_token.specs.Token.{Lexeme, lexemes, HasForm, Begins, AreTokens, StopsAt};
+ghost use Rattle.qw_token.specs.Token.{Lexeme, lexemes, AreTokens, StopsAt};
 
 use lexer::{after_gap, after_mark, first_token};
 use std::alloc::Global;
@@ -82,9 +82,4 @@ pub fn one_reading()
     ensures tokens { (text : List ℕ) (ts us : List Lexeme) → AreTokens text ts → AreTokens text us → ts ≡ us }
     ensures position { (text : List ℕ) (m n : ℕ) → StopsAt text m → StopsAt text n → m ≡ n }
     ensures either { (text : List ℕ) (ts : List Lexeme) (n : ℕ) → AreTokens text ts → StopsAt text n → ⊥ }
-{}
-
-/// Where a token begins, the form of no token that stands there is longer.
-pub fn longest_token()
-    ensures { (text : List ℕ) (t other : Lexeme) (rest more : List ℕ) → Begins text t rest → HasForm other.kind other.octets → text ≡ other.octets ++ more → length other.octets ≤ length t.octets }
 {}

@@ -61,10 +61,10 @@ plain_over schema s h =
     ∙ ap (λ (o : Option Condition). selected_faults (scope_of schema s) s.selected ++ (sources_faults schema 0 s.sources ++ (option_map_or (condition_faults (scope_of schema s)) o [] ++ filter_faults (scope_of schema s) s))) n.1.0
 
 abbrev pub plain_order : List Table → Select → List Fault
-plain_order schema s = keys_faults (scope_of schema s) (result_names (scope_of schema s) s.selected) (items_meant (scope_of schema s) s.selected) s.order
+plain_order schema s = keys_faults (result_names (scope_of schema s) s.selected) s.order
 
 pub plain_keys : (schema : List Table) (s : Select) → is_grouped s ≡ false → order_faults schema s ≡ plain_order schema s
-plain_keys schema s h = ap (λ (sc : Scope). keys_faults sc (result_names sc s.selected) (items_meant sc s.selected) s.order) (plain_scope schema s h)
+plain_keys schema s h = ap (λ (sc : Scope). keys_faults (result_names sc s.selected) s.order) (plain_scope schema s h)
 
 abbrev body_if : List Table → Select → Bool → Whole
 body_if schema s b = record { body = if b then grouped (grouped_meant schema s) else plain (specification_meant schema s); distinct = s.distinct }

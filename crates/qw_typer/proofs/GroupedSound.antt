@@ -1,9 +1,10 @@
 -- A grouped query that has no fault is typed: GROUP BY and the arguments over the columns of FROM, HAVING and the select list over the grouped table.
 use Rattle.std.proofs.Common.{◌≡◌, ℕ, suc, ◌+◌, ◌*◌, ◌≤◌, ◌==◌, Bool, true, false, nat_le, not, List, [], ◌∷◌, ◌++◌, map, length, position, Option, Some, None, is_none, unwrap_or, option_map, slice_get, refl, sym, ap, ◌∙◌, arith, subst, inl, inr}
-use Rattle.std.specs.Prelude.{if◌then◌else◌}
+use Rattle.std.specs.Prelude.{if◌then◌else◌, codes}
 use Rattle.std.specs.List.{AllByRecursion}
 use Rattle.std.specs.Option.{option_and_then}
 use Rattle.std.specs.Str.{bytes_eq}
+use Rattle.std.proofs.lemmas.Bool.{or_parts}
 use Rattle.std.proofs.lemmas.Bool.Decides.{nat_tests}
 use Rattle.std.proofs.lemmas.List.{length-append, map-append}
 use Rattle.qw_types.specs.Value.{IsSized}
@@ -25,9 +26,9 @@ use Rattle.qw_ast.specs.Grammar.{name_of}
 use Rattle.qw_ast.specs.Limits.{entries_of}
 use Rattle.qw_ast.specs.Syntax.{column, Reference, Select, Selected, all_columns, items}
 use Rattle.qw_typer.specs.declared.fault.FaultKind.TheVariants.{NotGrouped}
-use Rattle.qw_typer.specs.Faults.{Fault, argument_faults, counted_faults, fault_where, faults, first_token, group_faults, has_scale, or_own, reference_faults, takes}
+use Rattle.qw_typer.specs.Faults.{Fault, argument_faults, counted_faults, fault_where, faults, first_token, has_scale, or_own, reference_faults, takes}
 use Rattle.qw_typer.specs.Functions.{Written, counted, applied, functions_in}
-use Rattle.qw_typer.specs.Grouping.{as_grouped, columns_faults, columns_grouped, columns_ungrouped, function_column, function_faults, function_of, functions_faults, grouping_faults, grouping_of, is_grouped, kind_of_function, many_faults, or_rows, rows_counted, starred, starred_faults}
+use Rattle.qw_typer.specs.Grouping.{as_grouped, columns_faults, columns_grouped, function_column, function_faults, function_of, functions_faults, grouping_faults, grouping_of, has_ungrouped, is_grouped, kind_of_function, many_faults, or_rows, rows_counted, starred, starred_faults}
 use Rattle.qw_typer.specs.Meant.{Entry, FunctionColumn, Grouping, Scope, column_grouped, column_named, condition_meant, first_of, is_qualified, listed, meant, referred, ungrouped}
 use Rattle.qw_typer.specs.Typed.{IsWithin, columns_from, columns_meant, conjuncts, conjuncts_having, entries_named, entry_meant, filter_faults, grouped_meant, having_faults, items_meant, over_faults, scope_of, selected_faults, sources_faults, sources_meant}
 use Rattle.qw_typer.specs.Inner.Grouping.{over_group}
@@ -35,6 +36,7 @@ use Rattle.qw_typer.specs.Inner.Queries.{HaveTables}
 use Rattle.qw_typer.specs.Inner.Typing.{kind_scale}
 use Rattle.qw_typer.proofs.GroupedLemmas.{behind_faults, group_scope, grouped_over}
 use Rattle.qw_typer.proofs.LawLemmas.{condition_more, conjuncts_of_sources, entries_meant, filter_over, in_scope_of, item_more, length_map, length_scope, list_over, ones_from, sized_ones, some_entry, some_items, specified_query}
+use Rattle.qw_typer.proofs.StarLemmas.{none_both}
 use Rattle.qw_typer.proofs.SoundLemmas.{AreSized, HasSized, HasSizedTypes, IsAt, IsGood, Reaches, all_both, all_more, good, grouped_good, no_both, no_own, not_where, sized_type, tested, types_of}
 
 -- ---- columns of GROUP BY
@@ -252,29 +254,28 @@ pub has_kind_at : (g : Grouping) (o : Option ℕ) → is_none (option_and_then (
 has_kind_at g None h = absurd cc
 has_kind_at g (Some k) h = has_kind_there g k (slice_get g.columns k) h
 
-starred_columns : (entries : List Entry) (g : Grouping) → HasSizedTypes (Some g) → (place : ℕ) (columns : List Column) → columns_ungrouped g place columns ≡ []
+starred_columns : (entries : List Entry) (g : Grouping) → HasSizedTypes (Some g) → (place : ℕ) (columns : List Column) → has_ungrouped g (columns_from place columns) ≡ false
     → AllByRecursion (IsItemOver (Reaches entries (Some g))) (starred (Some g) (columns_from place columns))
 starred_columns entries g s place [] h = tt
 starred_columns entries g s place (c ∷ columns) h =
-    let q = no_both (group_faults (Some g) c.name (meaning.column place c.ty)) (columns_ungrouped g (suc place) columns) h in
-    let there = not_where (is_none (column_grouped g (meaning.column place c.ty))) NotGrouped c.name q.0 in
+    let q = or_parts (is_none (column_grouped g (meaning.column place c.ty))) (has_ungrouped g (columns_from (suc place) columns)) h in
     let x = grouped_good entries g s (position (λ (d : GroupedColumn). d.number == place) g.columns) in
-    (((x.typed, has_kind_at g (position (λ (d : GroupedColumn). d.number == place) g.columns) there), x.columns), starred_columns entries g s (suc place) columns q.1)
+    (((x.typed, has_kind_at g (position (λ (d : GroupedColumn). d.number == place) g.columns) q.0), x.columns), starred_columns entries g s (suc place) columns q.1)
 
 pub starred_more : (g : Grouping) (xs ys : List meaning.Expression) → starred (Some g) (xs ++ ys) ≡ starred (Some g) xs ++ starred (Some g) ys
 starred_more g xs ys = map-append (λ (e : meaning.Expression). unwrap_or (column_grouped g e) meaning.null) xs ys
 
-starred_over : (all : List Entry) (g : Grouping) → HasSizedTypes (Some g) → (entries : List Entry) → starred_faults (Some g) entries ≡ [] → AllByRecursion (IsItemOver (Reaches all (Some g))) (starred (Some g) (columns_meant entries))
+starred_over : (all : List Entry) (g : Grouping) → HasSizedTypes (Some g) → (entries : List Entry) → has_ungrouped g (columns_meant entries) ≡ false → AllByRecursion (IsItemOver (Reaches all (Some g))) (starred (Some g) (columns_meant entries))
 starred_over all g s [] h = tt
 starred_over all g s (e ∷ es) h =
-    let q = no_both (columns_ungrouped g (64 * e.number) e.columns) (starred_faults (Some g) es) h in
+    let q = none_both g (columns_from (64 * e.number) e.columns) (columns_meant es) h in
     let here = columns_from (64 * e.number) e.columns in
     subst (AllByRecursion (IsItemOver (Reaches all (Some g)))) (sym (starred_more g here (columns_meant es)))
     (all_both (IsItemOver (Reaches all (Some g))) (starred (Some g) here) (starred (Some g) (columns_meant es)) (starred_columns all g s (64 * e.number) e.columns q.0) (starred_over all g s es q.1))
 
 selected_over : (entries : List Entry) (g : Grouping) → AreSized entries → HasSizedTypes (Some g) → (selected : Selected) → selected_faults (over_group entries g) selected ≡ []
     → AllByRecursion (IsItemOver (Reaches entries (Some g))) (items_meant (over_group entries g) selected)
-selected_over entries g sized s all_columns h = starred_over entries g s entries h
+selected_over entries g sized s all_columns h = starred_over entries g s entries (not_where (has_ungrouped g (columns_meant entries)) NotGrouped (codes "*") h)
 selected_over entries g sized s (items list) h = list_over (over_group entries g) (sized, s) list h
 
 -- ---- a query

@@ -418,7 +418,7 @@ pub query_meaning : (schema : List Table) (s : Select) → query_faults schema s
 query_meaning schema s h = (
   whole_meant schema s,
   result_names (scope_over schema s) s.selected,
-  keys_meant (scope_over schema s) (result_names (scope_over schema s) s.selected) (items_meant (scope_over schema s) s.selected) s.order,
+  keys_meant (result_names (scope_over schema s) s.selected) s.order,
   record { faultless = h; whole_is = refl; names_are = refl; keys_are = refl },
 )
 

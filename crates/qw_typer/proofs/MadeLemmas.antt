@@ -112,19 +112,17 @@ made_grouped schema s entries groups behind functions m within =
 
 -- what they are over is what the query has
 order_is : (schema : List Table) (s : Select) (entries : List Entry) (groups : Groups) (behind : Behind) (functions : List group.SetFunction) (names : List (List ℕ)) → IsMade schema s entries groups behind functions
-    → names ≡ result_names (over_group entries (table_of groups)) s.selected → keys_faults (over_group entries (table_of groups)) names behind.items s.order ≡ order_faults schema s
+    → names ≡ result_names (over_group entries (table_of groups)) s.selected → keys_faults names s.order ≡ order_faults schema s
 order_is schema s entries groups behind functions names m named =
     let scope = scope_is schema s entries groups m.from m.is m.groups_given in
-    let items : behind.items ≡ items_meant (scope_over schema s) s.selected = ap (λ (q : Grouped). q.items) (made_is schema s entries groups behind functions m) in
-    let names_are : names ≡ result_names (scope_over schema s) s.selected = named ∙ ap (λ (sc : Scope). result_names sc s.selected) scope in
-    rw (scope, names_are, items) refl
+    ap (λ (ns : List (List ℕ)). keys_faults ns s.order) (named ∙ ap (λ (sc : Scope). result_names sc s.selected) scope)
   where
     scope_is : (schema : List Table) (s : Select) (entries : List Entry) (groups : Groups) → IsFrom schema s entries → is_grouped s ≡ true → typed_groups entries s ≡ Ok groups → over_group entries (table_of groups) ≡ scope_over schema s
     scope_is schema s entries groups from is gives =
         ap (λ (es : List Entry). over_group es (table_of groups)) from.are ∙ ap (over_group (entries_named schema s)) (table_is schema s entries groups from gives) ∙ sym (group_scope schema s is)
 
 pub group_keys_refused : (schema : List Table) (s : Select) (entries : List Entry) (groups : Groups) (behind : Behind) (functions : List group.SetFunction) (names : List (List ℕ)) (r : Refusal) → IsMade schema s entries groups behind functions
-    → names ≡ result_names (over_group entries (table_of groups)) s.selected → IsOneOf r (keys_faults (over_group entries (table_of groups)) names behind.items s.order) → IsOneOf r (query_faults schema s)
+    → names ≡ result_names (over_group entries (table_of groups)) s.selected → IsOneOf r (keys_faults names s.order) → IsOneOf r (query_faults schema s)
 group_keys_refused schema s entries groups behind functions names r m named h =
     let order = subst (IsOneOf r) (order_is schema s entries groups behind functions names m named) h in
     subst (λ (fs : List Fault). IsOneOf r (or_own fs (or_own (over_faults schema s) (order_faults schema s)))) (sym m.from.faultless)
@@ -135,12 +133,11 @@ grouped_whole distinct query = record { body = grouped query; distinct = distinc
 
 pub grouped_means : (schema : List Table) (s : Select) (entries : List Entry) (groups : Groups) (behind : Behind) (functions : List group.SetFunction) (names : List (List ℕ)) (keys : List SortKey) → IsMade schema s entries groups behind functions
     → names ≡ result_names (over_group entries (table_of groups)) s.selected
-    → (keys_faults (over_group entries (table_of groups)) names behind.items s.order ≡ []) × (keys ≡ keys_meant (over_group entries (table_of groups)) names behind.items s.order) → Means schema s (grouped_whole s.distinct (made_of groups behind functions)) names keys
+    → (keys_faults names s.order ≡ []) × (keys ≡ keys_meant names s.order) → Means schema s (grouped_whole s.distinct (made_of groups behind functions)) names keys
 grouped_means schema s entries groups behind functions names keys m named found =
     let scope : over_group entries (table_of groups) ≡ scope_over schema s =
     ap (λ (es : List Entry). over_group es (table_of groups)) m.from.are ∙ ap (over_group (entries_named schema s)) (table_is schema s entries groups m.from m.groups_given) ∙ sym (group_scope schema s m.is) in
     let is = made_is schema s entries groups behind functions m in
-    let items : behind.items ≡ items_meant (scope_over schema s) s.selected = ap (λ (q : Grouped). q.items) is in
     let names_are : names ≡ result_names (scope_over schema s) s.selected = named ∙ ap (λ (sc : Scope). result_names sc s.selected) scope in
     let none = no_over schema s entries groups behind functions m in
     let order : order_faults schema s ≡ [] = sym (order_is schema s entries groups behind functions names m named) ∙ found.0 in
@@ -148,5 +145,5 @@ grouped_means schema s entries groups behind functions names keys m named found 
       faultless = ap (λ (fs : List Fault). or_own fs (or_own (over_faults schema s) (order_faults schema s))) m.from.faultless ∙ ap (λ (fs : List Fault). or_own fs (order_faults schema s)) none ∙ order;
       whole_is = ap (grouped_whole s.distinct) is ∙ sym (group_meant schema s m.is);
       names_are = names_are;
-      keys_are = found.1 ∙ rw (scope, names_are, items) refl;
+      keys_are = found.1 ∙ ap (λ (ns : List (List ℕ)). keys_meant ns s.order) names_are;
     }

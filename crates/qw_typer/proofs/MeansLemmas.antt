@@ -1,9 +1,10 @@
 -- What follows of what a query means: its entries are tables of the schema, each item has a kind and a name, and each key is
 -- a result column.
-use Rattle.std.specs.Prelude.{if◌then◌else◌}
+use Rattle.std.specs.Prelude.{if◌then◌else◌, codes}
 use Rattle.std.proofs.Common.{Bool, position, ◌==◌, ◌≡◌, ℕ, suc, true, false, List, [], ◌∷◌, ◌++◌, ◌+◌, ◌*◌, arith, map, length, get_or, Option, Some, None, refl, sym, ap, ◌∙◌, slice_get, subst, is_none}
 use Rattle.std.specs.List.{AllByRecursion, list_any}
 use Rattle.std.specs.Str.{bytes_eq}
+use Rattle.std.proofs.lemmas.Bool.{or_parts}
 use Rattle.std.proofs.lemmas.List.{length-append, length-map}
 use Rattle.std.proofs.lemmas.List.Quantifiers.{position-Some}
 use Rattle.std.proofs.lemmas.Option.{slice_get-get_or}
@@ -21,13 +22,14 @@ use Rattle.qw_ast.specs.Limits.{entries_of}
 use Rattle.qw_ast.specs.Syntax as written
 use Rattle.qw_ast.specs.Syntax.{SelectItem, Selected, all_columns, items, Select}
 use Rattle.qw_typer.specs.declared.fault.FaultKind.TheVariants.{DuplicateAlias, NotGrouped, UnknownTable}
-use Rattle.qw_typer.specs.Faults.{fault_where, faults, first_token, group_faults, item_faults, or_own}
-use Rattle.qw_typer.specs.Grouping.{columns_ungrouped, grouping_faults, is_grouped, starred, starred_faults}
+use Rattle.qw_typer.specs.Faults.{fault_where, faults, first_token, item_faults, or_own}
+use Rattle.qw_typer.specs.Grouping.{grouping_faults, has_ungrouped, is_grouped, starred, starred_faults}
 use Rattle.qw_typer.specs.Meant.{Entry, Grouping, Scope, column_grouped, meant}
 use Rattle.qw_typer.specs.Typed.{Means, columns_from, columns_meant, column_names, entries_faults, entries_from, entry_meant, entry_name, in_scope, item_names, items_meant, list_faults, order_faults, over_faults, place_of, result_names, entries_named, grouped_meant, scope_over, selected_faults, sources_meant, specification_meant}
 use Rattle.qw_typer.proofs.GroupedLemmas.{plain_scope}
 use Rattle.qw_typer.proofs.GroupedSound.{has_kind_at, starred_more}
 use Rattle.qw_typer.proofs.LawLemmas.{entries_meant, starred_length}
+use Rattle.qw_typer.proofs.StarLemmas.{none_both}
 use Rattle.qw_typer.proofs.SoundLemmas.{all_both, no_both, no_own, not_where, tested}
 
 -- ---- what is asked
@@ -98,21 +100,23 @@ all_kinds : (entries : List Entry) → HaveKinds (columns_meant entries)
 all_kinds [] = tt
 all_kinds (e ∷ es) = all_both (λ (x : meaning.Expression). has_kind (kind_of x) ≡ true) (columns_from (64 * e.number) e.columns) (columns_meant es) (column_kinds (64 * e.number) e.columns) (all_kinds es)
 
-starred_kinds : (g : Grouping) (place : ℕ) (columns : List Column) → columns_ungrouped g place columns ≡ [] → HaveKinds (starred (Some g) (columns_from place columns))
+starred_kinds : (g : Grouping) (place : ℕ) (columns : List Column) → has_ungrouped g (columns_from place columns) ≡ false → HaveKinds (starred (Some g) (columns_from place columns))
 starred_kinds g place [] h = tt
 starred_kinds g place (c ∷ columns) h =
-    let q = no_both (group_faults (Some g) c.name (meaning.column place c.ty)) (columns_ungrouped g (suc place) columns) h in
-    let there = not_where (is_none (column_grouped g (meaning.column place c.ty))) NotGrouped c.name q.0 in
-    (has_kind_at g (position (λ (d : GroupedColumn). d.number == place) g.columns) there, starred_kinds g (suc place) columns q.1)
+    let q = or_parts (is_none (column_grouped g (meaning.column place c.ty))) (has_ungrouped g (columns_from (suc place) columns)) h in
+    (has_kind_at g (position (λ (d : GroupedColumn). d.number == place) g.columns) q.0, starred_kinds g (suc place) columns q.1)
 
-all_starred : (grouping : Option Grouping) (entries : List Entry) → starred_faults grouping entries ≡ [] → HaveKinds (starred grouping (columns_meant entries))
-all_starred None entries h = all_kinds entries
-all_starred (Some g) [] h = tt
-all_starred (Some g) (e ∷ es) h =
-    let q = no_both (columns_ungrouped g (64 * e.number) e.columns) (starred_faults (Some g) es) h in
+all_grouped : (g : Grouping) (entries : List Entry) → has_ungrouped g (columns_meant entries) ≡ false → HaveKinds (starred (Some g) (columns_meant entries))
+all_grouped g [] h = tt
+all_grouped g (e ∷ es) h =
+    let q = none_both g (columns_from (64 * e.number) e.columns) (columns_meant es) h in
     let here = columns_from (64 * e.number) e.columns in
     subst HaveKinds (sym (starred_more g here (columns_meant es)))
-    (all_both (λ (x : meaning.Expression). has_kind (kind_of x) ≡ true) (starred (Some g) here) (starred (Some g) (columns_meant es)) (starred_kinds g (64 * e.number) e.columns q.0) (all_starred (Some g) es q.1))
+    (all_both (λ (x : meaning.Expression). has_kind (kind_of x) ≡ true) (starred (Some g) here) (starred (Some g) (columns_meant es)) (starred_kinds g (64 * e.number) e.columns q.0) (all_grouped g es q.1))
+
+all_starred : (grouping : Option Grouping) (entries : List Entry) → starred_faults grouping (columns_meant entries) ≡ [] → HaveKinds (starred grouping (columns_meant entries))
+all_starred None entries h = all_kinds entries
+all_starred (Some g) entries h = all_grouped g entries (not_where (has_ungrouped g (columns_meant entries)) NotGrouped (codes "*") h)
 
 list_kinds : (scope : Scope) (list : List SelectItem) → list_faults scope list ≡ [] → HaveKinds (map (λ (i : SelectItem). meant scope i.value) list)
 list_kinds scope [] h = tt

@@ -79,24 +79,19 @@ over_refused schema s named entries r plain_one same known h =
     let over = refused_outcome r (plain_faults schema s) (meaning_of schema s) (subst (Refuses r) (ap (λ (sc : Scope). typed_over sc s) whole.1 ∙ over_is schema s) h) in
     rw whole.0 (own_first r (over_faults schema s) (order_faults schema s) (subst (IsOneOf r) (sym (plain_over schema s plain_one)) over))
 
--- the keys over the result columns of what was typed
-abbrev KeysOver : Scope → QueryParts → List (List ℕ) → Select → List Fault
-KeysOver scope parts names s = keys_faults scope names (query_of parts).items s.order
-
-same_order : (schema : List Table) (s : Select) (scope : Scope) (parts : QueryParts) (names : List (List ℕ)) → scope ≡ scope_of schema s → meaning_of schema s ≡ query_of parts → names ≡ result_names scope s.selected → KeysOver scope parts names s ≡ plain_order schema s
-same_order schema s scope parts names same is names_are =
-    let named : names ≡ result_names (scope_of schema s) s.selected = names_are ∙ ap (λ (sc : Scope). result_names sc s.selected) same in
-    let items : (query_of parts).items ≡ items_meant (scope_of schema s) s.selected = sym (ap (λ (q : Specification). q.items) is) in
-    rw (same, named, items) refl
+-- the keys over the names of what was typed
+same_order : (schema : List Table) (s : Select) (scope : Scope) (names : List (List ℕ)) → scope ≡ scope_of schema s → names ≡ result_names scope s.selected → keys_faults names s.order ≡ plain_order schema s
+same_order schema s scope names same names_are =
+    ap (λ (ns : List (List ℕ)). keys_faults ns s.order) (names_are ∙ ap (λ (sc : Scope). result_names sc s.selected) same)
 
 -- and one of the keys over what stands over them
 pub keys_refused : (schema : List Table) (s : Select) (named : List written.Entry) (entries : List Entry) (parts : QueryParts) (names : List (List ℕ)) (r : Refusal) → is_grouped s ≡ false → named ≡ entries_of s.sources → AreEntries schema named entries
-    → typed_over (ungrouped entries) s ≡ Ok (query_of parts) → names ≡ result_names (ungrouped entries) s.selected → IsOneOf r (keys_faults (ungrouped entries) names (query_of parts).items s.order) → IsOneOf r (query_faults schema s)
+    → typed_over (ungrouped entries) s ≡ Ok (query_of parts) → names ≡ result_names (ungrouped entries) s.selected → IsOneOf r (keys_faults names s.order) → IsOneOf r (query_faults schema s)
 keys_refused schema s named entries parts names r plain_one same known gives names_are h =
     let whole = whole_scope schema s named entries same known in
     let o = no_fault (plain_faults schema s) (meaning_of schema s) (query_of parts) (sym (over_is schema s) ∙ ap (λ (sc : Scope). typed_over sc s) (sym whole.1) ∙ gives) in
     let none = plain_over schema s plain_one ∙ o.0 in
-    rw (whole.0, none) (subst (IsOneOf r) (same_order schema s (ungrouped entries) parts names whole.1 o.1 names_are ∙ sym (plain_keys schema s plain_one)) h)
+    rw (whole.0, none) (subst (IsOneOf r) (same_order schema s (ungrouped entries) names whole.1 names_are ∙ sym (plain_keys schema s plain_one)) h)
 
 -- ---- what is given
 
@@ -105,20 +100,19 @@ abbrev pub plain_whole : Bool → Specification → Whole
 plain_whole distinct specification = record { body = plain specification; distinct = distinct }
 
 pub query_means : (schema : List Table) (s : Select) (named : List written.Entry) (entries : List Entry) (parts : QueryParts) (names : List (List ℕ)) (keys : List SortKey) → is_grouped s ≡ false → named ≡ entries_of s.sources → AreEntries schema named entries
-    → typed_over (ungrouped entries) s ≡ Ok (query_of parts) → names ≡ result_names (ungrouped entries) s.selected → (keys_faults (ungrouped entries) names (query_of parts).items s.order ≡ []) × (keys ≡ keys_meant (ungrouped entries) names (query_of parts).items s.order) → Means schema s (plain_whole s.distinct (query_of parts)) names keys
+    → typed_over (ungrouped entries) s ≡ Ok (query_of parts) → names ≡ result_names (ungrouped entries) s.selected → (keys_faults names s.order ≡ []) × (keys ≡ keys_meant names s.order) → Means schema s (plain_whole s.distinct (query_of parts)) names keys
 query_means schema s named entries parts names keys plain_one same known gives names_are found =
     let whole = whole_scope schema s named entries same known in
     let o = no_fault (plain_faults schema s) (meaning_of schema s) (query_of parts) (sym (over_is schema s) ∙ ap (λ (sc : Scope). typed_over sc s) (sym whole.1) ∙ gives) in
     let named : names ≡ result_names (scope_of schema s) s.selected = names_are ∙ ap (λ (sc : Scope). result_names sc s.selected) whole.1 in
-    let items : (query_of parts).items ≡ items_meant (scope_of schema s) s.selected = sym (ap (λ (q : Specification). q.items) o.1) in
     let none = plain_over schema s plain_one ∙ o.0 in
     let same_scope = plain_scope schema s plain_one in
-    let keyed : keys ≡ keys_meant (scope_of schema s) (result_names (scope_of schema s) s.selected) (items_meant (scope_of schema s) s.selected) s.order = found.1 ∙ rw (whole.1, named, items) refl in
+    let names_are' : names ≡ result_names (scope_over schema s) s.selected = named ∙ ap (λ (sc : Scope). result_names sc s.selected) (sym same_scope) in
     record {
-      faultless = rw (whole.0, none) (plain_keys schema s plain_one ∙ sym (same_order schema s (ungrouped entries) parts names whole.1 o.1 names_are) ∙ found.0);
+      faultless = rw (whole.0, none) (plain_keys schema s plain_one ∙ sym (same_order schema s (ungrouped entries) names whole.1 names_are) ∙ found.0);
       whole_is = ap (plain_whole s.distinct) (sym o.1) ∙ sym (plain_meant schema s plain_one);
-      names_are = named ∙ ap (λ (sc : Scope). result_names sc s.selected) (sym same_scope);
-      keys_are = keyed ∙ ap (λ (sc : Scope). keys_meant sc (result_names sc s.selected) (items_meant sc s.selected) s.order) (sym same_scope);
+      names_are = names_are';
+      keys_are = found.1 ∙ ap (λ (ns : List (List ℕ)). keys_meant ns s.order) names_are';
     }
 
 pub query_specified : (schema : List Table) (s : Select) (named : List written.Entry) (entries : List Entry) (parts : QueryParts) → is_grouped s ≡ false → named ≡ entries_of s.sources → AreEntries schema named entries → HaveTables entries → IsWithin s

@@ -1,11 +1,12 @@
 -- `*` in a grouped query has at most as many columns as GROUP BY: each is grouped, and they differ.
 use Rattle.std.proofs.Common.{◌≡◌, ℕ, suc, ◌+◌, ◌*◌, ◌≤◌, ◌<◌, ◌==◌, ◌||◌, Bool, true, false, List, [], ◌∷◌, ◌++◌, length, position, Option, Some, None, is_none, option_map, slice_get, refl, sym, ap, ◌∙◌, arith, inl, inr}
-use Rattle.std.specs.Prelude.{if◌then◌else◌}
+use Rattle.std.specs.Prelude.{if◌then◌else◌, codes}
 use Rattle.std.specs.List.{AllByRecursion, list_any}
 use Rattle.std.specs.Option.{option_and_then}
-use Rattle.std.proofs.lemmas.Bool.{cases_Bool}
+use Rattle.std.proofs.lemmas.Bool.{cases_Bool, or_parts}
 use Rattle.std.proofs.lemmas.Bool.Decides.{nat_tests}
 use Rattle.std.proofs.lemmas.List.{length-append}
+use Rattle.std.proofs.lemmas.List.Folds.{list_any-append}
 use Rattle.std.proofs.lemmas.List.Sums.{sum_by-cons}
 use Rattle.qw_types.specs.declared.schema.Column.{Column}
 use Rattle.qw_types.specs.declared.schema.Table.{Table}
@@ -13,13 +14,12 @@ use Rattle.qw_scalar.specs.Expression as meaning
 use Rattle.qw_grouped.specs.declared.query.GroupedColumn.{GroupedColumn}
 use Rattle.qw_ast.specs.Syntax as written
 use Rattle.qw_typer.specs.declared.fault.FaultKind.TheVariants.{NotGrouped}
-use Rattle.qw_typer.specs.Faults.{group_faults}
-use Rattle.qw_typer.specs.Grouping.{columns_ungrouped, starred_faults}
+use Rattle.qw_typer.specs.Grouping.{has_ungrouped, starred_faults}
 use Rattle.qw_typer.specs.Meant.{Entry, Grouping, column_grouped}
-use Rattle.qw_typer.specs.Typed.{entries_from, in_scope}
+use Rattle.qw_typer.specs.Typed.{columns_from, columns_meant, entries_from, in_scope}
 use Rattle.qw_typer.specs.Inner.Queries.{HaveTables}
 use Rattle.qw_typer.specs.Inner.Sizes.{column_count}
-use Rattle.qw_typer.proofs.SoundLemmas.{all_both, no_both, not_where}
+use Rattle.qw_typer.proofs.SoundLemmas.{all_both, not_where}
 
 -- ---- numbers in a list of columns
 
@@ -102,6 +102,10 @@ found_there p cs f h = elim (cases_Bool (list_any p cs)) [
     nowhere : (cs : List GroupedColumn) → list_any p cs ≡ false → (P : Option ℕ → Type 0) → P (position p cs) → P None
     nowhere cs e P h = rw (none_found p cs e) at h
 
+-- none of two lists of columns
+pub none_both : (g : Grouping) (xs ys : List meaning.Expression) → has_ungrouped g (xs ++ ys) ≡ false → (has_ungrouped g xs ≡ false) × (has_ungrouped g ys ≡ false)
+none_both g xs ys h = or_parts (has_ungrouped g xs) (has_ungrouped g ys) (sym (list_any-append (λ (e : meaning.Expression). is_none (column_grouped g e)) xs ys) ∙ h)
+
 abbrev numbers_from : ℕ → List Column → List ℕ
 numbers_from place [] = []
 numbers_from place (c ∷ cs) = place ∷ numbers_from (suc place) cs
@@ -110,17 +114,16 @@ abbrev numbers_of : List Entry → List ℕ
 numbers_of [] = []
 numbers_of (e ∷ es) = numbers_from (64 * e.number) e.columns ++ numbers_of es
 
-columns_there : (g : Grouping) (place : ℕ) (columns : List Column) → columns_ungrouped g place columns ≡ [] → AllByRecursion (λ (j : ℕ). has j g.columns ≡ true) (numbers_from place columns)
+columns_there : (g : Grouping) (place : ℕ) (columns : List Column) → has_ungrouped g (columns_from place columns) ≡ false → AllByRecursion (λ (j : ℕ). has j g.columns ≡ true) (numbers_from place columns)
 columns_there g place [] h = tt
 columns_there g place (c ∷ columns) h =
-    let q = no_both (group_faults (Some g) c.name (meaning.column place c.ty)) (columns_ungrouped g (suc place) columns) h in
-    let there = not_where (is_none (column_grouped g (meaning.column place c.ty))) NotGrouped c.name q.0 in
-    (found_there (λ (d : GroupedColumn). d.number == place) g.columns (λ (k : ℕ). option_map (λ (d : GroupedColumn). meaning.column k d.ty) (slice_get g.columns k)) there, columns_there g (suc place) columns q.1)
+    let q = or_parts (is_none (column_grouped g (meaning.column place c.ty))) (has_ungrouped g (columns_from (suc place) columns)) h in
+    (found_there (λ (d : GroupedColumn). d.number == place) g.columns (λ (k : ℕ). option_map (λ (d : GroupedColumn). meaning.column k d.ty) (slice_get g.columns k)) q.0, columns_there g (suc place) columns q.1)
 
-all_there : (g : Grouping) (entries : List Entry) → starred_faults (Some g) entries ≡ [] → AllByRecursion (λ (j : ℕ). has j g.columns ≡ true) (numbers_of entries)
+all_there : (g : Grouping) (entries : List Entry) → has_ungrouped g (columns_meant entries) ≡ false → AllByRecursion (λ (j : ℕ). has j g.columns ≡ true) (numbers_of entries)
 all_there g [] h = tt
 all_there g (e ∷ es) h =
-    let q = no_both (columns_ungrouped g (64 * e.number) e.columns) (starred_faults (Some g) es) h in
+    let q = none_both g (columns_from (64 * e.number) e.columns) (columns_meant es) h in
     all_both (λ (j : ℕ). has j g.columns ≡ true) (numbers_from (64 * e.number) e.columns) (numbers_of es) (columns_there g (64 * e.number) e.columns q.0) (all_there g es q.1)
 
 -- what grows behind a block of numbers
@@ -150,9 +153,9 @@ as_many (e ∷ es) =
     let count = sum_by-cons (λ (f : Entry). length f.columns) e es in
     omega (arith, both, one, others, count)
 
-pub few_starred : (schema : List Table) (es : List written.Entry) (g : Grouping) → HaveTables (entries_from schema 0 es) → starred_faults (Some g) (entries_from schema 0 es) ≡ [] → column_count (entries_from schema 0 es) ≤ length g.columns
+pub few_starred : (schema : List Table) (es : List written.Entry) (g : Grouping) → HaveTables (entries_from schema 0 es) → starred_faults (Some g) (columns_meant (entries_from schema 0 es)) ≡ [] → column_count (entries_from schema 0 es) ≤ length g.columns
 few_starred schema es g tables h =
     let entries = entries_from schema 0 es in
-    let few = no_more (64 * 0) (numbers_of entries) g.columns (numbers_grow schema 0 es tables) (all_there g entries h) in
+    let few = no_more (64 * 0) (numbers_of entries) g.columns (numbers_grow schema 0 es tables) (all_there g entries (not_where (has_ungrouped g (columns_meant entries)) NotGrouped (codes "*") h)) in
     let count = as_many entries in
     omega (arith, few, count)

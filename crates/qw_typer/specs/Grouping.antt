@@ -1,8 +1,7 @@
 -- What groups a query: the columns of its GROUP BY and its set functions; and their faults (ISO/IEC 9075:1992, 6.4, 6.5, 7.7 to 7.9). What is said
 -- here of a column or a set function that has a fault means nothing, and only makes the meaning total.
-use Rattle.std.specs.Prelude.{ℕ, suc, ◌*◌, ◌==◌, pos, nat_lt, Bool, true, false, not, ◌&&◌, if◌then◌else◌, List, [], ◌∷◌, ◌++◌, length, map, Option, Some, None, is_none, codes, unwrap_or}
-use Rattle.std.specs.List.{flat_map}
-use Rattle.qw_types.specs.declared.schema.Column.{Column}
+use Rattle.std.specs.Prelude.{ℕ, ◌==◌, pos, nat_lt, Bool, true, false, not, ◌&&◌, if◌then◌else◌, List, [], ◌∷◌, ◌++◌, length, map, Option, Some, None, is_none, codes, unwrap_or}
+use Rattle.std.specs.List.{flat_map, list_any}
 use Rattle.qw_types.specs.declared.value.Ty.TheVariants as type
 use Rattle.qw_scalar.specs.Expression as meaning
 use Rattle.qw_grouped.specs.Grouped as group
@@ -13,8 +12,8 @@ use Rattle.qw_grouped.specs.declared.set_function.SetFunctionKind.TheVariants as
 use Rattle.qw_ast.specs.declared.script.SetFunction.{SetFunction}
 use Rattle.qw_ast.specs.declared.script.SetFunction.TheVariants.{Count, Sum, Avg, Min, Max}
 use Rattle.qw_ast.specs.Syntax.{column, Reference, Select}
-use Rattle.qw_typer.specs.declared.fault.FaultKind.TheVariants.{TooManyFunctions}
-use Rattle.qw_typer.specs.Faults.{Fault, argument_faults, fault_where, faults, first_token, function_word, group_faults, or_own, reference_faults}
+use Rattle.qw_typer.specs.declared.fault.FaultKind.TheVariants.{NotGrouped, TooManyFunctions}
+use Rattle.qw_typer.specs.Faults.{Fault, argument_faults, fault_where, faults, first_token, function_word, or_own, reference_faults}
 use Rattle.qw_typer.specs.Functions.{Written, counted, applied, functions_in}
 use Rattle.qw_typer.specs.Meant.{Entry, FunctionColumn, column_grouped, Grouping, Scope, meant, ungrouped}
 
@@ -103,11 +102,11 @@ abbrev pub starred : Option Grouping → List meaning.Expression → List meanin
 starred None columns = columns
 starred (Some grouping) columns = map (λ (e : meaning.Expression). unwrap_or (column_grouped grouping e) meaning.null) columns
 
--- the columns of an entry that aren't grouped, from a place on
-abbrev pub columns_ungrouped : Grouping → ℕ → List Column → List Fault
-columns_ungrouped grouping place [] = []
-columns_ungrouped grouping place (c ∷ cs) = group_faults (Some grouping) c.name (meaning.column place c.ty) ++ columns_ungrouped grouping (suc place) cs
+-- whether some of them aren't grouped
+abbrev pub has_ungrouped : Grouping → List meaning.Expression → Bool
+has_ungrouped grouping columns = list_any (λ (e : meaning.Expression). is_none (column_grouped grouping e)) columns
 
-abbrev pub starred_faults : Option Grouping → List Entry → List Fault
-starred_faults None entries = []
-starred_faults (Some grouping) entries = flat_map (λ (e : Entry). columns_ungrouped grouping (64 * e.number) e.columns) entries
+-- One fault, however many they are. It is that of the `*`: the text says no column's name there.
+abbrev pub starred_faults : Option Grouping → List meaning.Expression → List Fault
+starred_faults None columns = []
+starred_faults (Some grouping) columns = fault_where (has_ungrouped grouping columns) NotGrouped (codes "*")

@@ -159,7 +159,7 @@ list_faults scope [] = []
 list_faults scope (i ∷ others) = or_own (faults scope i.value) (item_faults (first_token i.value) (meant scope i.value)) ++ list_faults scope others
 
 abbrev pub selected_faults : Scope → Selected → List Fault
-selected_faults scope all_columns = starred_faults scope.grouping scope.entries
+selected_faults scope all_columns = starred_faults scope.grouping (columns_meant scope.entries)
 selected_faults scope (items list) = list_faults scope list
 
 abbrev pub filter_faults : Scope → Select → List Fault
@@ -194,7 +194,7 @@ over_faults schema s =
 
 -- of the keys of ORDER BY over the result columns
 abbrev pub order_faults : List Table → Select → List Fault
-order_faults schema s = keys_faults (scope_over schema s) (result_names (scope_over schema s) s.selected) (items_meant (scope_over schema s) s.selected) s.order
+order_faults schema s = keys_faults (result_names (scope_over schema s) s.selected) s.order
 
 -- the faults of the entries of FROM; without one those of the expressions over their columns; and without one of these those of the keys
 abbrev pub query_faults : List Table → Select → List Fault
@@ -230,7 +230,7 @@ pub record Means (schema : List Table) (s : Select) (whole : Whole) (names : Lis
   pub faultless : query_faults schema s ≡ []
   pub whole_is : whole ≡ whole_meant schema s
   pub names_are : names ≡ result_names (scope_over schema s) s.selected
-  pub keys_are : keys ≡ keys_meant (scope_over schema s) (result_names (scope_over schema s) s.selected) (items_meant (scope_over schema s) s.selected) s.order
+  pub keys_are : keys ≡ keys_meant (result_names (scope_over schema s) s.selected) s.order
 
 -- ---- a script
 

@@ -52,8 +52,8 @@ abbrev pub item_from : Expression → List Source → Select
 item_from e sources = record { distinct = false; selected = items (record { value = e; name = None } ∷ []); sources = sources; filter = None; grouping = []; having = None; order = [] }
 
 -- a result column by its name
-abbrev pub key_of : Option (List ℕ) → List ℕ → Key
-key_of qualifier name = result_column qualifier name
+abbrev pub key_of : List ℕ → Key
+key_of name = result_column name
 
 abbrev pub sorts : List Key → List SortSpecification
 sorts keys = map (λ (k : Key). record { key = k; is_descending = false }) keys
@@ -77,7 +77,7 @@ all_in_order keys = record { distinct = false; selected = all_columns; sources =
 -- the keys that the first of the two means
 abbrev pub keys_of : List Key → List SortKey
 keys_of keys =
-    keys_meant (scope_of two_tables (in_order keys)) (result_names (scope_of two_tables (in_order keys)) (in_order keys).selected) (items_meant (scope_of two_tables (in_order keys)) (in_order keys).selected) (sorts keys)
+    keys_meant (result_names (scope_of two_tables (in_order keys)) (in_order keys).selected) (sorts keys)
 
 abbrev pub ascending : ℕ → SortKey
 ascending position = record { position = position; is_descending = false }

@@ -40,11 +40,13 @@ pub fn worked_groups()
         ≡ meaning.column 3 Integer ∷ meaning.column 2 (Rattle.qw_types.specs.declared.value.Ty.TheVariants.Varchar 10) ∷ meaning.column 1 (Decimal 18 14) ∷ meaning.column 0 (Decimal 18 15) ∷ [] }
 {}
 
-/// What isn't grouped stands neither in the select list nor in HAVING (7.8, 7.9).
+/// What isn't grouped stands neither in the select list nor in HAVING (7.8, 7.9). Of a `*` there is one fault, however many columns of T
+/// (D, E, N and F) aren't grouped, and it names the `*`.
 pub fn worked_ungrouped()
     ensures list { query_faults one_table (from_t (named (codes "n") ∷ []) (by (codes "d") ∷ []) None) ≡ record { kind = NotGrouped; name = codes "N" } ∷ [] }
     ensures having { query_faults one_table (from_t (named (codes "d") ∷ []) (by (codes "d") ∷ []) (Some (is_one (named (codes "e"))))) ≡ record { kind = NotGrouped; name = codes "E" } ∷ [] }
-    ensures star { query_faults one_table (all_by (by (codes "e") ∷ by (codes "d") ∷ by (codes "n") ∷ [])) ≡ record { kind = NotGrouped; name = codes "F" } ∷ [] }
+    ensures star { query_faults one_table (all_by (by (codes "e") ∷ by (codes "d") ∷ by (codes "n") ∷ [])) ≡ record { kind = NotGrouped; name = codes "*" } ∷ [] }
+    ensures star_of_several { query_faults one_table (all_by (by (codes "e") ∷ [])) ≡ record { kind = NotGrouped; name = codes "*" } ∷ [] }
 {}
 
 /// A set function stands neither in WHERE nor in ON nor in the argument of another; SUM takes no text, and AVG at most 14 digits behind the

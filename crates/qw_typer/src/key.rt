@@ -4,24 +4,19 @@ ghost use Rattle.std.specs.Prelude.{◌≡◌, ◌-◌, ◌++◌, ◌∷◌, ℕ
 ghost use Rattle.std.specs.Str.{bytes_eq};
 ghost use Rattle.std.specs.Str.Parse.{digits_value};
 ghost use Rattle.qw_types.specs.Digits.{are_digits};
-ghost use Rattle.qw_scalar.specs.Tree.{expression_of};
 ghost use Rattle.qw_ast.specs.Grammar.{name_of};
-ghost use Rattle.qw_ast.specs.Syntax.{result_column};
 ghost use Rattle.qw_ast.specs.SyntaxTree as syntax;
 ghost use Rattle.qw_typer.specs.declared.fault.FaultKind.TheVariants.{BadOrdinal};
 ghost use Rattle.qw_typer.specs.Faults.{counted_faults, fault_where};
-ghost use Rattle.qw_typer.specs.Keys.{is_column, is_ordinal, is_same_column, key_faults, key_meant, keyed, keys_faults, keys_meant, positions_where};
+ghost use Rattle.qw_typer.specs.Keys.{is_ordinal, key_faults, key_meant, keyed, keys_faults, keys_meant, positions_where};
 ghost use Rattle.qw_typer.specs.Inner.Queries.{GivesPosition, IsNamed, IsOneOf};
-ghost use Rattle.qw_typer.specs.Inner.Typing.{in_reach};
 
 use crate::fault::FaultKind;
-use crate::leaf::column;
 use crate::name::name_text;
 use crate::refusal::{Refusal, Token};
-use crate::scope::{Scope, is_name};
+use crate::scope::is_name;
 use qw_ast::script::{Key, SortSpecification};
 use qw_order::SortKey;
-use qw_scalar::expression::Expr;
 use qw_types::Text;
 use qw_types::digits::are_digits;
 use std::alloc::Global;
@@ -48,23 +43,21 @@ impl Named {
     }
 }
 
-/// The keys of an order over the names and the values of the result columns.
+/// The keys of an order over the names of the result columns.
 #[tactic(auto, using(crate::proofs::QueryLemmas::memory_refused))]
 pub(crate) fn keys<'a>(
     alloc: Global,
-    scope: &Scope<'_, '_>,
     names: &[Text],
-    columns: &[Expr],
     order: &[SortSpecification<'a>],
 ) -> Result<Vec<SortKey>, Refusal<'a>>
-    ensures { MatchResult result (λ made. (keys_faults (in_reach scope.now) names.now (map expression_of columns.now) (map syntax.sort_of order.now) ≡ [])
-        × (made.items ≡ keys_meant (in_reach scope.now) names.now (map expression_of columns.now) (map syntax.sort_of order.now)))
-        (λ refusal. IsOneOf refusal (keys_faults (in_reach scope.now) names.now (map expression_of columns.now) (map syntax.sort_of order.now))) }
+    ensures { MatchResult result (λ made. (keys_faults names.now (map syntax.sort_of order.now) ≡ [])
+        × (made.items ≡ keys_meant names.now (map syntax.sort_of order.now)))
+        (λ refusal. IsOneOf refusal (keys_faults names.now (map syntax.sort_of order.now))) }
 {
     let mut made = Vec::new(alloc);
     let mut rest = order;
     while let [sort, behind @ ..] = rest {
-        let key = sort_key(alloc, scope, names, columns, sort)?;
+        let key = sort_key(alloc, names, sort)?;
         made.push(key).map_err(|_| Refusal::NoMemory)?;
         rest = behind;
     }
@@ -74,15 +67,13 @@ pub(crate) fn keys<'a>(
 /// The key that a sort specification means.
 fn sort_key<'a>(
     alloc: Global,
-    scope: &Scope<'_, '_>,
     names: &[Text],
-    columns: &[Expr],
     sort: &SortSpecification<'a>,
 ) -> Result<SortKey, Refusal<'a>>
-    ensures { MatchResult result (λ key. (key_faults (in_reach scope.now) names.now (map expression_of columns.now) (syntax.key_of sort.now.key) ≡ []) × (key ≡ key_meant (in_reach scope.now) names.now (map expression_of columns.now) (syntax.sort_of sort.now)))
-        (λ refusal. IsOneOf refusal (key_faults (in_reach scope.now) names.now (map expression_of columns.now) (syntax.key_of sort.now.key))) }
+    ensures { MatchResult result (λ key. (key_faults names.now (syntax.key_of sort.now.key) ≡ []) × (key ≡ key_meant names.now (syntax.sort_of sort.now)))
+        (λ refusal. IsOneOf refusal (key_faults names.now (syntax.key_of sort.now.key))) }
 {
-    let position = position(alloc, scope, names, columns, &sort.key)?;
+    let position = position(alloc, names, &sort.key)?;
     Ok(SortKey {
         position,
         is_descending: sort.is_descending,
@@ -90,37 +81,12 @@ fn sort_key<'a>(
 }
 
 /// The position of the result column that a key names, from 0.
-fn position<'a>(
-    alloc: Global,
-    scope: &Scope<'_, '_>,
-    names: &[Text],
-    columns: &[Expr],
-    key: &Key<'a>,
-) -> Result<usize, Refusal<'a>>
-    ensures { GivesPosition result (key_faults (in_reach scope.now) names.now (map expression_of columns.now) (syntax.key_of key.now)) (keyed (in_reach scope.now) names.now (map expression_of columns.now) (syntax.key_of key.now)) }
+fn position<'a>(alloc: Global, names: &[Text], key: &Key<'a>) -> Result<usize, Refusal<'a>>
+    ensures { GivesPosition result (key_faults names.now (syntax.key_of key.now)) (keyed names.now (syntax.key_of key.now)) }
 {
     match key {
-        Key::Ordinal(digits) => by_ordinal(columns.len(), digits),
-        Key::Column(qualifier, name) => {
-            by_reference(alloc, scope, names, columns, *qualifier, name)
-        }
-    }
-}
-
-/// The result column that a column reference names.
-fn by_reference<'a>(
-    alloc: Global,
-    scope: &Scope<'_, '_>,
-    names: &[Text],
-    columns: &[Expr],
-    qualifier: Option<&'a [u8]>,
-    name: &'a [u8],
-) -> Result<usize, Refusal<'a>>
-    ensures { GivesPosition result (key_faults (in_reach scope.now) names.now (map expression_of columns.now) (result_column (syntax.octets_of qualifier.entry) name.now)) (keyed (in_reach scope.now) names.now (map expression_of columns.now) (result_column (syntax.octets_of qualifier.entry) name.now)) }
-{
-    match qualifier {
-        Some(qualifier) => by_column(alloc, scope, columns, qualifier, name),
-        None => by_name(alloc, names, name),
+        Key::Ordinal(digits) => by_ordinal(names.len(), digits),
+        Key::Column(name) => by_name(alloc, names, name),
     }
 }
 
@@ -171,20 +137,6 @@ fn by_name<'a>(alloc: Global, names: &[Text], name: &'a [u8]) -> Result<usize, R
     only(of_name(names, &kept), name)
 }
 
-/// The result column that is a column of FROM.
-fn by_column<'a>(
-    alloc: Global,
-    scope: &Scope<'_, '_>,
-    columns: &[Expr],
-    qualifier: &'a [u8],
-    name: &'a [u8],
-) -> Result<usize, Refusal<'a>>
-    ensures { (names : List (List ℕ)) → GivesPosition result (key_faults (in_reach scope.now) names (map expression_of columns.now) (result_column (Some qualifier.now) name.now)) (keyed (in_reach scope.now) names (map expression_of columns.now) (result_column (Some qualifier.now) name.now)) }
-{
-    let typed = column(alloc, scope, Some(qualifier), name)?;
-    only(same_column(columns, &typed.tree), name)
-}
-
 /// The only one that a name may mean.
 fn only<'a>(named: Named, name: &'a [u8]) -> Result<usize, Refusal<'a>>
     ensures { (positions : List ℕ) → IsNamed named positions → GivesPosition result (counted_faults (name_of name.now) positions) positions }
@@ -205,35 +157,4 @@ fn of_name(names: &[Text], name: &Text) -> Named
         found = found.with(position, is_name(name, other));
     }
     found
-}
-
-/// The result columns that are this very column of FROM.
-fn same_column(columns: &[Expr], column: &Expr) -> Named
-    ensures { IsNamed result (positions_where (is_same_column (expression_of column.now)) 0 (map expression_of columns.now)) }
-{
-    match column {
-        Expr::Column(number, _) => of_column(columns, *number),
-        _ => Named::Nothing,
-    }
-}
-
-/// The result columns that are the column of FROM of this number.
-fn of_column(columns: &[Expr], number: usize) -> Named
-    ensures { IsNamed result (positions_where (is_column number) 0 (map expression_of columns.now)) }
-{
-    let mut found = Named::Nothing;
-    for (position, item) in columns.iter().enumerate() {
-        found = found.with(position, is_column(item, number));
-    }
-    found
-}
-
-/// Whether an item is the column of FROM of this number.
-fn is_column(item: &Expr, number: usize) -> bool
-    ensures { result ≡ is_column number (expression_of item.now) }
-{
-    match item {
-        Expr::Column(place, _) => *place == number,
-        _ => false,
-    }
 }

@@ -100,21 +100,18 @@ pub fn worked_references()
     ensures no_entry { query_faults two_tables (item_from (of (codes "p") (codes "k")) (alone (table (codes "a")) ∷ alone (table (codes "b")) ∷ [])) ≡ record { kind = UnknownTable; name = codes "P" } ∷ [] }
 {}
 
-/// Over A (K, X) and B (K, Y) a key is a result column (13.1): by its name, by its position from 1, or as that very column of FROM. In
-/// `SELECT A.X AS Z, B.K, 5 FROM A, B` the names are Z, K and C3: Z is the first and C3 the third; A.X is the first too, though X is none;
-/// 3 is the last position.
+/// Over A (K, X) and B (K, Y) a key is a result column (13.1): by its name or by its position from 1. In `SELECT A.X AS Z, B.K, 5 FROM A, B`
+/// the names are Z, K and C3: Z is the first, K the second and C3 the third; X is none; 3 is the last position. Of `SELECT * FROM A, B` two
+/// result columns have the name K, and one X.
 pub fn worked_keys()
-    ensures faultless { query_faults two_tables (in_order (key_of None (codes "z") ∷ key_of None (codes "c3") ∷ key_of (Some (codes "a")) (codes "x") ∷ ordinal (codes "03") ∷ [])) ≡ [] }
-    ensures named { keys_of (key_of None (codes "z") ∷ key_of None (codes "c3") ∷ []) ≡ ascending 0 ∷ ascending 2 ∷ [] }
-    ensures qualified { keys_of (key_of (Some (codes "b")) (codes "k") ∷ key_of (Some (codes "a")) (codes "x") ∷ []) ≡ ascending 1 ∷ ascending 0 ∷ [] }
+    ensures faultless { query_faults two_tables (in_order (key_of (codes "z") ∷ key_of (codes "c3") ∷ key_of (codes "k") ∷ ordinal (codes "03") ∷ [])) ≡ [] }
+    ensures named { keys_of (key_of (codes "z") ∷ key_of (codes "c3") ∷ key_of (codes "k") ∷ []) ≡ ascending 0 ∷ ascending 2 ∷ ascending 1 ∷ [] }
     ensures ordinals { keys_of (ordinal (codes "3") ∷ ordinal (codes "01") ∷ []) ≡ ascending 2 ∷ ascending 0 ∷ [] }
     ensures zero { query_faults two_tables (in_order (ordinal (codes "0") ∷ [])) ≡ record { kind = BadOrdinal; name = codes "0" } ∷ [] }
     ensures past_the_last { query_faults two_tables (in_order (ordinal (codes "4") ∷ [])) ≡ record { kind = BadOrdinal; name = codes "4" } ∷ [] }
-    ensures no_result_column { query_faults two_tables (in_order (key_of None (codes "x") ∷ [])) ≡ record { kind = UnknownColumn; name = codes "X" } ∷ [] }
-    ensures other_column { query_faults two_tables (in_order (key_of (Some (codes "a")) (codes "k") ∷ [])) ≡ record { kind = UnknownColumn; name = codes "K" } ∷ [] }
-    ensures no_entry { query_faults two_tables (in_order (key_of (Some (codes "p")) (codes "k") ∷ [])) ≡ record { kind = UnknownTable; name = codes "P" } ∷ [] }
-    ensures ambiguous { query_faults two_tables (all_in_order (key_of None (codes "k") ∷ [])) ≡ record { kind = Ambiguous; name = codes "K" } ∷ [] }
-    ensures star { query_faults two_tables (all_in_order (key_of (Some (codes "b")) (codes "k") ∷ key_of None (codes "y") ∷ ordinal (codes "4") ∷ [])) ≡ [] }
+    ensures no_result_column { query_faults two_tables (in_order (key_of (codes "x") ∷ [])) ≡ record { kind = UnknownColumn; name = codes "X" } ∷ [] }
+    ensures ambiguous { query_faults two_tables (all_in_order (key_of (codes "k") ∷ [])) ≡ record { kind = Ambiguous; name = codes "K" } ∷ [] }
+    ensures star { query_faults two_tables (all_in_order (key_of (codes "x") ∷ key_of (codes "y") ∷ ordinal (codes "4") ∷ [])) ≡ [] }
 {}
 
 /// An ON reaches the entries of its source up to its own (7.5): in `FROM A JOIN B ON A.K = Q.K JOIN A AS Q ON Q.K = B.K` the first ON names Q

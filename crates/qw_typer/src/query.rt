@@ -9,21 +9,21 @@ ghost use Rattle.qw_meaning.specs.Query.{query_of};
 ghost use Rattle.qw_typer.specs.Functions.{functions_in};
 ghost use Rattle.qw_typer.specs.Grouping.{is_grouped};
 ghost use Rattle.qw_typer.specs.Inner.Functions.{all_written};
-ghost use Rattle.qw_typer.specs.Inner.Grouping.{FitsBody, behind_of, over_group};
+ghost use Rattle.qw_typer.specs.Inner.Grouping.{FitsBody};
 ghost use Rattle.qw_typer.specs.Inner.Queries.{IsFrom, IsOneOf, parts_of};
 ghost use Rattle.qw_typer.specs.Inner.Sizes.{FitsQuery, column_count};
-ghost use Rattle.qw_typer.specs.Inner.Typing.{Refuses, as_entries, as_grouping, typed_over};
+ghost use Rattle.qw_typer.specs.Inner.Typing.{Refuses, as_entries, typed_over};
 ghost use Rattle.qw_typer.specs.Keys.{keys_faults, keys_meant};
 ghost use Rattle.qw_typer.specs.Meant.{ungrouped};
 ghost use Rattle.qw_typer.specs.Typed.{IsWithin, Means, query_faults, result_names};
 
 use crate::entries::{entries, named};
 use crate::functions::{Written, functions};
-use crate::grouped::{Behind, clauses, group_by};
+use crate::grouped::{clauses, group_by};
 use crate::grouping::or_rows;
 use crate::key::keys;
 use crate::refusal::Refusal;
-use crate::scope::{Entry, Grouping, Scope};
+use crate::scope::{Entry, Scope};
 use crate::sources::sources;
 use crate::statement::{filter, list, names};
 use qw_ast::script::Statement;
@@ -117,7 +117,7 @@ fn plain_query<'a>(
 {
     let distinct = statement.distinct;
     let over = over_entries(alloc, entries, statement)?;
-    let keys = keys_over(alloc, entries, &over, statement)?;
+    let keys = order_keys(alloc, over.names.as_slice(), statement)?;
     let plain = Query::new(over.sources, over.conjuncts, over.items);
     Ok(TypedQuery {
         query: WholeQuery {
@@ -148,7 +148,7 @@ fn grouped_query<'a>(
 {
     let groups = group_by(alloc, entries, statement, written)?;
     let behind = clauses(alloc, entries, groups.table(), statement)?;
-    let keys = keys_behind(alloc, entries, groups.table(), &behind, statement)?;
+    let keys = order_keys(alloc, behind.names.as_slice(), statement)?;
     let columns = groups.columns;
     let placed = groups.functions;
     let mut functions = placed.functions;
@@ -171,48 +171,16 @@ fn grouped_query<'a>(
     })
 }
 
-/// The keys of a grouped query's order over its result columns.
-fn keys_behind<'a>(
+/// The keys of a query's order over the names of its result columns.
+fn order_keys<'a>(
     alloc: Global,
-    entries: &[Entry<'_>],
-    table: Grouping<'_>,
-    behind: &Behind,
+    names: &[Text],
     statement: &Statement<'a>,
 ) -> Result<Vec<SortKey>, Refusal<'a>>
-    ensures { MatchResult result (λ made. (keys_faults (over_group (as_entries entries.now) (as_grouping table.entry)) behind.now.names.items (behind_of behind.now).items (select_of statement.now).order ≡ [])
-        × (made.items ≡ keys_meant (over_group (as_entries entries.now) (as_grouping table.entry)) behind.now.names.items (behind_of behind.now).items (select_of statement.now).order))
-        (λ refusal. IsOneOf refusal (keys_faults (over_group (as_entries entries.now) (as_grouping table.entry)) behind.now.names.items (behind_of behind.now).items (select_of statement.now).order)) }
+    ensures { MatchResult result (λ made. (keys_faults names.now (select_of statement.now).order ≡ []) × (made.items ≡ keys_meant names.now (select_of statement.now).order))
+        (λ refusal. IsOneOf refusal (keys_faults names.now (select_of statement.now).order)) }
 {
-    keys(
-        alloc,
-        &Scope {
-            entries,
-            grouping: Some(table),
-        },
-        behind.names.as_slice(),
-        behind.items.as_slice(),
-        statement.order.as_slice(),
-    )
-}
-
-/// The keys of a query's order over its result columns.
-fn keys_over<'a>(
-    alloc: Global,
-    entries: &[Entry<'_>],
-    over: &Over,
-    statement: &Statement<'a>,
-) -> Result<Vec<SortKey>, Refusal<'a>>
-    ensures { MatchResult result (λ made. (keys_faults (ungrouped (as_entries entries.now)) over.now.names.items (query_of (parts_of over.now)).items (select_of statement.now).order ≡ [])
-        × (made.items ≡ keys_meant (ungrouped (as_entries entries.now)) over.now.names.items (query_of (parts_of over.now)).items (select_of statement.now).order))
-        (λ refusal. IsOneOf refusal (keys_faults (ungrouped (as_entries entries.now)) over.now.names.items (query_of (parts_of over.now)).items (select_of statement.now).order)) }
-{
-    keys(
-        alloc,
-        &Scope::ungrouped(entries),
-        over.names.as_slice(),
-        over.items.as_slice(),
-        statement.order.as_slice(),
-    )
+    keys(alloc, names, statement.order.as_slice())
 }
 
 /// A query over the entries of its FROM.

@@ -2,7 +2,7 @@
 
 ghost use Rattle.std.specs.Prelude.{◌≡◌, ◌*◌, ◌++◌, [], IfOk, MatchResult, Some, length, map, true};
 ghost use Rattle.qw_scalar.specs.Tree.{expression_of};
-ghost use Rattle.qw_typer.specs.Grouping.{columns_ungrouped, starred, starred_faults};
+ghost use Rattle.qw_typer.specs.Grouping.{starred, starred_faults};
 ghost use Rattle.qw_typer.specs.Typed.{columns_from, columns_meant};
 ghost use Rattle.qw_typer.specs.Inner.Sizes.{ColumnsPushed, FitsItems, column_count};
 ghost use Rattle.qw_typer.specs.Inner.Typing.{Refuses, as_entries, as_grouping, outcome};
@@ -18,11 +18,11 @@ use std::alloc::Global;
 #[tactic(auto, using(crate::proofs::OutcomeLemmas::refuses_memory), unfolding(crate::specs::Inner::Typing::Refuses))]
 pub(crate) fn starred<'a>(
     alloc: Global,
-    entries: &[Entry<'a>],
+    entries: &[Entry<'_>],
     grouping: &Grouping<'_>,
 ) -> Result<Vec<Expr>, Refusal<'a>>
-    ensures gives { MatchResult result (λ made. (starred_faults (Some (as_grouping grouping.now)) (as_entries entries.now) ≡ []) × (map expression_of made.items ≡ starred (Some (as_grouping grouping.now)) (columns_meant (as_entries entries.now))))
-        (λ refusal. Refuses refusal (outcome (starred_faults (Some (as_grouping grouping.now)) (as_entries entries.now)) true)) }
+    ensures gives { MatchResult result (λ made. (starred_faults (Some (as_grouping grouping.now)) (columns_meant (as_entries entries.now)) ≡ []) × (map expression_of made.items ≡ starred (Some (as_grouping grouping.now)) (columns_meant (as_entries entries.now))))
+        (λ refusal. Refuses refusal (outcome (starred_faults (Some (as_grouping grouping.now)) (columns_meant (as_entries entries.now))) true)) }
     ensures fits { IfOk result (λ made. FitsItems made.items (column_count (as_entries entries.now)) 0) }
 {
     let mut made = Vec::new(alloc);
@@ -39,12 +39,12 @@ pub(crate) fn starred<'a>(
 fn push_grouped<'a>(
     made: &mut Vec<Expr>,
     number: u8,
-    columns: &'a [Column],
+    columns: &[Column],
     grouping: &Grouping<'_>,
 ) -> Result<(), Refusal<'a>>
-    ensures gives { MatchResult result (λ _. (columns_ungrouped (as_grouping grouping.now) (64 * number) columns.now ≡ [])
+    ensures gives { MatchResult result (λ _. (starred_faults (Some (as_grouping grouping.now)) (columns_from (64 * number) columns.now) ≡ [])
         × (map expression_of made.new.items ≡ map expression_of made.old.items ++ starred (Some (as_grouping grouping.now)) (columns_from (64 * number) columns.now)))
-        (λ refusal. Refuses refusal (outcome (columns_ungrouped (as_grouping grouping.now) (64 * number) columns.now) true)) }
+        (λ refusal. Refuses refusal (outcome (starred_faults (Some (as_grouping grouping.now)) (columns_from (64 * number) columns.now)) true)) }
     ensures fits { IfOk result (λ _. ColumnsPushed made.old.items made.new.items (length columns.now)) }
 {
     let first = first_column(number);
@@ -60,7 +60,7 @@ fn push_grouped<'a>(
             None => {
                 return Err(Refusal::Fault(
                     FaultKind::NotGrouped,
-                    Token::Literal(column.name.as_str().as_bytes()),
+                    Token::Literal(b"*".as_slice()),
                 ));
             }
         }

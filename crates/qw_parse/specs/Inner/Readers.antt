@@ -433,7 +433,7 @@ having_at inner ts = option_map_or (λ us. condition_at inner us >>= (λ c. Some
 unfoldable pub key_at : Reader Key
 key_at ts =
     option_map_or (λ t. Some (ordinal t.0, t.1)) (token_at (octets_if is_integer) ts)
-    (token_at (octets_if is_name) ts >>= (λ q. option_map_or (λ us. token_at (octets_if is_name) us >>= (λ t. Some (result_column (Some q.0) t.0, t.1))) (symbol_at (codes ".") q.1) (Some (result_column None q.0, q.1))))
+    (token_at (octets_if is_name) ts >>= (λ t. Some (result_column t.0, t.1)))
 
 -- whether DESC stands there, and the tokens behind it, behind ASC, or all of them
 unfoldable pub direction_at : List Lexeme → Bool × List Lexeme

@@ -18,12 +18,8 @@ impl<'a> Parser<'a> {
         if let Some(digits) = self.integer() {
             return Ok(Key::Ordinal(digits));
         }
-        let first = self.name().ok_or(Stop::NotGrammar)?;
-        if !self.symbol(b".") {
-            return Ok(Key::Column(None, first));
-        }
         let name = self.name().ok_or(Stop::NotGrammar)?;
-        Ok(Key::Column(Some(first), name))
+        Ok(Key::Column(name))
     }
 
     /// Whether DESC is next; it is read then, and so is ASC.

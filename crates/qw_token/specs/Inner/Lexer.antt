@@ -33,12 +33,17 @@ kind_at (b ∷ bs) =
     else (if is_ascii_digit b || ((b == period) && begins_with is_ascii_digit bs) then Number
     else Symbol)))
 
--- what follows the first quote that isn't doubled
+-- the first, and without one the other
+abbrev pub or_closed : Option (List ℕ) → Option (List ℕ) → Option (List ℕ)
+or_closed None closed = closed
+or_closed (Some rest) closed = Some rest
+
+-- what follows the first quote that isn't doubled, and without one the first quote of the last that are
 abbrev pub after_quote : ℕ → List ℕ → Option (List ℕ)
 after_quote quote [] = None
 after_quote quote (b ∷ []) = if b == quote then Some [] else None
 after_quote quote (b ∷ c ∷ bs) =
-    if b == quote then (if c == quote then after_quote quote bs else Some (c ∷ bs))
+    if b == quote then (if c == quote then or_closed (after_quote quote bs) (Some (c ∷ bs)) else Some (c ∷ bs))
     else after_quote quote (c ∷ bs)
 
 -- what follows the symbol at the front of a text that no number begins
@@ -47,8 +52,7 @@ after_symbol [] = None
 after_symbol (b ∷ []) = if is_single_symbol b then Some [] else None
 after_symbol (b ∷ c ∷ bs) =
     if is_double_symbol b c then Some bs
-    else (if (b == minus) && (c == minus) then None
-    else (if is_single_symbol b then Some (c ∷ bs) else None))
+    else (if is_single_symbol b then Some (c ∷ bs) else None)
 
 -- Whether a token of the kind begins the text, and what follows it.
 abbrev pub IsAfter : Kind → List ℕ → Option (List ℕ) → Type 0

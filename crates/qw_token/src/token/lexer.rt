@@ -140,6 +140,7 @@ fn is_number(octets: &[u8]) -> bool
 
 /// The text behind the number at its front, if the letters, digits, `_` and points there are one.
 fn after_number(text: &[u8]) -> Option<&[u8]>
+    requires { kind_at text.now ≡ Kind.Number }
     ensures { IsAfter Kind.Number text.now (option_map (λ x. x.now) result) }
 {
     let after = after_word_and_points(text);
@@ -150,19 +151,27 @@ fn after_number(text: &[u8]) -> Option<&[u8]>
     }
 }
 
-/// The text behind the first quote that isn't doubled.
+/// The text behind the first quote that isn't doubled. Without one the first of the last two that are closes what ends there.
 fn after_quote(quote: u8, text: &[u8]) -> Option<&[u8]>
     ensures { option_map (λ x. x.now) result ≡ after_quote quote text.now }
 {
+    let mut closed = None;
     let mut rest = text;
-    loop {
-        match rest {
-            [] => return None,
-            [first, after @ ..] if *first != quote => rest = after,
-            [_, second, after @ ..] if *second == quote => rest = after,
-            [_, after @ ..] => return Some(after),
+    while let [first, after @ ..] = rest {
+        if *first != quote {
+            rest = after;
+            continue;
         }
+        let [second, behind @ ..] = after else {
+            return Some(after);
+        };
+        if *second != quote {
+            return Some(after);
+        }
+        closed = Some(after);
+        rest = behind;
     }
+    closed
 }
 
 /// The text behind the delimited identifier at its front, if it is closed and its name isn't empty.
@@ -203,13 +212,12 @@ fn is_double_symbol(first: u8, second: u8) -> bool
     matches!((first, second), (b'<', b'=' | b'>') | (b'>', b'='))
 }
 
-/// The text behind the symbol at its front, if there is one. `--` begins none.
+/// The text behind the symbol at its front, if there is one.
 fn after_symbol(text: &[u8]) -> Option<&[u8]>
     ensures { option_map (λ x. x.now) result ≡ after_symbol text.now }
 {
     match text {
         [first, second, after @ ..] if is_double_symbol(*first, *second) => Some(after),
-        [b'-', b'-', ..] => None,
         [first, after @ ..] if is_single_symbol(*first) => Some(after),
         _ => None,
     }

@@ -338,7 +338,7 @@ typed_items scope (i ∷ others) = do
   Ok (x ∷ xs)
 
 abbrev pub typed_list : Scope → Selected → Result (List meaning.Expression) Fault
-typed_list scope all_columns = outcome (starred_faults scope.grouping scope.entries) (items_meant scope all_columns)
+typed_list scope all_columns = outcome (starred_faults scope.grouping (columns_meant scope.entries)) (items_meant scope all_columns)
 typed_list scope (items list) = typed_items scope list
 
 -- JOIN over what its ON reaches, and its own entry

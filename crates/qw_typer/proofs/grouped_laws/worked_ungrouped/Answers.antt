@@ -6,4 +6,5 @@ returns c = record {
   list = refl;
   having = refl;
   star = refl;
+  star_of_several = refl;
 }

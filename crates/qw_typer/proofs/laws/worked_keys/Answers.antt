@@ -7,13 +7,10 @@ unfolding digits
 returns c = record {
   faultless = refl;
   named = refl;
-  qualified = refl;
   ordinals = refl;
   zero = refl;
   past_the_last = refl;
   no_result_column = refl;
-  other_column = refl;
-  no_entry = refl;
   ambiguous = refl;
   star = refl;
 }

@@ -38,7 +38,7 @@ returns-in_err-keys-clause-means c =
     rw (err.1, err.2)
     (group_keys_refused c.args.schema.now s (as_entries c.args.entries.now) groups (behind_of c.in_ok-behind.behind) (or_rows groups.columns groups.functions.functions) c.in_ok-behind.behind.names.items c.in_err-keys.field-0.0
     (record { from = c.requires.from; is = c.requires.grouped; groups_given = c.in_ok-groups.ensures.gives; behind_given = rw c.table.ensures at c.in_ok-behind.ensures.gives.0; functions_are = refl })
-    (rw c.table.ensures at c.in_ok-behind.ensures.gives.1) (rw c.table-2.ensures at c.in_err-keys.ensures))
+    (rw c.table.ensures at c.in_ok-behind.ensures.gives.1) (rw c.as_slice.ensures.value at c.in_err-keys.ensures))
 
 pub new-query-requires : goal.new-query-requires
 new-query-requires c =
@@ -58,7 +58,7 @@ returns-clause-means c =
     (grouped_means c.args.schema.now s (as_entries c.args.entries.now) (groups_of c.in_ok-groups.groups) (behind_of c.in_ok-behind.behind) (map function_of c.or_rows.new.functions.items) c.in_ok-behind.behind.names.items
     c.in_ok-keys.keys.items
     (record { from = c.requires.from; is = c.requires.grouped; groups_given = c.in_ok-groups.ensures.gives; behind_given = rw c.table.ensures at c.in_ok-behind.ensures.gives.0; functions_are = rows })
-    (rw c.table.ensures at c.in_ok-behind.ensures.gives.1) (rw c.table-2.ensures at c.in_ok-keys.ensures))
+    (rw c.table.ensures at c.in_ok-behind.ensures.gives.1) (rw c.as_slice.ensures.value at c.in_ok-keys.ensures))
 
 pub returns-clause-fits : goal.returns-clause-fits
 returns-clause-fits c =

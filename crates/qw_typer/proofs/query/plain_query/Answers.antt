@@ -25,7 +25,7 @@ returns-in_err-keys-clause-means c =
     let err = err_from_is_err_and c.from_residual-in_err-keys.result c.from_residual-in_err-keys.ensures.1 in
     rw (err.1, err.2)
     (keys_refused c.args.schema.now s (entries_of s.sources) (as_entries c.args.entries.now) (parts_of c.in_ok-over.over) c.in_ok-over.over.names.items c.in_err-keys.field-0.0 c.requires.plain refl
-    (c.requires.from.faultless, c.requires.from.are) c.in_ok-over.ensures.gives.0 c.in_ok-over.ensures.gives.1 c.in_err-keys.ensures)
+    (c.requires.from.faultless, c.requires.from.are) c.in_ok-over.ensures.gives.0 c.in_ok-over.ensures.gives.1 (rw c.as_slice.ensures.value at c.in_err-keys.ensures))
 
 pub new-plain-requires : goal.new-plain-requires
 new-plain-requires c =
@@ -38,7 +38,7 @@ returns-clause-means c =
     let s = select_of c.args.statement.now in
     rw c.new-plain.ensures
     (query_means c.args.schema.now s (entries_of s.sources) (as_entries c.args.entries.now) (parts_of c.in_ok-over.over) c.in_ok-over.over.names.items c.in_ok-keys.keys.items c.requires.plain refl
-    (c.requires.from.faultless, c.requires.from.are) c.in_ok-over.ensures.gives.0 c.in_ok-over.ensures.gives.1 c.in_ok-keys.ensures)
+    (c.requires.from.faultless, c.requires.from.are) c.in_ok-over.ensures.gives.0 c.in_ok-over.ensures.gives.1 (rw c.as_slice.ensures.value at c.in_ok-keys.ensures))
 
 pub returns-clause-fits : goal.returns-clause-fits
 returns-clause-fits c =

@@ -1,4 +1,4 @@
-use Rattle.std.proofs.Common.{◌≡◌, ◌+◌, ◌∙◌, ap, arith, get_or, rules}
+use Rattle.std.proofs.Common.{◌≡◌, ◌+◌, ◌∙◌, ap, arith, rules}
 use Rattle.qw_types.specs.declared.schema.Column.{Column}
 use Rattle.qw_typer.specs.Inner.Typing.{Refuses, as_grouping}
 use Rattle.qw_typer.specs.Meant.{column_grouped}
@@ -38,9 +38,7 @@ returns-in-None-clause-gives c =
     let column = c.index-columns-index.result in
     let asked : place_meant c.column.result ≡ column_grouped g (own_column (c.first_column-first.result + c.loop-index.index) column) = c.column.ensures in
     let found = (rw c.in-None.is at asked) ∙ ap (λ (k : Column). column_grouped g (own_column (c.first_column-first.result + c.loop-index.index) k)) c.index-columns-index.is in
-    let refused = column_refused g c.args.columns.now c.loop-index.index column c.args.number c.first_column-first.result _ c.loop-index-test.true c.first_column-first.ensures found c.loop-index.invariant.faultless in
-    let name : c.as_bytes.result.now ≡ (get_or c.args.columns.now c.loop-index.index column).name = search rules in
-    rw name refused
+    column_refused g c.args.columns.now c.loop-index.index column c.args.number c.first_column-first.result _ c.loop-index-test.true c.first_column-first.ensures found c.loop-index.invariant.faultless
 
 pub returns-clause-gives : goal.returns-clause-gives
 returns-clause-gives c = (

@@ -9,7 +9,7 @@ use Rattle.qw_typer.proofs.starred.starred.Given as goal
 
 abbrev pub invariant-loop-rest : goal.invariant-loop-rest
 invariant-loop-rest l = record {
-  faultless : starred_faults (Some (as_grouping l.fn.grouping)) (as_entries l.rest) ≡ starred_faults (Some (as_grouping l.fn.grouping)) (as_entries l.fn.entries);
+  faultless : starred_faults (Some (as_grouping l.fn.grouping)) (columns_meant (as_entries l.rest)) ≡ starred_faults (Some (as_grouping l.fn.grouping)) (columns_meant (as_entries l.fn.entries));
   meant : map expression_of l.made.items ++ starred (Some (as_grouping l.fn.grouping)) (columns_meant (as_entries l.rest)) ≡ starred (Some (as_grouping l.fn.grouping)) (columns_meant (as_entries l.fn.entries));
   fits : FitsWith l.made.items (column_count (as_entries l.rest)) 0 (column_count (as_entries l.fn.entries)) 0;
 }

@@ -2,7 +2,8 @@ use Rattle.std.proofs.Common.{◌≡◌, ◌+◌, ◌-◌, ◌∙◌, ap, drop, 
 use Rattle.std.proofs.lemmas.Bool.{lt-ltb, le-ltb}
 use Rattle.qw_token.specs.declared.token.Kind.TheVariants.{DelimitedIdentifier}
 use Rattle.qw_token.specs.Inner.Lexer.{IsAfter, after_quote, kind_at}
-use Rattle.qw_token.proofs.TokenLemmas.{IsAfter-delimited, behind_first, named}
+use Rattle.qw_token.proofs.TokenEnds.{IsAfter-delimited, named}
+use Rattle.qw_token.proofs.TokenLemmas.{behind_first}
 use Rattle.qw_token.proofs.token.lexer.after_delimited.Goals as goal
 
 -- what is behind the closing quote follows, where the name isn't empty

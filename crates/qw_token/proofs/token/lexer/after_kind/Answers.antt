@@ -1,5 +1,5 @@
 use Rattle.std.proofs.Common.{sym, ◌∙◌}
-use Rattle.qw_token.proofs.TokenLemmas.{IsAfter-word, IsAfter-symbol}
+use Rattle.qw_token.proofs.TokenEnds.{IsAfter-word, IsAfter-symbol}
 use Rattle.qw_token.proofs.token.lexer.after_kind.Goals as goal
 
 pub returns-in-Word : goal.returns-in-Word

@@ -1,4 +1,5 @@
-use Rattle.qw_token.proofs.TokenLemmas.{IsAfter-string, behind_first}
+use Rattle.qw_token.proofs.TokenEnds.{IsAfter-string}
+use Rattle.qw_token.proofs.TokenLemmas.{behind_first}
 use Rattle.qw_token.proofs.token.lexer.after_string.Goals as goal
 
 pub returns : goal.returns
