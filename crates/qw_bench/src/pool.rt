@@ -1,11 +1,11 @@
 //! The memory that instances share, whose pages are given to them and taken back.
 
-ghost use Rattle.std.specs.Prelude.{◌≡◌, ℕ, ◌+◌, ◌*◌, ◌<◌, ◌≤◌, ◌++◌, [], Some, false, true, IfSome, length, replicate, unwrap_or};
+ghost use Rattle.std.specs.Prelude.{◌≡◌, ◌+◌, ◌*◌, ◌<◌, ◌≤◌, ◌++◌, [], Some, false, true, IfSome, length, replicate, unwrap_or};
 ghost use Rattle.std.specs.Vec.{vec_capacity};
 ghost use Rattle.qw_linear.specs.Memory.{cleared, most_pages, page, pages_of};
 ghost use Rattle.qw_module.specs.Execution.{AsksHost};
 ghost use Rattle.qw_module.specs.Step.{can_place};
-ghost use Rattle.qw_map.specs.Free.{marked, place_among};
+ghost use Rattle.qw_map.specs.Free.{marked};
 ghost use Rattle.qw_map.specs.Turns.{flags_after, placing};
 ghost use Rattle.qw_bench.specs.Inner.Pools.{IsPool, common_of, free_among};
 

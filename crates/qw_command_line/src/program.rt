@@ -1,6 +1,6 @@
 //! The commands that the program has, as `clap` takes them.
 
-ghost use Rattle.std.specs.Prelude.{◌≡◌, IfOk, false};
+ghost use Rattle.std.specs.Prelude.{IfOk};
 ghost use Rattle.clap.specs.Words.{App, with_rule};
 ghost use Rattle.qw_command_line.specs.Inner.Programs.{IsApp};
 ghost use Rattle.qw_command_line.specs.Words as spec;
@@ -198,7 +198,10 @@ fn with_option<'a>(
 ) -> Result<Command<'a>, AllocError>
     ensures { IfOk result (λ more. (app : App) → IsApp command.entry app → IsApp more (with_rule app (spec.option name.entry.now))) }
 {
-    let option = Arg::new(alloc, name).long(name).value_name(value).help(help);
+    let option = Arg::new(alloc, name)
+        .long(name)
+        .value_name(value)
+        .help(help);
     command.arg(option)
 }
 

@@ -8,7 +8,7 @@ use Rattle.qw_ast.specs.Syntax.{Key, ordinal, result_column, SortSpecification}
 use Rattle.qw_ast.specs.ScriptGrammar.{is_word, is_symbol, is_integer, is_name, is_number, is_string, is_comma, IsOperator, IsKey, an_ordinal, a_key_column, IsDirection, no_direction, ascending, descending, IsSort, a_sort, IsOrder, unordered, ordered}
 use Rattle.qw_parse.specs.Inner.Readers.{token_at, word_at, symbol_at, octets_if, key_at, direction_at, sort_at, order_at}
 use Rattle.qw_parse.proofs.LoopLemmas.{bind_some, cases_option, some_same}
-use Rattle.qw_parse.proofs.TokenLemmas.{word_is, symbol_is, one_is, one_not, one_none, token_is, token_not, token_none, octets_are, octets_hold}
+use Rattle.qw_parse.proofs.TokenLemmas.{word_is, one_is, one_not, one_none, token_is, token_not, token_none, octets_are, octets_hold}
 use Rattle.qw_parse.proofs.ExactLemmas.{Starts, starts_at, Exact, comma_is, further_is, further_ends, clause_takes, words_take, other_word, no_word}
 use Rattle.qw_parse.proofs.PrimaryLemmas.{name_kind}
 

@@ -6,7 +6,7 @@ ghost use Rattle.qw_scalar.specs.declared.comparison.Comparison.TheVariants.{Equ
 ghost use Rattle.qw_token.specs.Token.{Lexeme};
 ghost use Rattle.qw_ast.specs.declared.script.Sign.TheVariants.{Minus};
 ghost use Rattle.qw_ast.specs.declared.script.SetFunction.TheVariants.{Avg, Count, Max, Min, Sum};
-ghost use Rattle.qw_ast.specs.Syntax.{Clause, Select, arithmetic, between, both, bracketed, column, comparison, condition, count_rows, date, either, expression, items, negation_of, null, number, ordinal, otherwise, result_column, searched_case, set_function, signed, text, when};
+ghost use Rattle.qw_ast.specs.Syntax.{Clause, Select, arithmetic, between, both, bracketed, column, comparison, condition, count_rows, date, either, expression, items, negation_of, null, number, ordinal, otherwise, searched_case, set_function, signed, text, when};
 ghost use Rattle.qw_ast.specs.ScriptGrammar.{IsSelectOf};
 ghost use Rattle.qw_parse.specs.declared.fault.ParseFault.{ParseFault};
 ghost use Rattle.qw_ast.specs.Limits.{nodes, nodes_condition, octets, octets_condition, query_nodes};

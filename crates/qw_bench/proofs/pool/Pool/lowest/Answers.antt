@@ -1,6 +1,5 @@
 use Rattle.std.proofs.Common.{◌≡◌, ℕ, ◌+◌, ◌<◌, ◌≤◌, length, Some, inl, inr, sym, subst, ap, ◌∙◌, arith}
 use Rattle.qw_map.specs.Free.{lowest_run}
-use Rattle.qw_bench.specs.Inner.Pools.{free_among}
 use Rattle.qw_bench.proofs.FreeCounts.{placed-few}
 use Rattle.qw_bench.proofs.FreeLemmas.{run-within}
 use Rattle.qw_bench.proofs.pool.Pool.lowest.Goals as goal
