@@ -1,10 +1,10 @@
 -- A file in parts stands for one list of rows at most, or has one first fault at most; and the file in one part, where no text stands for null.
-use Rattle.std.proofs.Common.{List, ℕ, zero, suc, ◌≡◌, ◌<◌, ◌≤◌, ◌+◌, ◌∙◌, ◌∷◌, ◌++◌, [], length, refl, sym, ap, arith, append_assoc, length-append, Option, None, inl, inr, ◌⊎◌}
+use Rattle.std.proofs.Common.{List, ℕ, suc, ◌≡◌, ◌≤◌, ◌+◌, ◌∙◌, ◌∷◌, ◌++◌, [], length, refl, sym, ap, arith, length-append, Option, None}
 use Rattle.std.proofs.lemmas.List.{append-nil}
 use Rattle.qw_types.specs.Limits.{most_rows}
 use Rattle.qw_types.specs.declared.schema.Table.{Table}
 use Rattle.qw_types.specs.declared.value.Val.{Val}
-use Rattle.qw_csv.specs.Loading.{ArePartsOf, IsFaultOf, IsFirstFault, IsFirstPartFault, IsPartOf, Loads, LoadsParts}
+use Rattle.qw_csv.specs.Loading.{ArePartsOf, IsFaultOf, IsFirstFault, IsFirstPartFault, Loads, LoadsParts}
 use Rattle.qw_csv.specs.declared.loading.LoadFault.{LoadFault}
 use Rattle.qw_csv.proofs.LoadingLaws.{part_or_fails, same_part, same_part_fault}
 

@@ -1,5 +1,5 @@
 -- The rows and the first fault of a file in parts, from one part to the next.
-use Rattle.std.proofs.Common.{List, ℕ, zero, suc, ◌≡◌, ◌<◌, ◌≤◌, ◌+◌, ◌∙◌, ◌∷◌, ◌++◌, [], length, sym, ap, arith, add-one, append_assoc, length-append, map, take, drop, Vec, Global, Option, Some, refl}
+use Rattle.std.proofs.Common.{List, ℕ, zero, suc, ◌≡◌, ◌≤◌, ◌+◌, ◌∙◌, ◌∷◌, ◌++◌, [], length, sym, ap, arith, add-one, append_assoc, length-append, map, take, drop, Vec, Global, Option, Some, refl}
 use Rattle.std.specs.Prelude.{slice_get}
 use Rattle.std.proofs.lemmas.List.{append-nil}
 use Rattle.qw_types.specs.Limits.{most_rows}

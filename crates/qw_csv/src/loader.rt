@@ -3,7 +3,7 @@
 ghost use Rattle.std.specs.Prelude.{◌≡◌, ◌≢◌, ℕ, List, [], Option, ◌∷◌, ◌++◌, ◌+◌, length, map, Some, IfOk, IfErr};
 ghost use Rattle.csv.specs.Reading.{is_bom, strip_bom};
 ghost use Rattle.qw_types.specs.Contents.{column_type};
-ghost use Rattle.qw_csv.specs.Loading.{ArePartsOf, AreTaken, HasTaken, HasTakenOf, IsFaultOf, IsFirstPartFault, LeavesToRead, LoadsParts};
+ghost use Rattle.qw_csv.specs.Loading.{AreTaken, HasTaken, HasTakenOf, IsFaultOf, IsFirstPartFault, LeavesToRead, LoadsParts};
 ghost use Rattle.qw_csv.specs.Field.{lent};
 ghost use Rattle.qw_csv.specs.Inner.Place.{IsPlaced};
 ghost use Rattle.qw_csv.specs.declared.loading.LoadFault.{LoadFault};

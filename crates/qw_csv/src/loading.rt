@@ -16,7 +16,7 @@ ghost use Rattle.qw_csv.specs.declared.loading.LoadFault.{LoadFault};
 ghost use Rattle.qw_types.specs.Contents.{column_type};
 ghost use Rattle.qw_types.specs.Limits.{most_rows};
 ghost use Rattle.qw_csv.specs.Field.{lent};
-ghost use Rattle.qw_csv.specs.Loading.{ArePartsOf, AreRecordsBehind, AreTaken, IsFaultOf, IsFirstFault, IsFirstPartFault, IsHeader, IsRecordFault, IsRecordOf, LeavesToRead, Loads, LoadsParts};
+ghost use Rattle.qw_csv.specs.Loading.{AreRecordsBehind, AreTaken, IsFaultOf, IsFirstFault, IsFirstPartFault, IsHeader, IsRecordFault, IsRecordOf, LeavesToRead, Loads, LoadsParts};
 ghost use Rattle.qw_csv.specs.Inner.Loading.{HasRead, IsWhole, TakesAll, TakesFault, TakesRows, TakesWrong};
 ghost use Rattle.qw_csv.specs.Inner.Rows.{AreAllKept, AreStored, rows_in};
 

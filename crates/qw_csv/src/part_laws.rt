@@ -1,12 +1,11 @@
 //! Laws of files in parts and of the text that stands for null, and cases worked out.
 
-ghost use Rattle.std.specs.Prelude.{◌≡◌, ◌↔◌, ◌+◌, ℕ, pos, List, [], ◌∷◌, Option, Some, None, codes, true, false};
+ghost use Rattle.std.specs.Prelude.{◌≡◌, ◌↔◌, ℕ, pos, List, [], ◌∷◌, Option, Some, None, codes};
 ghost use Rattle.qw_types.specs.declared.schema.Table.{Table};
 ghost use Rattle.qw_types.specs.declared.value.Ty.TheVariants as ty;
 ghost use Rattle.qw_types.specs.declared.value.Val.{Val};
 ghost use Rattle.qw_types.specs.declared.value.Val.TheVariants as val;
 ghost use Rattle.qw_types.specs.declared.numeral.FieldFault.TheVariants as form;
-ghost use Rattle.qw_csv.specs.declared.cell.CellFault.{CellFault};
 ghost use Rattle.qw_csv.specs.declared.cell.CellFault.TheVariants as cell;
 ghost use Rattle.qw_csv.specs.declared.loading.LoadFault.{LoadFault};
 ghost use Rattle.qw_csv.specs.declared.loading.LoadFault.TheVariants as fault;

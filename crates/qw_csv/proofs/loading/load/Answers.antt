@@ -1,4 +1,4 @@
-use Rattle.std.proofs.Common.{[], Option, None, List, ℕ, arith}
+use Rattle.std.proofs.Common.{[], None, arith}
 use Rattle.std.proofs.lemmas.Result.{MatchResult-weaker}
 use Rattle.qw_csv.proofs.FileLemmas.{none_taken_yet, whole_first}
 use Rattle.qw_csv.proofs.MachineLemmas.{leaves_all}

@@ -1,4 +1,4 @@
-use Rattle.std.proofs.Common.{◌≡◌, ◌∙◌, add-one, arith, length, refl, sym}
+use Rattle.std.proofs.Common.{◌≡◌, ◌∙◌, add-one, arith, length, sym}
 use Rattle.csv.specs.Records.{fields_of}
 use Rattle.qw_csv.specs.Field.{lent}
 use Rattle.qw_csv.proofs.PushLemmas.{fails_first, kept_more, next_there, pushed_field, record_of, rows_more}

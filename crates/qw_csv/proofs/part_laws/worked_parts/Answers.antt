@@ -1,4 +1,4 @@
-use Rattle.std.proofs.Common.{◌≡◌, ◌∷◌, [], List, ℕ, pos, refl, arith, inr, None}
+use Rattle.std.proofs.Common.{◌∷◌, [], List, ℕ, pos, refl, arith, inr, None}
 use Rattle.csv.specs.Machine.{next_record}
 use Rattle.csv.specs.Reading.{Reached, strip_bom}
 use Rattle.csv.specs.declared.parser.State.TheVariants.{StartRecord}

@@ -1,4 +1,4 @@
-use Rattle.std.proofs.Common.{◌≡◌, [], arith, length, refl}
+use Rattle.std.proofs.Common.{◌≡◌, [], arith, refl}
 use Rattle.std.proofs.lemmas.Grind.{common_steps}
 use Rattle.qw_csv.proofs.FileLemmas.{none_taken_yet}
 use Rattle.qw_csv.proofs.MachineLemmas.{leaves_all}
