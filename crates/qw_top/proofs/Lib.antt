@@ -20,5 +20,6 @@ mod ShortLemmas
 mod StopLemmas
 mod StoppedLemmas
 mod TableFileLemmas
+mod TablePartLemmas
 mod UnreadLemmas
 mod WholeFileLemmas
