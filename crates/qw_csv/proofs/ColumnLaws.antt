@@ -1,5 +1,5 @@
 -- Tables whose columns are all INTEGERs that can't be null, and the kinds of the rows of any table.
-use Rattle.std.proofs.Common.{◌≡◌, ◌<◌, ℕ, zero, suc, List, [], ◌∷◌, length, map, Some, refl, subst, arith}
+use Rattle.std.proofs.Common.{◌≡◌, ◌<◌, ℕ, zero, suc, List, [], ◌∷◌, ◌++◌, length, map, Option, Some, None, refl, subst, arith}
 use Rattle.std.specs.List.{AllByRecursion, AllZip}
 use Rattle.std.specs.Prelude.{slice_get}
 use Rattle.qw_types.specs.Kind.{IsRowOf, type_kind}
@@ -14,7 +14,7 @@ use Rattle.qw_types.proofs.KindLemmas.{column_of_kind}
 use Rattle.qw_types.specs.Contents.{AreLoaded, Contents, IsOfColumnType, column_type}
 use Rattle.qw_csv.specs.Contents.{AreIntegerColumns, AreIntegers, IsIntegerRow, integer_column}
 use Rattle.qw_types.specs.declared.schema.ColumnType.{ColumnType}
-use Rattle.qw_csv.specs.Loading.{AreRecordsOf, IsRecordOf, Loads}
+use Rattle.qw_csv.specs.Loading.{ArePartsOf, AreRecordsOf, IsPartOf, IsRecordOf, Loads, LoadsParts}
 use Rattle.qw_csv.proofs.PushLemmas.{field_of_column}
 
 -- each of them
@@ -67,19 +67,37 @@ loaded_of_kinds columns contents are is loaded =
     loaded_rows columns contents.rows are.sized (subst (λ (types : List ColumnType). AllByRecursion (AllZip IsOfColumnType types) contents.rows) is loaded.typed)
 
 -- a row that a file stands for has a value of each column
-read_row : (columns : List Column) (fields : List (List ℕ)) (row : List Val) → IsRecordOf columns fields row → AllZip IsOfColumnType (map column_type columns) row
-read_row [] [] [] is = tt
-read_row [] [] (value ∷ row) is = absurd is
-read_row [] (field ∷ fields) row is = absurd is
-read_row (column ∷ columns) [] row is = absurd is
-read_row (column ∷ columns) (field ∷ fields) [] is = absurd is
-read_row (column ∷ columns) (field ∷ fields) (value ∷ row) is = (field_of_column column field value is.0, read_row columns fields row is.1)
+read_row : (null : Option (List ℕ)) (columns : List Column) (fields : List (List ℕ)) (row : List Val) → IsRecordOf null columns fields row → AllZip IsOfColumnType (map column_type columns) row
+read_row null [] [] [] is = tt
+read_row null [] [] (value ∷ row) is = absurd is
+read_row null [] (field ∷ fields) row is = absurd is
+read_row null (column ∷ columns) [] row is = absurd is
+read_row null (column ∷ columns) (field ∷ fields) [] is = absurd is
+read_row null (column ∷ columns) (field ∷ fields) (value ∷ row) is = (field_of_column null column field value is.0, read_row null columns fields row is.1)
 
-read_rows : (columns : List Column) (records : List (List (List ℕ))) (rows : List (List Val)) → AreRecordsOf columns records rows → AllByRecursion (AllZip IsOfColumnType (map column_type columns)) rows
-read_rows columns [] [] are = tt
-read_rows columns [] (row ∷ rows) are = absurd are
-read_rows columns (fields ∷ records) [] are = absurd are
-read_rows columns (fields ∷ records) (row ∷ rows) are = (read_row columns fields row are.0, read_rows columns records rows are.1)
+read_rows : (null : Option (List ℕ)) (columns : List Column) (records : List (List (List ℕ))) (rows : List (List Val)) → AreRecordsOf null columns records rows → AllByRecursion (AllZip IsOfColumnType (map column_type columns)) rows
+read_rows null columns [] [] are = tt
+read_rows null columns [] (row ∷ rows) are = absurd are
+read_rows null columns (fields ∷ records) [] are = absurd are
+read_rows null columns (fields ∷ records) (row ∷ rows) are = (read_row null columns fields row are.0, read_rows null columns records rows are.1)
+
+pub part_of_columns : (table : Table) (null : Option (List ℕ)) (bytes : List ℕ) (rows : List (List Val)) → IsPartOf table null bytes rows → AllByRecursion (AllZip IsOfColumnType (map column_type table.columns)) rows
+part_of_columns table null bytes rows part = read_rows null table.columns part.records rows part.each
 
 pub loaded_of_columns : (table : Table) (bytes : List ℕ) (rows : List (List Val)) → Loads table bytes rows → AllByRecursion (AllZip IsOfColumnType (map column_type table.columns)) rows
-loaded_of_columns table bytes rows loads = read_rows table.columns loads.records rows loads.each
+loaded_of_columns table bytes rows loads = part_of_columns table None bytes rows loads.0
+
+-- and so has one that a file in parts stands for
+all_both : {X : Type 0} (P : X → Type 0) (xs ys : List X) → AllByRecursion P xs → AllByRecursion P ys → AllByRecursion P (xs ++ ys)
+all_both P [] ys first later = later
+all_both P (x ∷ xs) ys first later = (first.0, all_both P xs ys first.1 later)
+
+rows_of_columns : (table : Table) (null : Option (List ℕ)) (parts : List (List ℕ)) (rows : List (List Val)) → ArePartsOf table null parts rows
+    → AllByRecursion (AllZip IsOfColumnType (map column_type table.columns)) rows
+rows_of_columns table null [] rows none = rw none tt
+rows_of_columns table null (bytes ∷ parts) rows (first, later, is, part, rest) =
+    rw is (all_both (AllZip IsOfColumnType (map column_type table.columns)) first later (part_of_columns table null bytes first part) (rows_of_columns table null parts later rest))
+
+pub parts_of_columns : (table : Table) (null : Option (List ℕ)) (parts : List (List ℕ)) (rows : List (List Val)) → LoadsParts table null parts rows
+    → AllByRecursion (AllZip IsOfColumnType (map column_type table.columns)) rows
+parts_of_columns table null parts rows loads = rows_of_columns table null parts rows loads.each

@@ -17,10 +17,11 @@ use Rattle.qw_types.specs.declared.value.Val.{Val}
 use Rattle.qw_types.specs.declared.value.Val.TheVariants as val
 use Rattle.qw_csv.specs.declared.cell.CellFault.{CellFault}
 use Rattle.qw_csv.specs.declared.cell.CellFault.TheVariants as cell
-use Rattle.qw_csv.specs.Field.{IsEmptyFault, IsEmptyFieldOf, IsFieldFault, IsFieldOf, IsTypedFault, IsTypedFieldOf}
+use Rattle.std.specs.Str.{bytes_eq}
+use Rattle.qw_csv.specs.Field.{IsEmptyFault, IsEmptyFieldOf, IsFieldFault, IsFieldOf, IsMarkedFault, IsMarkedFieldOf, IsTypedFault, IsTypedFieldOf}
 use Rattle.qw_csv.specs.declared.loading.LoadFault.{LoadFault}
 use Rattle.qw_csv.specs.declared.loading.LoadFault.TheVariants as fault
-use Rattle.qw_csv.specs.Loading.{AreAllRecords, AreFirstRecords, AreRecordsOf, Follows, IsFirstFault, IsFirstFieldFault, IsHeader, IsRecordFault, IsRecordOf, Loads}
+use Rattle.qw_csv.specs.Loading.{AreAllRecords, AreFirstRecords, AreRecordsOf, Follows, IsFaultOf, IsFirstFault, IsFirstFieldFault, IsHeader, IsPartOf, IsRecordFault, IsRecordOf, Loads}
 use Rattle.std.proofs.lemmas.Bool.{false≢true}
 
 -- a field stands for one value
@@ -76,9 +77,14 @@ same_empty (ty.Varchar l) true (val.Text n) val.Null a b = elim b [ ]
 same_empty (ty.Varchar l) true (val.Text n) (val.Num _) a b = elim b [ ]
 same_empty (ty.Varchar l) true (val.Text n) (val.Date _) a b = elim b [ ]
 
-same_value : (c : Column) (field : List ℕ) (v w : Val) → IsFieldOf c field v → IsFieldOf c field w → v ≡ w
-same_value c [] v w a b = same_empty c.ty c.not_null v w a b
-same_value c (o ∷ os) v w a b = same_typed c.ty (o ∷ os) v w a b
+same_marked : (marked : Bool) (c : Column) (field : List ℕ) (v w : Val) → IsMarkedFieldOf marked c field v → IsMarkedFieldOf marked c field w → v ≡ w
+same_marked true c field v w a b = a.1 ∙ sym b.1
+same_marked false c field v w a b = same_typed c.ty field v w a b
+
+same_value : (null : Option (List ℕ)) (c : Column) (field : List ℕ) (v w : Val) → IsFieldOf null c field v → IsFieldOf null c field w → v ≡ w
+same_value None c [] v w a b = same_empty c.ty c.not_null v w a b
+same_value None c (o ∷ os) v w a b = same_typed c.ty (o ∷ os) v w a b
+same_value (Some null) c field v w a b = same_marked (bytes_eq field null) c field v w a b
 
 -- a field that stands for a value isn't at fault
 number_or_fault : (type : Ty) (field : List ℕ) (n : ℤ) (why : FieldFault) → IsNumberOf type field n → IsNumberFault type field why → ⊥
@@ -142,9 +148,14 @@ empty_or_fault (ty.Varchar l) true val.Null why a b = elim a [ ]
 empty_or_fault (ty.Varchar l) true (val.Num _) why a b = elim a [ ]
 empty_or_fault (ty.Varchar l) true (val.Date _) why a b = elim a [ ]
 
-value_or_fault : (c : Column) (field : List ℕ) (v : Val) (why : CellFault) → IsFieldOf c field v → IsFieldFault c field why → ⊥
-value_or_fault c [] v why a b = empty_or_fault c.ty c.not_null v why a b
-value_or_fault c (o ∷ os) v why a b = typed_or_fault c.ty (o ∷ os) v why a b
+marked_or_fault : (marked : Bool) (c : Column) (field : List ℕ) (v : Val) (why : CellFault) → IsMarkedFieldOf marked c field v → IsMarkedFault marked c field why → ⊥
+marked_or_fault true c field v why a b = false≢true (sym a.0 ∙ b.0)
+marked_or_fault false c field v why a b = typed_or_fault c.ty field v why a b
+
+value_or_fault : (null : Option (List ℕ)) (c : Column) (field : List ℕ) (v : Val) (why : CellFault) → IsFieldOf null c field v → IsFieldFault null c field why → ⊥
+value_or_fault None c [] v why a b = empty_or_fault c.ty c.not_null v why a b
+value_or_fault None c (o ∷ os) v why a b = typed_or_fault c.ty (o ∷ os) v why a b
+value_or_fault (Some null) c field v why a b = marked_or_fault (bytes_eq field null) c field v why a b
 
 -- and is at fault in one way
 same_number_fault : (type : Ty) (field : List ℕ) (a b : FieldFault) → IsNumberFault type field a → IsNumberFault type field b → a ≡ b
@@ -220,89 +231,94 @@ same_empty_fault ty.Date true cell.TextTooLong b h k = elim h [ ]
 same_empty_fault ty.Date true cell.NotUtf8 b h k = elim h [ ]
 same_empty_fault (ty.Varchar _) never a b h k = elim h [ ]
 
-same_field_fault : (c : Column) (field : List ℕ) (a b : CellFault) → IsFieldFault c field a → IsFieldFault c field b → a ≡ b
-same_field_fault c [] a b h k = same_empty_fault c.ty c.not_null a b h k
-same_field_fault c (o ∷ os) a b h k = same_typed_fault c.ty (o ∷ os) a b h k
+same_marked_fault : (marked : Bool) (c : Column) (field : List ℕ) (a b : CellFault) → IsMarkedFault marked c field a → IsMarkedFault marked c field b → a ≡ b
+same_marked_fault true c field a b h k = h.1 ∙ sym k.1
+same_marked_fault false c field a b h k = same_typed_fault c.ty field a b h k
+
+same_field_fault : (null : Option (List ℕ)) (c : Column) (field : List ℕ) (a b : CellFault) → IsFieldFault null c field a → IsFieldFault null c field b → a ≡ b
+same_field_fault None c [] a b h k = same_empty_fault c.ty c.not_null a b h k
+same_field_fault None c (o ∷ os) a b h k = same_typed_fault c.ty (o ∷ os) a b h k
+same_field_fault (Some null) c field a b h k = same_marked_fault (bytes_eq field null) c field a b h k
 
 -- a record stands for one row
-same_row : (columns : List Column) (fields : List (List ℕ)) (a b : List Val) → IsRecordOf columns fields a → IsRecordOf columns fields b → a ≡ b
-same_row [] [] [] [] h k = refl
-same_row [] [] [] (w ∷ ws) h k = absurd k
-same_row [] [] (v ∷ vs) ws h k = absurd h
-same_row [] (f ∷ fs) vs ws h k = absurd h
-same_row (c ∷ cs) [] vs ws h k = absurd h
-same_row (c ∷ cs) (f ∷ fs) [] ws h k = absurd h
-same_row (c ∷ cs) (f ∷ fs) (v ∷ vs) [] h k = absurd k
-same_row (c ∷ cs) (f ∷ fs) (v ∷ vs) (w ∷ ws) h k = cc (same_value c f v w h.0 k.0, same_row cs fs vs ws h.1 k.1)
+same_row : (null : Option (List ℕ)) (columns : List Column) (fields : List (List ℕ)) (a b : List Val) → IsRecordOf null columns fields a → IsRecordOf null columns fields b → a ≡ b
+same_row null [] [] [] [] h k = refl
+same_row null [] [] [] (w ∷ ws) h k = absurd k
+same_row null [] [] (v ∷ vs) ws h k = absurd h
+same_row null [] (f ∷ fs) vs ws h k = absurd h
+same_row null (c ∷ cs) [] vs ws h k = absurd h
+same_row null (c ∷ cs) (f ∷ fs) [] ws h k = absurd h
+same_row null (c ∷ cs) (f ∷ fs) (v ∷ vs) [] h k = absurd k
+same_row null (c ∷ cs) (f ∷ fs) (v ∷ vs) (w ∷ ws) h k = cc (same_value null c f v w h.0 k.0, same_row null cs fs vs ws h.1 k.1)
 
-same_rows : (columns : List Column) (records : List (List (List ℕ))) (a b : List (List Val)) → AreRecordsOf columns records a → AreRecordsOf columns records b → a ≡ b
-same_rows columns [] [] [] h k = refl
-same_rows columns [] [] (r ∷ rs) h k = absurd k
-same_rows columns [] (r ∷ rs) qs h k = absurd h
-same_rows columns (x ∷ xs) [] qs h k = absurd h
-same_rows columns (x ∷ xs) (r ∷ rs) [] h k = absurd k
-same_rows columns (x ∷ xs) (r ∷ rs) (q ∷ qs) h k = cc (same_row columns x r q h.0 k.0, same_rows columns xs rs qs h.1 k.1)
+same_rows : (null : Option (List ℕ)) (columns : List Column) (records : List (List (List ℕ))) (a b : List (List Val)) → AreRecordsOf null columns records a → AreRecordsOf null columns records b → a ≡ b
+same_rows null columns [] [] [] h k = refl
+same_rows null columns [] [] (r ∷ rs) h k = absurd k
+same_rows null columns [] (r ∷ rs) qs h k = absurd h
+same_rows null columns (x ∷ xs) [] qs h k = absurd h
+same_rows null columns (x ∷ xs) (r ∷ rs) [] h k = absurd k
+same_rows null columns (x ∷ xs) (r ∷ rs) (q ∷ qs) h k = cc (same_row null columns x r q h.0 k.0, same_rows null columns xs rs qs h.1 k.1)
 
 -- a record that stands for a row has as many fields as there are columns, none of them at fault
-length_of : (columns : List Column) (fields : List (List ℕ)) (row : List Val) → IsRecordOf columns fields row → length fields ≡ length columns
-length_of [] [] row h = refl
-length_of [] (f ∷ fs) row h = absurd h
-length_of (c ∷ cs) [] row h = absurd h
-length_of (c ∷ cs) (f ∷ fs) [] h = absurd h
-length_of (c ∷ cs) (f ∷ fs) (v ∷ vs) h = cc (length_of cs fs vs h.1)
+length_of : (null : Option (List ℕ)) (columns : List Column) (fields : List (List ℕ)) (row : List Val) → IsRecordOf null columns fields row → length fields ≡ length columns
+length_of null [] [] row h = refl
+length_of null [] (f ∷ fs) row h = absurd h
+length_of null (c ∷ cs) [] row h = absurd h
+length_of null (c ∷ cs) (f ∷ fs) [] h = absurd h
+length_of null (c ∷ cs) (f ∷ fs) (v ∷ vs) h = cc (length_of null cs fs vs h.1)
 
-sound_fields : (columns : List Column) (fields : List (List ℕ)) (row : List Val) (index : ℕ) (why : CellFault) → IsRecordOf columns fields row
-    → IsFirstFieldFault columns fields index why → ⊥
-sound_fields [] fields row index why h k = k
-sound_fields (c ∷ cs) [] row index why h k = k
-sound_fields (c ∷ cs) (f ∷ fs) [] index why h k = h
-sound_fields (c ∷ cs) (f ∷ fs) (v ∷ vs) zero why h k = value_or_fault c f v why h.0 k
-sound_fields (c ∷ cs) (f ∷ fs) (v ∷ vs) (suc index) why h k = sound_fields cs fs vs index why h.1 k.2
+sound_fields : (null : Option (List ℕ)) (columns : List Column) (fields : List (List ℕ)) (row : List Val) (index : ℕ) (why : CellFault) → IsRecordOf null columns fields row
+    → IsFirstFieldFault null columns fields index why → ⊥
+sound_fields null [] fields row index why h k = k
+sound_fields null (c ∷ cs) [] row index why h k = k
+sound_fields null (c ∷ cs) (f ∷ fs) [] index why h k = h
+sound_fields null (c ∷ cs) (f ∷ fs) (v ∷ vs) zero why h k = value_or_fault null c f v why h.0 k
+sound_fields null (c ∷ cs) (f ∷ fs) (v ∷ vs) (suc index) why h k = sound_fields null cs fs vs index why h.1 k.2
 
-same_first_fault : (columns : List Column) (fields : List (List ℕ)) (p q : ℕ) (a b : CellFault) → IsFirstFieldFault columns fields p a
-    → IsFirstFieldFault columns fields q b → (p ≡ q) × (a ≡ b)
-same_first_fault [] fields p q a b h k = absurd h
-same_first_fault (c ∷ cs) [] p q a b h k = absurd h
-same_first_fault (c ∷ cs) (f ∷ fs) zero zero a b h k = (refl, same_field_fault c f a b h k)
-same_first_fault (c ∷ cs) (f ∷ fs) zero (suc q) a b h k = absurd (value_or_fault c f k.0 a k.1 h)
-same_first_fault (c ∷ cs) (f ∷ fs) (suc p) zero a b h k = absurd (value_or_fault c f h.0 b h.1 k)
-same_first_fault (c ∷ cs) (f ∷ fs) (suc p) (suc q) a b h k = let (e, why) = same_first_fault cs fs p q a b h.2 k.2 in (ap suc e, why)
+same_first_fault : (null : Option (List ℕ)) (columns : List Column) (fields : List (List ℕ)) (p q : ℕ) (a b : CellFault) → IsFirstFieldFault null columns fields p a
+    → IsFirstFieldFault null columns fields q b → (p ≡ q) × (a ≡ b)
+same_first_fault null [] fields p q a b h k = absurd h
+same_first_fault null (c ∷ cs) [] p q a b h k = absurd h
+same_first_fault null (c ∷ cs) (f ∷ fs) zero zero a b h k = (refl, same_field_fault null c f a b h k)
+same_first_fault null (c ∷ cs) (f ∷ fs) zero (suc q) a b h k = absurd (value_or_fault null c f k.0 a k.1 h)
+same_first_fault null (c ∷ cs) (f ∷ fs) (suc p) zero a b h k = absurd (value_or_fault null c f h.0 b h.1 k)
+same_first_fault null (c ∷ cs) (f ∷ fs) (suc p) (suc q) a b h k = let (e, why) = same_first_fault null cs fs p q a b h.2 k.2 in (ap suc e, why)
 
 -- so a record within the limit that stands for a row isn't at fault
-sound_record : (columns : List Column) (number : ℕ) (fields : List (List ℕ)) (row : List Val) (e : LoadFault) → number ≤ most_rows
-    → IsRecordOf columns fields row → IsRecordFault columns number fields e → ⊥
-sound_record columns number fields row fault.BadHeader few h k = k
-sound_record columns number fields row (fault.FieldCount r) few h k = k.2 (length_of columns fields row h)
-sound_record columns number fields row (fault.Field r p why) few h k = sound_fields columns fields row p why h k.3
-sound_record columns number fields row fault.TooManyRows few h k = omega arith
-sound_record columns number fields row fault.NoMemory few h k = k
+sound_record : (null : Option (List ℕ)) (columns : List Column) (before number : ℕ) (fields : List (List ℕ)) (row : List Val) (e : LoadFault) → before + number ≤ most_rows
+    → IsRecordOf null columns fields row → IsRecordFault null columns before number fields e → ⊥
+sound_record null columns before number fields row fault.BadHeader few h k = k
+sound_record null columns before number fields row (fault.FieldCount r) few h k = k.2 (length_of null columns fields row h)
+sound_record null columns before number fields row (fault.Field r p why) few h k = sound_fields null columns fields row p why h k.3
+sound_record null columns before number fields row fault.TooManyRows few h k = omega (arith, few, k)
+sound_record null columns before number fields row fault.NoMemory few h k = k
 
 -- a record at fault is no later than the one after the limit
-fault_number : (columns : List Column) (number : ℕ) (fields : List (List ℕ)) (e : LoadFault) → IsRecordFault columns number fields e → number ≤ most_rows + 1
-fault_number columns number fields fault.BadHeader k = absurd k
-fault_number columns number fields (fault.FieldCount r) k = omega (arith, k.0)
-fault_number columns number fields (fault.Field r p why) k = omega (arith, k.0)
-fault_number columns number fields fault.TooManyRows k = omega arith
-fault_number columns number fields fault.NoMemory k = absurd k
+fault_number : (null : Option (List ℕ)) (columns : List Column) (before number : ℕ) (fields : List (List ℕ)) (e : LoadFault) → IsRecordFault null columns before number fields e → before + number ≤ most_rows + 1
+fault_number null columns before number fields fault.BadHeader k = absurd k
+fault_number null columns before number fields (fault.FieldCount r) k = omega (arith, k.0)
+fault_number null columns before number fields (fault.Field r p why) k = omega (arith, k.0)
+fault_number null columns before number fields fault.TooManyRows k = omega (arith, k)
+fault_number null columns before number fields fault.NoMemory k = absurd k
 
 -- and is so in one way
-same_record_fault : (columns : List Column) (number : ℕ) (fields : List (List ℕ)) (a b : LoadFault)
-    → IsRecordFault columns number fields a → IsRecordFault columns number fields b → a ≡ b
-same_record_fault columns number fields fault.BadHeader b h k = absurd h
-same_record_fault columns number fields fault.NoMemory b h k = absurd h
-same_record_fault columns number fields a fault.BadHeader h k = absurd k
-same_record_fault columns number fields a fault.NoMemory h k = absurd k
-same_record_fault columns number fields (fault.FieldCount r) (fault.FieldCount q) h k = ap fault.FieldCount (h.1 ∙ sym k.1)
-same_record_fault columns number fields (fault.FieldCount r) (fault.Field q c w) h k = absurd (h.2 k.2)
-same_record_fault columns number fields (fault.FieldCount r) fault.TooManyRows h k = absurd (omega (arith, h.0))
-same_record_fault columns number fields (fault.Field r p v) (fault.FieldCount q) h k = absurd (k.2 h.2)
-same_record_fault columns number fields (fault.Field r p v) (fault.Field q c w) h k =
-    let (index, why) = same_first_fault columns fields p c v w h.3 k.3 in
+same_record_fault : (null : Option (List ℕ)) (columns : List Column) (before number : ℕ) (fields : List (List ℕ)) (a b : LoadFault)
+    → IsRecordFault null columns before number fields a → IsRecordFault null columns before number fields b → a ≡ b
+same_record_fault null columns before number fields fault.BadHeader b h k = absurd h
+same_record_fault null columns before number fields fault.NoMemory b h k = absurd h
+same_record_fault null columns before number fields a fault.BadHeader h k = absurd k
+same_record_fault null columns before number fields a fault.NoMemory h k = absurd k
+same_record_fault null columns before number fields (fault.FieldCount r) (fault.FieldCount q) h k = ap fault.FieldCount (h.1 ∙ sym k.1)
+same_record_fault null columns before number fields (fault.FieldCount r) (fault.Field q c w) h k = absurd (h.2 k.2)
+same_record_fault null columns before number fields (fault.FieldCount r) fault.TooManyRows h k = absurd (omega (arith, h.0, k))
+same_record_fault null columns before number fields (fault.Field r p v) (fault.FieldCount q) h k = absurd (k.2 h.2)
+same_record_fault null columns before number fields (fault.Field r p v) (fault.Field q c w) h k =
+    let (index, why) = same_first_fault null columns fields p c v w h.3 k.3 in
     cc (h.1, k.1, index, why)
-same_record_fault columns number fields (fault.Field r p v) fault.TooManyRows h k = absurd (omega (arith, h.0))
-same_record_fault columns number fields fault.TooManyRows (fault.FieldCount q) h k = absurd (omega (arith, k.0))
-same_record_fault columns number fields fault.TooManyRows (fault.Field q c w) h k = absurd (omega (arith, k.0))
-same_record_fault columns number fields fault.TooManyRows fault.TooManyRows h k = refl
+same_record_fault null columns before number fields (fault.Field r p v) fault.TooManyRows h k = absurd (omega (arith, h.0, k))
+same_record_fault null columns before number fields fault.TooManyRows (fault.FieldCount q) h k = absurd (omega (arith, h, k.0))
+same_record_fault null columns before number fields fault.TooManyRows (fault.Field q c w) h k = absurd (omega (arith, h, k.0))
+same_record_fault null columns before number fields fault.TooManyRows fault.TooManyRows h k = refl
 
 -- one read from one position
 same_read : (o : Option Read) (p q : Read) → o ≡ Some p → o ≡ Some q → q ≡ p
@@ -323,135 +339,148 @@ same_records s xs (x ∷ xs') (y ∷ ys) (s2, z, (p, next, first, rest), end) (t
     cc (first, first', e, same_records p.1 p.2 xs' ys (s2, z, rest, end) (t, w, rw e at rest', end'))
 
 -- the record after the first rows is one of those that stand for later rows
-pub record Stands (columns : List Column) (rows later : List (List Val)) (next : List (List ℕ)) : Type 0 where
+pub record Stands (null : Option (List ℕ)) (columns : List Column) (rows later : List (List Val)) (next : List (List ℕ)) : Type 0 where
   before : length rows < length later
   row : List Val
-  stands : IsRecordOf columns next row
+  stands : IsRecordOf null columns next row
 
-stands_more : (columns : List Column) (rows later : List (List Val)) (q r : List Val) (next : List (List ℕ)) → Stands columns rows later next → Stands columns (q ∷ rows) (r ∷ later) next
-stands_more columns rows later q r next h = record { before = omega (arith, h.before); row = h.row; stands = h.stands }
+stands_more : (null : Option (List ℕ)) (columns : List Column) (rows later : List (List Val)) (q r : List Val) (next : List (List ℕ)) → Stands null columns rows later next → Stands null columns (q ∷ rows) (r ∷ later) next
+stands_more null columns rows later q r next h = record { before = omega (arith, h.before); row = h.row; stands = h.stands }
 
 -- all records stand for rows, so each does
-front_of_all : (columns : List Column) (s s' : State) (xs xs' : List ℕ) (a b : List (List (List ℕ))) (rows later : List (List Val)) (next : List (List ℕ))
-    → Reached default_config s xs (a ++ next ∷ []) s' xs' → AreRecordsOf columns a rows → AreRecords default_config s xs b → AreRecordsOf columns b later → Stands columns rows later next
+front_of_all : (null : Option (List ℕ)) (columns : List Column) (s s' : State) (xs xs' : List ℕ) (a b : List (List (List ℕ))) (rows later : List (List Val)) (next : List (List ℕ))
+    → Reached default_config s xs (a ++ next ∷ []) s' xs' → AreRecordsOf null columns a rows → AreRecords default_config s xs b → AreRecordsOf null columns b later → Stands null columns rows later next
 unfolding Reached
-front_of_all columns s s' xs xs' [] [] rows later next (p, read, first, rest) h (s2, z, (es, ez), none) k = absurd (ended s s2 xs z p es ez none read)
-front_of_all columns s s' xs xs' (a ∷ as') [] rows later next (p, read, first, rest) h (s2, z, (es, ez), none) k = absurd (ended s s2 xs z p es ez none read)
-front_of_all columns s s' xs xs' [] (b ∷ bs) rows [] next reached h all k = absurd k
-front_of_all columns s s' xs xs' [] (b ∷ bs) (r ∷ rows) (q ∷ later) next reached h all k = absurd h
-front_of_all columns s s' xs xs' [] (b ∷ bs) [] (q ∷ later) next (p, read, first, rest) h (s2, z, (p', read', first', rest'), none) k =
+front_of_all null columns s s' xs xs' [] [] rows later next (p, read, first, rest) h (s2, z, (es, ez), none) k = absurd (ended s s2 xs z p es ez none read)
+front_of_all null columns s s' xs xs' (a ∷ as') [] rows later next (p, read, first, rest) h (s2, z, (es, ez), none) k = absurd (ended s s2 xs z p es ez none read)
+front_of_all null columns s s' xs xs' [] (b ∷ bs) rows [] next reached h all k = absurd k
+front_of_all null columns s s' xs xs' [] (b ∷ bs) (r ∷ rows) (q ∷ later) next reached h all k = absurd h
+front_of_all null columns s s' xs xs' [] (b ∷ bs) [] (q ∷ later) next (p, read, first, rest) h (s2, z, (p', read', first', rest'), none) k =
     record { before = omega arith; row = q; stands = let e : next ≡ b = cc (first, first', same_read _ p p' read read') in rw e k.0 }
-front_of_all columns s s' xs xs' (a ∷ as') (b ∷ bs) [] later next reached h all k = absurd h
-front_of_all columns s s' xs xs' (a ∷ as') (b ∷ bs) (r ∷ rows) [] next reached h all k = absurd k
-front_of_all columns s s' xs xs' (a ∷ as') (b ∷ bs) (r ∷ rows) (q ∷ later) next (p, read, first, rest) h (s2, z, (p', read', first', rest'), none) k =
+front_of_all null columns s s' xs xs' (a ∷ as') (b ∷ bs) [] later next reached h all k = absurd h
+front_of_all null columns s s' xs xs' (a ∷ as') (b ∷ bs) (r ∷ rows) [] next reached h all k = absurd k
+front_of_all null columns s s' xs xs' (a ∷ as') (b ∷ bs) (r ∷ rows) (q ∷ later) next (p, read, first, rest) h (s2, z, (p', read', first', rest'), none) k =
     let e = same_read _ p p' read read' in
-    stands_more columns rows later r q next
-    (front_of_all columns p.1 s' p.2 xs' as' bs rows later next rest h.1 (s2, z, rw e at rest', none) k.1)
+    stands_more null columns rows later r q next
+    (front_of_all null columns p.1 s' p.2 xs' as' bs rows later next rest h.1 (s2, z, rw e at rest', none) k.1)
 
 -- two records after first rows of one text are the same one, or one of them stands for a row
-fronts : (columns : List Column) (s s1 s2 : State) (xs z1 z2 : List ℕ) (a b : List (List (List ℕ))) (rows later : List (List Val)) (x y : List (List ℕ))
-    → Reached default_config s xs (a ++ x ∷ []) s1 z1 → AreRecordsOf columns a rows → Reached default_config s xs (b ++ y ∷ []) s2 z2 → AreRecordsOf columns b later
-    → ((length rows ≡ length later) × (x ≡ y)) ⊎ (Stands columns rows later x ⊎ Stands columns later rows y)
+fronts : (null : Option (List ℕ)) (columns : List Column) (s s1 s2 : State) (xs z1 z2 : List ℕ) (a b : List (List (List ℕ))) (rows later : List (List Val)) (x y : List (List ℕ))
+    → Reached default_config s xs (a ++ x ∷ []) s1 z1 → AreRecordsOf null columns a rows → Reached default_config s xs (b ++ y ∷ []) s2 z2 → AreRecordsOf null columns b later
+    → ((length rows ≡ length later) × (x ≡ y)) ⊎ (Stands null columns rows later x ⊎ Stands null columns later rows y)
 unfolding Reached
-fronts columns s s1 s2 xs z1 z2 [] [] [] [] x y (p, read, first, rest) h (p', read', first', rest') k = inl (refl, cc (first, first', same_read _ p p' read read'))
-fronts columns s s1 s2 xs z1 z2 [] [] (r ∷ rows) later x y reached h reached' k = absurd h
-fronts columns s s1 s2 xs z1 z2 [] [] [] (q ∷ later) x y reached h reached' k = absurd k
-fronts columns s s1 s2 xs z1 z2 [] (b ∷ bs) rows [] x y reached h reached' k = absurd k
-fronts columns s s1 s2 xs z1 z2 [] (b ∷ bs) (r ∷ rows) (q ∷ later) x y reached h reached' k = absurd h
-fronts columns s s1 s2 xs z1 z2 [] (b ∷ bs) [] (q ∷ later) x y (p, read, first, rest) h (p', read', first', rest') k =
+fronts null columns s s1 s2 xs z1 z2 [] [] [] [] x y (p, read, first, rest) h (p', read', first', rest') k = inl (refl, cc (first, first', same_read _ p p' read read'))
+fronts null columns s s1 s2 xs z1 z2 [] [] (r ∷ rows) later x y reached h reached' k = absurd h
+fronts null columns s s1 s2 xs z1 z2 [] [] [] (q ∷ later) x y reached h reached' k = absurd k
+fronts null columns s s1 s2 xs z1 z2 [] (b ∷ bs) rows [] x y reached h reached' k = absurd k
+fronts null columns s s1 s2 xs z1 z2 [] (b ∷ bs) (r ∷ rows) (q ∷ later) x y reached h reached' k = absurd h
+fronts null columns s s1 s2 xs z1 z2 [] (b ∷ bs) [] (q ∷ later) x y (p, read, first, rest) h (p', read', first', rest') k =
     inr (inl (record { before = omega arith; row = q; stands = let e : x ≡ b = cc (first, first', same_read _ p p' read read') in rw e k.0 }))
-fronts columns s s1 s2 xs z1 z2 (a ∷ as') [] [] later x y reached h reached' k = absurd h
-fronts columns s s1 s2 xs z1 z2 (a ∷ as') [] (r ∷ rows) (q ∷ later) x y reached h reached' k = absurd k
-fronts columns s s1 s2 xs z1 z2 (a ∷ as') [] (r ∷ rows) [] x y (p, read, first, rest) h (p', read', first', rest') k =
+fronts null columns s s1 s2 xs z1 z2 (a ∷ as') [] [] later x y reached h reached' k = absurd h
+fronts null columns s s1 s2 xs z1 z2 (a ∷ as') [] (r ∷ rows) (q ∷ later) x y reached h reached' k = absurd k
+fronts null columns s s1 s2 xs z1 z2 (a ∷ as') [] (r ∷ rows) [] x y (p, read, first, rest) h (p', read', first', rest') k =
     inr (inr (record { before = omega arith; row = r; stands = let e : y ≡ a = cc (first, first', same_read _ p p' read read') in rw e h.0 }))
-fronts columns s s1 s2 xs z1 z2 (a ∷ as') (b ∷ bs) [] later x y reached h reached' k = absurd h
-fronts columns s s1 s2 xs z1 z2 (a ∷ as') (b ∷ bs) (r ∷ rows) [] x y reached h reached' k = absurd k
-fronts columns s s1 s2 xs z1 z2 (a ∷ as') (b ∷ bs) (r ∷ rows) (q ∷ later) x y (p, read, first, rest) h (p', read', first', rest') k =
+fronts null columns s s1 s2 xs z1 z2 (a ∷ as') (b ∷ bs) [] later x y reached h reached' k = absurd h
+fronts null columns s s1 s2 xs z1 z2 (a ∷ as') (b ∷ bs) (r ∷ rows) [] x y reached h reached' k = absurd k
+fronts null columns s s1 s2 xs z1 z2 (a ∷ as') (b ∷ bs) (r ∷ rows) (q ∷ later) x y (p, read, first, rest) h (p', read', first', rest') k =
     let e = same_read _ p p' read read' in
-    elim (fronts columns p.1 s1 s2 p.2 z1 z2 as' bs rows later x y rest h.1 (rw e at rest') k.1) [
+    elim (fronts null columns p.1 s1 s2 p.2 z1 z2 as' bs rows later x y rest h.1 (rw e at rest') k.1) [
       | inl same ↦ inl (cc same.0, same.1)
       | inr other ↦ elim other [
-        | inl left ↦ inr (inl (stands_more columns rows later r q x left))
-        | inr right ↦ inr (inr (stands_more columns later rows q r y right))
+        | inl left ↦ inr (inl (stands_more null columns rows later r q x left))
+        | inr right ↦ inr (inr (stands_more null columns later rows q r y right))
       ]
     ]
 
 -- a first fault is of the header or of a data record
-abbrev LacksHeader : Table → List ℕ → Type 0
-LacksHeader table bytes = IsFirstFault table bytes fault.BadHeader
+abbrev LacksHeader : Table → (null : Option (List ℕ)) → (before : ℕ) → List ℕ → Type 0
+LacksHeader table null before bytes = IsFaultOf table null before bytes fault.BadHeader
 
-abbrev FailsLater : Table → List ℕ → LoadFault → Type 0
-FailsLater table bytes e = (rows : List (List Val)) × (next : List (List ℕ)) × Follows table bytes rows next × IsRecordFault table.columns (length rows + 1) next e
+abbrev FailsLater : Table → (null : Option (List ℕ)) → (before : ℕ) → List ℕ → LoadFault → Type 0
+FailsLater table null before bytes e = (rows : List (List Val)) × (next : List (List ℕ)) × Follows table null bytes rows next × IsRecordFault null table.columns before (length rows + 1) next e
 
-fault_cases : (table : Table) (bytes : List ℕ) (e : LoadFault) → IsFirstFault table bytes e → ((e ≡ fault.BadHeader) × LacksHeader table bytes) ⊎ FailsLater table bytes e
-fault_cases table bytes fault.BadHeader h = inl (refl, h)
-fault_cases table bytes (fault.FieldCount r) h = inr h
-fault_cases table bytes (fault.Field r p why) h = inr h
-fault_cases table bytes fault.TooManyRows h = inr h
-fault_cases table bytes fault.NoMemory h = inr h
+fault_cases : (table : Table) (null : Option (List ℕ)) (before : ℕ) (bytes : List ℕ) (e : LoadFault) → IsFaultOf table null before bytes e
+    → ((e ≡ fault.BadHeader) × LacksHeader table null before bytes) ⊎ FailsLater table null before bytes e
+fault_cases table null before bytes fault.BadHeader h = inl (refl, h)
+fault_cases table null before bytes (fault.FieldCount r) h = inr h
+fault_cases table null before bytes (fault.Field r p why) h = inr h
+fault_cases table null before bytes fault.TooManyRows h = inr h
+fault_cases table null before bytes fault.NoMemory h = inr h
 
--- a file that begins with its header doesn't lack it
-has_header : (table : Table) (bytes : List ℕ) (header : List (List ℕ)) (records : List (List (List ℕ))) → AreFirstRecords bytes (header ∷ records)
-    → IsHeader table.columns header → LacksHeader table bytes → ⊥
+-- a part that begins with its header doesn't lack it
+has_header : (table : Table) (null : Option (List ℕ)) (before : ℕ) (bytes : List ℕ) (header : List (List ℕ)) (records : List (List (List ℕ))) → AreFirstRecords bytes (header ∷ records)
+    → IsHeader table.columns header → LacksHeader table null before bytes → ⊥
 unfolding Reached
-has_header table bytes header records (s, z, (p, read, first, rest)) named (inl (s2, z2, (es, ez), none)) = ended StartRecord s2 (strip_bom bytes) z2 p es ez none read
-has_header table bytes header records (s, z, (p, read, first, rest)) named (inr (other, (s2, z2, (p', read', first', rest')), wrong)) =
+has_header table null before bytes header records (s, z, (p, read, first, rest)) named (inl (s2, z2, (es, ez), none)) = ended StartRecord s2 (strip_bom bytes) z2 p es ez none read
+has_header table null before bytes header records (s, z, (p, read, first, rest)) named (inr (other, (s2, z2, (p', read', first', rest')), wrong)) =
     let e : other ≡ header = cc (first, first', same_read _ p p' read read') in
     wrong (rw e named)
 
-pub same_loads : (table : Table) (bytes : List ℕ) (a b : List (List Val)) → Loads table bytes a → Loads table bytes b → a ≡ b
-same_loads table bytes a b h k =
+pub same_part : (table : Table) (null : Option (List ℕ)) (bytes : List ℕ) (a b : List (List Val)) → IsPartOf table null bytes a → IsPartOf table null bytes b → a ≡ b
+same_part table null bytes a b h k =
     let all = same_records StartRecord (strip_bom bytes) (h.header ∷ h.records) (k.header ∷ k.records) h.all k.all in
     let e : h.records ≡ k.records = cc all in
-    same_rows table.columns k.records a b (rw e at h.each) k.each
+    same_rows null table.columns k.records a b (rw e at h.each) k.each
 
--- a record at fault can't stand among the rows of the whole file
-among_all : (table : Table) (bytes : List ℕ) (rows later : List (List Val)) (next : List (List ℕ)) (e : LoadFault) → Loads table bytes rows
-    → Follows table bytes later next → IsRecordFault table.columns (length later + 1) next e → ⊥
+-- a record at fault can't stand among the rows of the whole part
+among_all : (table : Table) (null : Option (List ℕ)) (before : ℕ) (bytes : List ℕ) (rows later : List (List Val)) (next : List (List ℕ)) (e : LoadFault) → IsPartOf table null bytes rows
+    → before + length rows ≤ most_rows → Follows table null bytes later next → IsRecordFault null table.columns before (length later + 1) next e → ⊥
 unfolding Reached
-among_all table bytes rows later next e h k wrong = apart h.all k.first
+among_all table null before bytes rows later next e h few k wrong = apart h.all k.first
   where
     apart : AreAllRecords bytes (h.header ∷ h.records) → AreFirstRecords bytes (k.header ∷ (k.records ++ next ∷ [])) → ⊥
     apart (s, z, (p, read, first, rest), none) (s', z', (p', read', first', rest')) =
         let same = same_read _ p' p read' read in
-        let stands = front_of_all table.columns p'.1 s' p'.2 z' k.records h.records later rows next rest' k.each (s, z, rw same at rest, none) h.each in
-        sound_record table.columns (length later + 1) next stands.row e (omega (arith, stands.before, h.few)) stands.stands wrong
+        let stands = front_of_all null table.columns p'.1 s' p'.2 z' k.records h.records later rows next rest' k.each (s, z, rw same at rest, none) h.each in
+        sound_record null table.columns before (length later + 1) next stands.row e (omega (arith, stands.before, few)) stands.stands wrong
 
-pub loads_or_fails : (table : Table) (bytes : List ℕ) (rows : List (List Val)) (e : LoadFault) → Loads table bytes rows → IsFirstFault table bytes e → ⊥
+pub part_or_fails : (table : Table) (null : Option (List ℕ)) (before : ℕ) (bytes : List ℕ) (rows : List (List Val)) (e : LoadFault) → IsPartOf table null bytes rows
+    → before + length rows ≤ most_rows → IsFaultOf table null before bytes e → ⊥
 unfolding Reached
-loads_or_fails table bytes rows e h k = elim (fault_cases table bytes e k) [
-  | inl bad ↦ has_header table bytes h.header h.records (h.all.0, h.all.1, h.all.2) h.named bad.1
-  | inr later ↦ among_all table bytes rows later.0 later.1 e h later.2 later.3
+part_or_fails table null before bytes rows e h few k = elim (fault_cases table null before bytes e k) [
+  | inl bad ↦ has_header table null before bytes h.header h.records (h.all.0, h.all.1, h.all.2) h.named bad.1
+  | inr later ↦ among_all table null before bytes rows later.0 later.1 e h few later.2 later.3
 ]
 
 -- two records at fault, each after rows, are one record
-same_later : (table : Table) (bytes : List ℕ) (a b : LoadFault) (rows later : List (List Val)) (x y : List (List ℕ)) → Follows table bytes rows x
-    → Follows table bytes later y → IsRecordFault table.columns (length rows + 1) x a → IsRecordFault table.columns (length later + 1) y b → a ≡ b
+same_later : (table : Table) (null : Option (List ℕ)) (before : ℕ) (bytes : List ℕ) (a b : LoadFault) (rows later : List (List Val)) (x y : List (List ℕ)) → Follows table null bytes rows x
+    → Follows table null bytes later y → IsRecordFault null table.columns before (length rows + 1) x a → IsRecordFault null table.columns before (length later + 1) y b → a ≡ b
 unfolding Reached
-same_later table bytes a b rows later x y h k wrong wrong' = meet h.first k.first
+same_later table null before bytes a b rows later x y h k wrong wrong' = meet h.first k.first
   where
-    decide : ((length rows ≡ length later) × (x ≡ y)) ⊎ (Stands table.columns rows later x ⊎ Stands table.columns later rows y) → a ≡ b
-    decide (inl (number, e)) = same_record_fault table.columns (length later + 1) y a b (rw (number, e) at wrong) wrong'
+    decide : ((length rows ≡ length later) × (x ≡ y)) ⊎ (Stands null table.columns rows later x ⊎ Stands null table.columns later rows y) → a ≡ b
+    decide (inl (number, e)) = same_record_fault null table.columns before (length later + 1) y a b (rw (number, e) at wrong) wrong'
     decide (inr (inl s)) =
-        let index = fault_number table.columns (length later + 1) y b wrong' in
-        absurd (sound_record table.columns (length rows + 1) x s.row a (omega (arith, s.before, index)) s.stands wrong)
+        let index = fault_number null table.columns before (length later + 1) y b wrong' in
+        absurd (sound_record null table.columns before (length rows + 1) x s.row a (omega (arith, s.before, index)) s.stands wrong)
     decide (inr (inr s)) =
-        let index = fault_number table.columns (length rows + 1) x a wrong in
-        absurd (sound_record table.columns (length later + 1) y s.row b (omega (arith, s.before, index)) s.stands wrong')
+        let index = fault_number null table.columns before (length rows + 1) x a wrong in
+        absurd (sound_record null table.columns before (length later + 1) y s.row b (omega (arith, s.before, index)) s.stands wrong')
 
     meet : AreFirstRecords bytes (h.header ∷ (h.records ++ x ∷ [])) → AreFirstRecords bytes (k.header ∷ (k.records ++ y ∷ [])) → a ≡ b
     meet (s, z, (p, read, first, rest)) (s', z', (p', read', first', rest')) =
         let same = same_read _ p p' read read' in
-        decide (fronts table.columns p.1 s s' p.2 z z' h.records k.records rows later x y rest h.each (rw same at rest') k.each)
+        decide (fronts null table.columns p.1 s s' p.2 z z' h.records k.records rows later x y rest h.each (rw same at rest') k.each)
 
-pub same_fault : (table : Table) (bytes : List ℕ) (a b : LoadFault) → IsFirstFault table bytes a → IsFirstFault table bytes b → a ≡ b
-same_fault table bytes a b h k = elim (fault_cases table bytes a h) [
-  | inl bad ↦ elim (fault_cases table bytes b k) [
+pub same_part_fault : (table : Table) (null : Option (List ℕ)) (before : ℕ) (bytes : List ℕ) (a b : LoadFault) → IsFaultOf table null before bytes a → IsFaultOf table null before bytes b → a ≡ b
+same_part_fault table null before bytes a b h k = elim (fault_cases table null before bytes a h) [
+  | inl bad ↦ elim (fault_cases table null before bytes b k) [
     | inl worse ↦ bad.0 ∙ sym worse.0
-    | inr later ↦ absurd (has_header table bytes later.2.header (later.2.records ++ later.1 ∷ []) later.2.first later.2.named bad.1)
+    | inr later ↦ absurd (has_header table null before bytes later.2.header (later.2.records ++ later.1 ∷ []) later.2.first later.2.named bad.1)
   ]
-  | inr early ↦ elim (fault_cases table bytes b k) [
-    | inl bad ↦ absurd (has_header table bytes early.2.header (early.2.records ++ early.1 ∷ []) early.2.first early.2.named bad.1)
-    | inr later ↦ same_later table bytes a b early.0 later.0 early.1 later.1 early.2 later.2 early.3 later.3
+  | inr early ↦ elim (fault_cases table null before bytes b k) [
+    | inl bad ↦ absurd (has_header table null before bytes early.2.header (early.2.records ++ early.1 ∷ []) early.2.first early.2.named bad.1)
+    | inr later ↦ same_later table null before bytes a b early.0 later.0 early.1 later.1 early.2 later.2 early.3 later.3
   ]
 ]
+
+-- ---- a file in one part
+
+pub same_loads : (table : Table) (bytes : List ℕ) (a b : List (List Val)) → Loads table bytes a → Loads table bytes b → a ≡ b
+same_loads table bytes a b h k = same_part table None bytes a b h.0 k.0
+
+pub loads_or_fails : (table : Table) (bytes : List ℕ) (rows : List (List Val)) (e : LoadFault) → Loads table bytes rows → IsFirstFault table bytes e → ⊥
+loads_or_fails table bytes rows e h k = part_or_fails table None 0 bytes rows e h.0 (omega (arith, h.1)) k
+
+pub same_fault : (table : Table) (bytes : List ℕ) (a b : LoadFault) → IsFirstFault table bytes a → IsFirstFault table bytes b → a ≡ b
+same_fault table bytes a b h k = same_part_fault table None 0 bytes a b h k

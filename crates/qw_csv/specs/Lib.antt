@@ -6,3 +6,4 @@ pub mod Field
 pub mod Inner
 pub mod LoadedColumn
 pub mod Loading
+pub mod Worked

@@ -1,10 +1,10 @@
 //! One field of a table's file, as a value of its column.
 
-ghost use Rattle.std.specs.Prelude.{◌≡◌, ◌<◌, ◌↔◌, IsTrue, MatchResult, chars, length};
+ghost use Rattle.std.specs.Prelude.{◌≡◌, ◌<◌, ◌↔◌, IsTrue, None, MatchResult, chars, length};
 ghost use Rattle.qw_types.specs.Value.{IsSized};
 ghost use Rattle.qw_types.specs.declared.value.Ty.TheVariants.{Varchar};
-ghost use Rattle.qw_csv.specs.Field.{IsFieldFault, IsFieldOf, IsTypedFault, IsTypedFieldOf, val_of};
-ghost use Rattle.qw_csv.specs.Inner.Storage.{IsWrittenText};
+ghost use Rattle.qw_csv.specs.Field.{IsFieldFault, IsFieldOf, IsMarkedFault, IsMarkedFieldOf, IsTypedFault, IsTypedFieldOf, lent, val_of};
+ghost use Rattle.qw_csv.specs.Inner.Storage.{IsWrittenText, is_marked};
 
 use qw_types::date_text::read_date;
 use qw_types::numeral::read_number;
@@ -29,7 +29,7 @@ pub enum CellFault {
     /// It shows no number or date of the column's type.
     #[error("{0}")]
     Form(FieldFault),
-    /// It is empty, and the column is NOT NULL and none of texts.
+    /// It stands for null, and the column is NOT NULL and, where this is the empty field, none of texts.
     #[error("null forbidden")]
     NullForbidden,
     /// It has more characters than the column's texts may have.
@@ -39,10 +39,49 @@ pub enum CellFault {
     NotUtf8,
 }
 
-/// The value that a field stands for in a column.
-pub(crate) fn cell_of<'a>(column: &Column, field: &'a [u8]) -> Result<Cell<'a>, CellFault>
+/// Whether a field is the text that stands for null, where one does.
+pub(crate) fn is_marked(null: Option<&[u8]>, field: &[u8]) -> bool
+    ensures { result ≡ is_marked (lent null.entry) field.now }
+{
+    match null {
+        None => false,
+        Some(null) => field == null,
+    }
+}
+
+/// The value that a field stands for in a column. Where `null` is given, the field that is this text stands for null, else the empty one.
+pub(crate) fn cell_of<'a>(
+    column: &Column,
+    null: Option<&[u8]>,
+    field: &'a [u8],
+) -> Result<Cell<'a>, CellFault>
     requires { IsSized column.now.ty }
-    ensures { MatchResult result (λ cell. IsFieldOf column.now field.now (val_of cell)) (IsFieldFault column.now field.now) }
+    ensures { MatchResult result (λ cell. IsFieldOf (lent null.entry) column.now field.now (val_of cell)) (IsFieldFault (lent null.entry) column.now field.now) }
+{
+    if null.is_none() {
+        return plain_cell(column, field);
+    }
+    marked_cell(column, is_marked(null, field), field)
+}
+
+/// The same, where a text stands for null, by whether the field is this text.
+fn marked_cell<'a>(column: &Column, marked: bool, field: &'a [u8]) -> Result<Cell<'a>, CellFault>
+    requires { IsSized column.now.ty }
+    ensures { MatchResult result (λ cell. IsMarkedFieldOf marked column.now field.now (val_of cell)) (IsMarkedFault marked column.now field.now) }
+{
+    if !marked {
+        return typed_cell(&column.ty, field);
+    }
+    if column.not_null {
+        return Err(CellFault::NullForbidden);
+    }
+    Ok(Cell::Null)
+}
+
+/// The same, where the empty field stands for null.
+fn plain_cell<'a>(column: &Column, field: &'a [u8]) -> Result<Cell<'a>, CellFault>
+    requires { IsSized column.now.ty }
+    ensures { MatchResult result (λ cell. IsFieldOf None column.now field.now (val_of cell)) (IsFieldFault None column.now field.now) }
 {
     if !field.is_empty() {
         return typed_cell(&column.ty, field);
@@ -54,7 +93,7 @@ pub(crate) fn cell_of<'a>(column: &Column, field: &'a [u8]) -> Result<Cell<'a>, 
     }
 }
 
-/// The value that a field that isn't empty stands for in a column of a type.
+/// The value that a field that is judged by a type stands for.
 fn typed_cell<'a>(ty: &Ty, field: &'a [u8]) -> Result<Cell<'a>, CellFault>
     requires { IsSized ty.now }
     ensures { MatchResult result (λ cell. IsTypedFieldOf ty.now field.now (val_of cell)) (IsTypedFault ty.now field.now) }

@@ -1,6 +1,7 @@
 //! The rows of a table's file (RFC 4180), of columns of every type.
 //!
 //! - [`loading::load`]: the rows that the octets stand for, or the first fault of the file.
+//! - [`loading::load_parts`]: the same of a file in parts, and with a text that stands for null.
 //! - [`loader::Loader`]: the same of a file that comes in pieces.
 //! - [`loaded::Loaded`]: rows in memory, their values by row and column.
 //! - [`loaded_column::LoadedColumn`]: one column of them by itself, so that columns can be freed one after another.
@@ -14,6 +15,7 @@ pub mod loaded;
 pub mod loaded_column;
 pub mod loader;
 pub mod loading;
+pub mod part_laws;
 mod place;
 mod storage;
 mod wide;

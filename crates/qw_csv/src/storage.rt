@@ -14,10 +14,10 @@ ghost use Rattle.qw_types.specs.Contents.{column_type};
 ghost use Rattle.qw_csv.specs.Cells.{AreCellsFor};
 ghost use Rattle.qw_csv.specs.Contents.{integer_column};
 ghost use Rattle.qw_types.specs.declared.schema.ColumnType.{ColumnType};
-ghost use Rattle.qw_csv.specs.Field.{IsFieldFault, IsFieldOf, val_of};
+ghost use Rattle.qw_csv.specs.Field.{IsFieldFault, IsFieldOf, lent, val_of};
 ghost use Rattle.qw_csv.specs.Inner.Storage.{AreCellsOf, AreEnds, AreKept, IsLiteralOf, is_null, placed, plain_values, texts_from, values_in};
 
-use crate::cell::{Cell, CellFault, cell_of, is_short_text};
+use crate::cell::{Cell, CellFault, cell_of, is_marked, is_short_text};
 use crate::column_cells::ColumnCells;
 use qw_types::date_text::read_date;
 use qw_types::numeral::{read_integer, read_number};
@@ -248,7 +248,7 @@ impl Values {
         requires kept { AreKept (column_type column.now) self.old }
         requires sized { IsSized column.now.ty }
         ensures { IfOk result (λ put. MatchBool put
-            ((value : Val) × IsFieldOf column.now field.now value × AreKept (column_type column.now) self.new × (values_in self.new ≡ values_in self.old ++ value ∷ []))
+            ((value : Val) × IsLiteralOf column.now.ty field.now value × AreKept (column_type column.now) self.new × (values_in self.new ≡ values_in self.old ++ value ∷ []))
             (self.new ≡ self.old)) }
     {
         if !self.cells.push_literal(column, field)? {
@@ -262,22 +262,27 @@ impl Values {
 }
 
 impl Values {
-    /// Puts the value that a field of the column stands for behind the others, or tells why it stands for none.
+    /// Puts the value that a field of the column stands for behind the others, or tells why it stands for none. Where `null` is given, the
+    /// field that is this text stands for null, else the empty one.
     pub(crate) fn push_field(
         &mut self,
         column: &Column,
+        null: Option<&[u8]>,
         field: &[u8],
     ) -> Result<Result<(), CellFault>, NoMemory>
         requires kept { AreKept (column_type column.now) self.old }
         requires sized { IsSized column.now.ty }
         ensures { IfOk result (λ put. MatchResult put
-            (λ _. (value : Val) × IsFieldOf column.now field.now value × AreKept (column_type column.now) self.new × (values_in self.new ≡ values_in self.old ++ value ∷ []))
-            (IsFieldFault column.now field.now)) }
+            (λ _. (value : Val) × IsFieldOf (lent null.entry) column.now field.now value × AreKept (column_type column.now) self.new × (values_in self.new ≡ values_in self.old ++ value ∷ []))
+            (IsFieldFault (lent null.entry) column.now field.now)) }
     {
+        if is_marked(null, field) {
+            return self.push_other(column, null, field);
+        }
         if self.push_literal(column, field)? {
             return Ok(Ok(()));
         }
-        self.push_other(column, field)
+        self.push_other(column, null, field)
     }
 
     /// As [`Values::push_field`], of a field in any form.
@@ -286,15 +291,16 @@ impl Values {
     fn push_other(
         &mut self,
         column: &Column,
+        null: Option<&[u8]>,
         field: &[u8],
     ) -> Result<Result<(), CellFault>, NoMemory>
         requires kept { AreKept (column_type column.now) self.old }
         requires sized { IsSized column.now.ty }
         ensures { IfOk result (λ put. MatchResult put
-            (λ _. (value : Val) × IsFieldOf column.now field.now value × AreKept (column_type column.now) self.new × (values_in self.new ≡ values_in self.old ++ value ∷ []))
-            (IsFieldFault column.now field.now)) }
+            (λ _. (value : Val) × IsFieldOf (lent null.entry) column.now field.now value × AreKept (column_type column.now) self.new × (values_in self.new ≡ values_in self.old ++ value ∷ []))
+            (IsFieldFault (lent null.entry) column.now field.now)) }
     {
-        match cell_of(column, field) {
+        match cell_of(column, null, field) {
             Ok(cell) => {
                 self.push(column_type(column), cell)?;
                 Ok(Ok(()))

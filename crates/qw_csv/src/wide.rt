@@ -5,7 +5,7 @@ ghost use Rattle.csv.specs.Reading.{strip_bom};
 ghost use Rattle.qw_csv.specs.Inner.Loading.{HasRead};
 ghost use Rattle.qw_csv.specs.Inner.Wide.{BeginsWide, IsTooWide};
 
-use crate::loading::{LoadFault, Taken, next_record, reader_of};
+use crate::loading::{LoadFault, Taken, next_record, number_behind, reader_of};
 use csv::{ByteRecord, Reader};
 use qw_types::NoMemory;
 use qw_types::schema::MAX_ROWS;
@@ -13,14 +13,15 @@ use std::alloc::Global;
 
 /// The fault of a record with more fields than there are columns, behind the records that were taken.
 pub(crate) fn too_wide(taken: &Taken) -> LoadFault
-    ensures { IsTooWide taken.now.named taken.now.loaded.rows result }
+    ensures { IsTooWide taken.now.named taken.now.before taken.now.loaded.rows result }
 {
     if !taken.named {
         return LoadFault::BadHeader;
     }
     let rows = taken.loaded.len();
     if rows < MAX_ROWS {
-        return LoadFault::FieldCount { row: rows + 1 };
+        let row = number_behind(taken.before, rows);
+        return LoadFault::FieldCount { row };
     }
     LoadFault::TooManyRows
 }

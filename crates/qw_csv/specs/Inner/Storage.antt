@@ -1,5 +1,6 @@
 -- Mirrors how `storage::Values` keeps the values of a column.
-use Rattle.std.specs.Prelude.{◌≡◌, ◌≤◌, ◌-◌, ℕ, pos, List, [], ◌∷◌, Bool, true, false, length, map, take, drop, if◌then◌else◌}
+use Rattle.std.specs.Prelude.{◌≡◌, ◌≤◌, ◌-◌, ℕ, pos, List, [], ◌∷◌, Bool, true, false, Option, Some, None, length, map, take, drop, if◌then◌else◌}
+use Rattle.std.specs.Str.{bytes_eq}
 use Rattle.std.specs.List.{AllByRecursion}
 use Rattle.qw_types.specs.DateText.{ShowsDate}
 use Rattle.qw_types.specs.Numeral.{IsNumberOf}
@@ -89,3 +90,8 @@ pub record AreKept (type : ColumnType) (kept : Values) : Type 0 where
   pub flags : AreFlags type.not_null (length (plain_values kept.cells)) kept.nulls.items
   pub typed : AllByRecursion (IsOfColumnType type) (values_in kept)
   pub blank : plain_values kept.cells ≡ map (placed type.ty) (values_in kept)
+
+-- whether a field is the text that stands for null, where one does
+abbrev pub is_marked : Option (List ℕ) → List ℕ → Bool
+is_marked None field = false
+is_marked (Some null) field = bytes_eq field null

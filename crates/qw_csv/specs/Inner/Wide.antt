@@ -1,5 +1,5 @@
 -- Mirrors `wide::is_wide` and `wide::too_wide`: a record with more fields than there are columns, of which more may come.
-use Rattle.std.specs.Prelude.{◌≡◌, ◌≤◌, ◌<◌, ◌+◌, ℕ, Bool, true, false, List, [], ◌∷◌, length}
+use Rattle.std.specs.Prelude.{◌≡◌, ◌≤◌, ◌<◌, ◌+◌, ◌-◌, ℕ, Bool, true, false, List, [], ◌∷◌, length}
 use Rattle.csv.specs.Reading.{Reached, default_config}
 use Rattle.csv.specs.declared.parser.State.{State}
 use Rattle.csv.specs.declared.parser.State.TheVariants.{StartRecord}
@@ -16,9 +16,9 @@ pub record BeginsWide (text : List ℕ) (most : ℕ) : Type 0 where
   pub reached : Reached default_config StartRecord text (fields ∷ []) state rest
   pub wide : most < length fields
 
--- what is wrong with a record of too many fields behind the records that were taken
-abbrev pub IsTooWide : (named : Bool) → List (List Val) → LoadFault → Type 0
-IsTooWide false rows e = e ≡ BadHeader
-IsTooWide true rows (FieldCount row) = (length rows < most_rows) × (row ≡ length rows + 1)
-IsTooWide true rows TooManyRows = most_rows ≤ length rows
-IsTooWide true rows _ = ⊥
+-- what is wrong with a record of too many fields behind the records that were taken, where so many rows are of the parts before
+abbrev pub IsTooWide : (named : Bool) → (before : ℕ) → List (List Val) → LoadFault → Type 0
+IsTooWide false before rows e = e ≡ BadHeader
+IsTooWide true before rows (FieldCount row) = (length rows < most_rows) × (before ≤ length rows → row ≡ (length rows - before) + 1)
+IsTooWide true before rows TooManyRows = most_rows ≤ length rows
+IsTooWide true before rows _ = ⊥
