@@ -5,7 +5,7 @@ use Rattle.std.specs.List.{AllByRecursion, AllZip}
 use Rattle.qw_types.specs.Contents.{Contents}
 use Rattle.qw_types.specs.Limits.{most_tables}
 use Rattle.qw_types.specs.declared.schema.Table.{Table}
-use Rattle.qw_csv.proofs.ColumnLaws.{loaded_of_parts}
+use Rattle.qw_csv.proofs.ColumnLaws.{parts_of_columns}
 use Rattle.qw_meaning.specs.Select.{AreOfEntries, entries_of}
 use Rattle.qw_grouped.specs.Whole.{sources_in}
 use Rattle.qw_schema.proofs.SchemaLemmas.{ReadsSchema-tables}
@@ -40,7 +40,7 @@ contents_of files names [] [] are = tt
 contents_of files names [] (one ∷ tables) are = are
 contents_of files names (table ∷ schema) [] are = are
 contents_of files names (table ∷ schema) (one ∷ tables) are = (
-  record { columns = are.0.columns; few = are.0.loads.few; typed = loaded_of_parts table names.null are.0.parts one.rows are.0.loads },
+  record { columns = are.0.columns; few = are.0.loads.few; typed = parts_of_columns table names.null are.0.parts one.rows are.0.loads },
   contents_of files names schema tables are.1,
 )
 

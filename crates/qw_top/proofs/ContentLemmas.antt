@@ -7,7 +7,7 @@ use Rattle.qw_types.specs.declared.schema.ColumnType.{ColumnType}
 use Rattle.qw_types.specs.declared.schema.Table.{Table}
 use Rattle.qw_types.specs.declared.value.Val.{Val}
 use Rattle.qw_csv.specs.Loading.{IsFirstPartFault, LoadsParts}
-use Rattle.qw_csv.proofs.LoadingLaws.{loads_or_part_fails, same_part_fault, same_part_loads}
+use Rattle.qw_csv.proofs.PartLaws.{parts_or_fail, same_first_part, same_loads_parts}
 use Rattle.qw_schema.specs.Parse.{IsRefused, ReadsSchema}
 use Rattle.qw_parse.specs.Script.{IsScriptRefused}
 use Rattle.qw_parse.proofs.ScriptLemmas.{refused_one, script_or_refused}
@@ -113,13 +113,13 @@ module _ (told : List ℕ → Option (List ℕ)) where
   TableIs-unique names table a b h k =
       let e = HoldAll-unique names table.name h.parts k.parts h.held k.held in
       same_contents a b (h.columns ∙ sym k.columns)
-      (same_part_loads table names.null k.parts a.rows b.rows (subst (λ (p : List (List ℕ)). LoadsParts table names.null p a.rows) e h.loads) k.loads)
+      (same_loads_parts table names.null k.parts a.rows b.rows (subst (λ (p : List (List ℕ)). LoadsParts table names.null p a.rows) e h.loads) k.loads)
 
   pub TableIs-refused : (names : Names) (table : Table) (one : Contents) (cause : Cause) → TableIs (Some told) names table one → IsNoTable (Some told) names table cause → ⊥
   TableIs-refused names table one cause h (inl (part, is, long)) = none_long names table h.parts part h.held long
   TableIs-refused names table one cause h (inr (part, fault, is, (parts, held, fails))) =
       let e = HoldAll-unique names table.name h.parts parts h.held held in
-      loads_or_part_fails table names.null parts one.rows part fault (subst (λ (p : List (List ℕ)). LoadsParts table names.null p one.rows) e h.loads) fails
+      parts_or_fail table names.null parts one.rows part fault (subst (λ (p : List (List ℕ)). LoadsParts table names.null p one.rows) e h.loads) fails
 
   pub IsNoTable-unique : (names : Names) (table : Table) (cause other : Cause) → IsNoTable (Some told) names table cause → IsNoTable (Some told) names table other → cause ≡ other
   IsNoTable-unique names table cause other (inl (part, is, long)) (inl (part', is', long')) =
@@ -128,7 +128,7 @@ module _ (told : List ℕ → Option (List ℕ)) where
   IsNoTable-unique names table cause other (inr (part, fault, is, (parts, held, fails))) (inl (part', is', long)) = absurd (none_long names table parts part' held long)
   IsNoTable-unique names table cause other (inr (part, fault, is, (parts, held, fails))) (inr (part', fault', is', (parts', held', fails'))) =
       let e = HoldAll-unique names table.name parts parts' held held' in
-      let (same, f) = same_part_fault table names.null parts' part part' fault fault' (subst (λ (p : List (List ℕ)). IsFirstPartFault table names.null p part fault) e fails) fails' in
+      let (same, f) = same_first_part table names.null parts' part part' fault fault' (subst (λ (p : List (List ℕ)). IsFirstPartFault table names.null p part fault) e fails) fails' in
       is ∙ ap (λ (n : ℕ). table_refused table (told_part names.parts n) fault) same ∙ ap (table_refused table (told_part names.parts part')) f ∙ sym is'
 
   -- ---- the tables of a schema

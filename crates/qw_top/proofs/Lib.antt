@@ -12,6 +12,7 @@ mod EntryLemmas
 mod GeneratedLemmas
 mod InputLemmas
 mod OutputLemmas
+mod PlainLemmas
 mod QueryLemmas
 mod ReportLemmas
 mod RunLemmas
