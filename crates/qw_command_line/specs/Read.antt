@@ -1,5 +1,7 @@
 -- What `read` returns of the words of the command line.
-use Rattle.std.specs.Prelude.{◌≡◌, Result, Ok, Err}
+use Rattle.std.specs.Prelude.{◌≡◌, Option, Result, Ok, Err, option_map}
+use Rattle.std.specs.Borrow.{Bor}
+use Rattle.clap.specs.Words.{Text}
 use Rattle.qw_command_line.specs.Words.{Command, Names, RunOptions, TextNames, run, compile, check, gen, Reading, command, out_of_range, no_command}
 use Rattle.qw_command_line.specs.declared.command.CompileWords.{CompileWords}
 use Rattle.qw_command_line.specs.declared.command.RunOptions.{RunOptions as ReadOptions}
@@ -9,9 +11,13 @@ use Rattle.qw_command_line.specs.declared.command.Command.TheVariants.{Run, Comp
 use Rattle.qw_command_line.specs.declared.command.WordsFault.{WordsFault}
 use Rattle.qw_command_line.specs.declared.command.WordsFault.TheVariants.{Refused, OutOfRange, NoMemory}
 
--- the names that words which were read give
+-- the text that is lent, if one is
+abbrev pub text_of : Option (Bor Text) → Option Text
+text_of text = option_map (λ x. x.now) text
+
+-- the names that words which were read give, and what table files are read by
 abbrev pub names_of : RunWords → Names
-names_of words = record { schema = words.schema.now; folder = words.folder.now; queries = words.queries.now }
+names_of words = record { schema = words.schema.now; folder = words.folder.now; queries = words.queries.now; null = text_of words.null; parts = words.parts }
 
 -- the options that were read
 abbrev pub options_of : ReadOptions → RunOptions

@@ -1,5 +1,5 @@
 -- The words of the command line: the program's commands in the terms of the crate `clap`, and the words that are read as one of them.
-use Rattle.std.specs.Prelude.{ℕ, ◌&&◌, nat_le, Bool, true, false, if◌then◌else◌, List, [], ◌∷◌, Option, Some, None, codes}
+use Rattle.std.specs.Prelude.{ℕ, ◌&&◌, nat_le, Bool, true, false, if◌then◌else◌, List, [], ◌∷◌, length, Option, Some, None, codes}
 use Rattle.std.specs.Option.{option_map_or}
 use Rattle.std.specs.Str.{bytes_eq}
 use Rattle.std.specs.Str.Parse.{digits_value}
@@ -9,7 +9,7 @@ use Rattle.clap.specs.Kinds.{Kinds}
 use Rattle.clap.specs.declared.builder.action.ArgAction.TheVariants.{SetTrue}
 use Rattle.qw_types.specs.Digits.{are_digits}
 use Rattle.qw_command_line.specs.declared.command.Number.{Number}
-use Rattle.qw_command_line.specs.declared.command.Number.TheVariants.{Quantum, Pages, Steps, Statement, Seed, Rows}
+use Rattle.qw_command_line.specs.declared.command.Number.TheVariants.{Quantum, Pages, Steps, Statement, Seed, Rows, Null, Parts}
 
 -- ---- the numbers that words give
 
@@ -21,6 +21,8 @@ name_of Steps = codes "steps"
 name_of Statement = codes "statement"
 name_of Seed = codes "SEED"
 name_of Rows = codes "ROWS"
+name_of Null = codes "null"
+name_of Parts = codes "parts"
 
 -- its least value
 abbrev pub least_of : Number → ℕ
@@ -30,6 +32,8 @@ least_of Steps = 1
 least_of Statement = 1
 least_of Seed = 0
 least_of Rows = 0
+least_of Null = 1
+least_of Parts = 1
 
 -- its greatest value
 abbrev pub most_of : Number → ℕ
@@ -39,12 +43,18 @@ most_of Steps = 999999999999999999
 most_of Statement = 64
 most_of Seed = 18446744073709551615
 most_of Rows = 100000
+most_of Null = 100
+most_of Parts = 999
+
+-- whether a number is in its range
+abbrev pub is_in_range : Number → ℕ → Bool
+is_in_range number value = nat_le (least_of number) value && nat_le value (most_of number)
 
 -- its value by a word, which is one or more digits and in its range
 abbrev pub value_in_range : Number → Text → Option ℕ
 value_in_range number word =
     let value = digits_value 10 word in
-    if are_digits word && (nat_le (least_of number) value && nat_le value (most_of number)) then Some value else None
+    if are_digits word && is_in_range number value then Some value else None
 
 -- ---- the program in clap's terms
 
@@ -72,9 +82,13 @@ bare_run_app = with_rule (with_rule (with_rule (new_app (codes "run")) (place (c
 abbrev pub with_run_options : App → App
 with_run_options app = with_rule (with_rule (with_rule (with_rule app (option (name_of Quantum))) (option (name_of Pages))) (option (name_of Steps))) stats_option
 
--- `run SCHEMA DIR QUERIES [--quantum N] [--pages N] [--steps N] [--stats]`
+-- `.. [--null TEXT] [--parts N]`
+abbrev pub with_file_options : App → App
+with_file_options app = with_rule (with_rule app (option (name_of Null))) (option (name_of Parts))
+
+-- `run SCHEMA DIR QUERIES [--quantum N] [--pages N] [--steps N] [--stats] [--null TEXT] [--parts N]`
 abbrev pub run_app : App
-run_app = with_run_options bare_run_app
+run_app = with_file_options (with_run_options bare_run_app)
 
 -- `compile SCHEMA QUERIES --statement K`
 abbrev pub compile_app : App
@@ -101,11 +115,14 @@ program = with_subcommand (with_subcommand (with_subcommand (with_subcommand bar
 
 -- ---- words that are read
 
--- what `run` is given: the schema file, the folder of the table files, the queries file
+-- What `run` is given: the schema file, the folder of the table files, the queries file, the text that stands for null in table files, if one does, and
+-- how many parts the file of each table has, if it is in parts.
 pub record Names : Type 0 where
   pub schema : Text
   pub folder : Text
   pub queries : Text
+  pub null : Option Text
+  pub parts : Option ℕ
 
 -- What `run` and `gen` are given beside their input: how many pages a query may hold, how many instructions it may run, how many of them a turn has, and
 -- whether counts of what was used are written.
@@ -160,10 +177,23 @@ with_options rows read = with_option rows Quantum default_options.quantum (λ qu
     with_option rows Steps default_options.steps (λ steps.
     read (record { pages = pages; steps = steps; quantum = quantum; counts = is_given rows (codes "stats") }))))
 
+-- what the text that stands for null is read as, which may be left out, by how many octets it has
+abbrev pub with_null : List Row → (Option Text → Reading) → Reading
+with_null rows read = option_map_or (λ text. if is_in_range Null (length text) then read (Some text) else out_of_range Null) (first_of (name_of Null) rows) (read None)
+
+-- what the number of parts is read as, which may be left out
+abbrev pub with_parts : List Row → (Option ℕ → Reading) → Reading
+with_parts rows read = option_map_or (λ word. with_number Parts word (λ parts. read (Some parts))) (first_of (name_of Parts) rows) (read None)
+
+-- the options of `run`, by the words for its places
+abbrev pub run_with : List Row → (schema folder queries : Text) → Reading
+run_with rows schema folder queries = with_options rows (λ options. with_null rows (λ null. with_parts rows (λ parts.
+    command (run (record { schema = schema; folder = folder; queries = queries; null = null; parts = parts }) options))))
+
 -- the matches of `run`
 abbrev pub read_run : List Row → Reading
 read_run rows = with_value rows (codes "SCHEMA") (λ schema. with_value rows (codes "DIR") (λ folder. with_value rows (codes "QUERIES") (λ queries.
-    with_options rows (λ options. command (run (record { schema = schema; folder = folder; queries = queries }) options)))))
+    run_with rows schema folder queries)))
 
 -- those of `compile`
 abbrev pub read_compile : List Row → Reading

@@ -1,11 +1,11 @@
 //! What words that were read ask for, and why others aren't read.
 
-ghost use Rattle.std.specs.Prelude.{◌≡◌, ◌≤◌};
+ghost use Rattle.std.specs.Prelude.{◌≡◌, ◌≤◌, ℕ, Some};
 ghost use Rattle.qw_command_line.specs.Words.{least_of, most_of, name_of};
 
 use thiserror::Error;
 
-/// A number that a word gives, from a least to a greatest value of its own.
+/// A number that a word gives, as digits or as how many octets it has, from a least to a greatest value of its own.
 #[derive(Clone, Copy, Debug)]
 pub enum Number {
     /// How many instructions of a query have a turn.
@@ -20,6 +20,10 @@ pub enum Number {
     Seed,
     /// How many rows of a table are generated.
     Rows,
+    /// How many octets the text has that stands for null in table files.
+    Null,
+    /// How many parts the file of a table has.
+    Parts,
 }
 
 impl Number {
@@ -34,6 +38,8 @@ impl Number {
             Number::Statement => "statement",
             Number::Seed => "SEED",
             Number::Rows => "ROWS",
+            Number::Null => "null",
+            Number::Parts => "parts",
         }
     }
 
@@ -42,8 +48,8 @@ impl Number {
         ensures { result ≡ least_of self }
     {
         match self {
-            Number::Quantum | Number::Pages | Number::Steps | Number::Statement => 1,
             Number::Seed | Number::Rows => 0,
+            _ => 1,
         }
     }
 
@@ -58,6 +64,8 @@ impl Number {
             Number::Statement => 64,
             Number::Seed => 18_446_744_073_709_551_615,
             Number::Rows => 100_000,
+            Number::Null => 100,
+            Number::Parts => 999,
         }
     }
 }
@@ -99,8 +107,14 @@ pub struct RunWords<'a> {
     pub folder: &'a str,
     /// The name of the queries file.
     pub queries: &'a str,
+    /// The text of 1 to 100 octets that stands for null in table files, if one does.
+    pub null: Option<&'a str>,
+    /// How many parts the file of each table has, from 1 to 999, if it is in parts.
+    pub parts: Option<u64>,
     /// What else it is given.
     pub options: RunOptions,
+    ghost some_parts: { (count : ℕ) → parts ≡ Some count → 1 ≤ count },
+    ghost few_parts: { (count : ℕ) → parts ≡ Some count → count ≤ 999 },
 }
 
 /// The words of `compile`.
@@ -144,7 +158,7 @@ pub enum WordsFault {
     /// They are those of no command, or ask for help. The text is for the user.
     #[error("the words are those of no command")]
     Refused(String),
-    /// The word for a number isn't digits, or out of its range.
+    /// The word for a number isn't digits, or out of its range; the text that stands for null has no octet, or too many.
     #[error("a number is out of range")]
     OutOfRange(Number),
     #[error("want of memory")]

@@ -28,11 +28,12 @@ pub(crate) fn program<'a>(alloc: Global) -> Result<Command<'a>, AllocError>
     program.subcommand(generate(alloc)?)
 }
 
-/// `run SCHEMA DIR QUERIES [--quantum N] [--pages N] [--steps N] [--stats]`.
+/// `run SCHEMA DIR QUERIES [--quantum N] [--pages N] [--steps N] [--stats] [--null TEXT] [--parts N]`.
 fn run<'a>(alloc: Global) -> Result<Command<'a>, AllocError>
     ensures { IfOk result (λ run. IsApp run spec.run_app) }
 {
-    with_run_options(alloc, bare_run(alloc)?)
+    let run = with_run_options(alloc, bare_run(alloc)?)?;
+    with_file_options(alloc, run)
 }
 
 /// `run SCHEMA DIR QUERIES`.
@@ -135,21 +136,44 @@ fn with_run_options<'a>(alloc: Global, command: Command<'a>) -> Result<Command<'
         alloc,
         command,
         Number::Quantum.name(),
+        "N",
         "Instructions of a query in one turn, 1 to 1000000000 [default: 10000]",
     )?;
     let command = with_option(
         alloc,
         command,
         Number::Pages.name(),
+        "N",
         "Pages of 65536 octets that a query may hold, 1 to 65535 [default: 128]",
     )?;
     let command = with_option(
         alloc,
         command,
         Number::Steps.name(),
+        "N",
         "Instructions that a query may run [default: 999999999999999999]",
     )?;
     with_stats(alloc, command)
+}
+
+/// The command with the options of table files.
+fn with_file_options<'a>(alloc: Global, command: Command<'a>) -> Result<Command<'a>, AllocError>
+    ensures { IfOk result (λ more. (app : App) → IsApp command.entry app → IsApp more (spec.with_file_options app)) }
+{
+    let command = with_option(
+        alloc,
+        command,
+        Number::Null.name(),
+        "TEXT",
+        "The field that stands for null, 1 to 100 octets [default: the empty field]",
+    )?;
+    with_option(
+        alloc,
+        command,
+        Number::Parts.name(),
+        "N",
+        "Parts of each table's file, 1 to 999: t.1.csv to t.N.csv for table T",
+    )
 }
 
 /// The command with one more place, which has to be filled, and a line of help on it.
@@ -164,16 +188,17 @@ fn with_place<'a>(
     command.arg(Arg::new(alloc, name).required(true).help(help))
 }
 
-/// The command with one more option, `--NAME N`, which may be left out, and a line of help on it.
+/// The command with one more option, `--NAME VALUE`, which may be left out, and a line of help on it.
 fn with_option<'a>(
     alloc: Global,
     command: Command<'a>,
     name: &'a str,
+    value: &'a str,
     help: &'a str,
 ) -> Result<Command<'a>, AllocError>
     ensures { IfOk result (λ more. (app : App) → IsApp command.entry app → IsApp more (with_rule app (spec.option name.entry.now))) }
 {
-    let option = Arg::new(alloc, name).long(name).value_name("N").help(help);
+    let option = Arg::new(alloc, name).long(name).value_name(value).help(help);
     command.arg(option)
 }
 

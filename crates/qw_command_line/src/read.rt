@@ -1,9 +1,9 @@
 //! Words, read as one of the commands.
 
-ghost use Rattle.std.specs.Prelude.{◌≡◌, ◌≤◌, ℕ, map, IfOk};
+ghost use Rattle.std.specs.Prelude.{◌≡◌, ◌≤◌, ℕ, Option, Some, map, IfOk};
 ghost use Rattle.std.specs.String.{string_bytes};
-ghost use Rattle.clap.specs.Words.{first_of, found_of, kind_of, rows_of, subcommand_rows_of};
-ghost use Rattle.qw_command_line.specs.Inner.Values.{IsRefusal, IsValue, gen_read, number_read, options_read};
+ghost use Rattle.clap.specs.Words.{Text, first_of, found_of, kind_of, rows_of, subcommand_rows_of};
+ghost use Rattle.qw_command_line.specs.Inner.Values.{IsRefusal, IsValue, gen_read, null_read, number_read, options_read, parts_read, run_read};
 ghost use Rattle.qw_command_line.specs.Read.{Answers};
 ghost use Rattle.qw_command_line.specs.Words as spec;
 
@@ -21,7 +21,8 @@ use std::alloc::Global;
 /// # Errors
 ///
 /// `Refused` where `clap` takes them for no command of the program, with its text; `OutOfRange` where it does, and the word for this
-/// number isn't one or more digits with a value in its range, those for `SEED`, `ROWS`, `quantum`, `pages` and `steps` being read in this order;
+/// number isn't one or more digits with a value in its range, those for `SEED`, `ROWS`, `quantum`, `pages`, `steps`, `null` and `parts` being read in this
+/// order, and that for `null` being any text of 1 to 100 octets;
 /// `NoMemory`.
 pub fn read<'a>(alloc: Global, words: &'a [String]) -> Result<Command<'a>, WordsFault>
     ensures { Answers (spec.reading (map string_bytes words.entry.now)) result }
@@ -89,15 +90,32 @@ fn read_run<'a>(alloc: Global, matches: &ArgMatches<'a>) -> Result<Command<'a>, 
     let schema = value(alloc, matches, "SCHEMA")?;
     let folder = value(alloc, matches, "DIR")?;
     let queries = value(alloc, matches, "QUERIES")?;
-    match options_of(matches) {
-        Ok(options) => Ok(Command::Run(RunWords {
-            schema,
-            folder,
-            queries,
-            options,
-        })),
+    match run_words(matches, schema, folder, queries) {
+        Ok(words) => Ok(Command::Run(words)),
         Err(number) => Err(WordsFault::OutOfRange(number)),
     }
+}
+
+/// What `run` is given, by the words for its places.
+fn run_words<'a>(
+    matches: &ArgMatches<'a>,
+    schema: &'a str,
+    folder: &'a str,
+    queries: &'a str,
+) -> Result<RunWords<'a>, Number>
+    ensures { spec.run_with (rows_of (found_of matches.now)) schema.entry.now folder.entry.now queries.entry.now ≡ run_read result }
+{
+    let options = options_of(matches)?;
+    let null = null_of(matches)?;
+    let parts = parts_of(matches)?;
+    Ok(RunWords {
+        schema,
+        folder,
+        queries,
+        null,
+        parts,
+        options,
+    })
 }
 
 /// The matches of `compile`.
@@ -186,6 +204,40 @@ fn options_of(matches: &ArgMatches) -> Result<RunOptions, Number>
     })
 }
 
+/// The text that stands for null, if one does.
+///
+/// # Errors
+///
+/// The number of its octets where it has none, or too many.
+fn null_of<'a>(matches: &ArgMatches<'a>) -> Result<Option<&'a str>, Number>
+    ensures { (read : Option Text → spec.Reading) → spec.with_null (rows_of (found_of matches.now)) read ≡ null_read result read }
+{
+    match matches.get_str(Number::Null.name()) {
+        Some(text) if is_in_range(Number::Null, text.len() as u64) => Ok(Some(text)),
+        Some(_) => Err(Number::Null),
+        None => Ok(None),
+    }
+}
+
+/// The number of parts of the file of a table, if it is in parts.
+///
+/// # Errors
+///
+/// The number where its word isn't digits, or out of its range.
+fn parts_of(matches: &ArgMatches) -> Result<Option<u64>, Number>
+    ensures reads { (read : Option ℕ → spec.Reading) → spec.with_parts (rows_of (found_of matches.now)) read ≡ parts_read result read }
+    ensures least { IfOk result (λ parts. (count : ℕ) → parts ≡ Some count → 1 ≤ count) }
+    ensures most { IfOk result (λ parts. (count : ℕ) → parts ≡ Some count → count ≤ 999) }
+{
+    match matches.get_str(Number::Parts.name()) {
+        Some(word) => match value_in_range(Number::Parts, word) {
+            Some(count) => Ok(Some(count)),
+            None => Err(Number::Parts),
+        },
+        None => Ok(None),
+    }
+}
+
 /// The value of a number that may be left out, for another then.
 ///
 /// # Errors
@@ -224,9 +276,16 @@ fn value_in_range(number: Number, word: &str) -> Option<u64>
     let Ok(value) = word.parse::<u64>() else {
         return None;
     };
-    if number.least() <= value && value <= number.most() {
+    if is_in_range(number, value) {
         Some(value)
     } else {
         None
     }
+}
+
+/// Whether a number is in its range.
+fn is_in_range(number: Number, value: u64) -> bool
+    ensures { result ≡ spec.is_in_range number value }
+{
+    number.least() <= value && value <= number.most()
 }

@@ -1,15 +1,15 @@
 //! Words by their reading, worked out. No function here computes anything.
 #![tactic(auto, unfolding(crate::specs::Words::reading, clap::proofs::OnLiterals::clap_on_literals))]
 
-ghost use Rattle.std.specs.Prelude.{◌≡◌, ◌-◌, ◌^◌, [], ◌∷◌, codes, true, false};
+ghost use Rattle.std.specs.Prelude.{◌≡◌, ◌-◌, ◌^◌, [], ◌∷◌, codes, Some, None, replicate, true, false};
 ghost use Rattle.qw_command_line.specs.Words as spec;
-ghost use Rattle.qw_command_line.specs.Worked.{run_with, runs};
-ghost use Rattle.qw_command_line.specs.declared.command.Number.TheVariants.{Quantum, Pages, Steps, Statement, Seed, Rows};
+ghost use Rattle.qw_command_line.specs.Worked.{run_with, runs, with_files};
+ghost use Rattle.qw_command_line.specs.declared.command.Number.TheVariants.{Quantum, Pages, Steps, Statement, Seed, Rows, Null, Parts};
 
 /// Words of `run`, `compile` and `check`, and words that are refused: the number of a statement may have leading zeros, but no sign, and is from 1
 /// to 64; the option stands anywhere, with or without `=`; `run` has its default options; a request for help is none of the commands.
 pub fn worked_words()
-    ensures run { spec.reading (codes "run" ∷ codes "s" ∷ codes "d" ∷ codes "q" ∷ []) ≡ spec.command (spec.run (record { schema = codes "s"; folder = codes "d"; queries = codes "q" }) spec.default_options) }
+    ensures run { spec.reading (codes "run" ∷ codes "s" ∷ codes "d" ∷ codes "q" ∷ []) ≡ spec.command (spec.run (record { schema = codes "s"; folder = codes "d"; queries = codes "q"; null = None; parts = None }) spec.default_options) }
     ensures defaults { spec.default_options ≡ record { pages = 128; steps = 10 ^ 18 - 1; quantum = 10000; counts = false } }
     ensures compile { spec.reading (codes "compile" ∷ codes "s" ∷ codes "q" ∷ codes "--statement" ∷ codes "1" ∷ []) ≡ spec.command (spec.compile (record { schema = codes "s"; queries = codes "q" }) 1) }
     ensures equals_sign { spec.reading (codes "compile" ∷ codes "--statement=064" ∷ codes "s" ∷ codes "q" ∷ []) ≡ spec.command (spec.compile (record { schema = codes "s"; queries = codes "q" }) 64) }
@@ -78,4 +78,27 @@ pub fn worked_options()
     ensures twice { run_with (codes "--pages" ∷ codes "5" ∷ codes "--pages" ∷ codes "5" ∷ []) ≡ spec.no_command }
     ensures before { spec.reading (codes "--stats" ∷ codes "run" ∷ codes "s" ∷ codes "d" ∷ codes "q" ∷ []) ≡ spec.no_command }
     ensures other { spec.reading (codes "check" ∷ codes "m" ∷ codes "--stats" ∷ []) ≡ spec.no_command }
+{}
+
+/// The text that stands for null has 1 to 100 octets, of any kind, and table files have 1 to 999 parts, a number of digits alone. The text is told
+/// before the parts, and both behind the other numbers. None of the other commands has either.
+pub fn worked_table_files()
+    ensures null { run_with (codes "--null" ∷ codes "NULL" ∷ []) ≡ with_files (Some (codes "NULL")) None }
+    ensures sign { run_with (codes "--null=-" ∷ []) ≡ with_files (Some (codes "-")) None }
+    ensures longest { run_with (codes "--null" ∷ replicate 100 78 ∷ []) ≡ with_files (Some (replicate 100 78)) None }
+    ensures too_long { run_with (codes "--null" ∷ replicate 101 78 ∷ []) ≡ spec.out_of_range Null }
+    ensures empty { run_with (codes "--null" ∷ [] ∷ []) ≡ spec.out_of_range Null }
+    ensures one { run_with (codes "--parts" ∷ codes "1" ∷ []) ≡ with_files None (Some 1) }
+    ensures most { run_with (codes "--parts" ∷ codes "999" ∷ []) ≡ with_files None (Some 999) }
+    ensures none { run_with (codes "--parts" ∷ codes "0" ∷ []) ≡ spec.out_of_range Parts }
+    ensures many { run_with (codes "--parts" ∷ codes "1000" ∷ []) ≡ spec.out_of_range Parts }
+    ensures signed { run_with (codes "--parts" ∷ codes "+2" ∷ []) ≡ spec.out_of_range Parts }
+    ensures letters { run_with (codes "--parts" ∷ codes "two" ∷ []) ≡ spec.out_of_range Parts }
+    ensures both { run_with (codes "--parts=2" ∷ codes "--null=N" ∷ []) ≡ with_files (Some (codes "N")) (Some 2) }
+    ensures first { run_with (codes "--parts=0" ∷ codes "--null=" ∷ codes "--steps=0" ∷ []) ≡ spec.out_of_range Steps }
+    ensures second { run_with (codes "--parts=0" ∷ codes "--null=" ∷ []) ≡ spec.out_of_range Null }
+    ensures generation { spec.reading (codes "gen" ∷ codes "0" ∷ codes "0" ∷ codes "--null=N" ∷ []) ≡ spec.no_command }
+    ensures generation_parts { spec.reading (codes "gen" ∷ codes "0" ∷ codes "0" ∷ codes "--parts=1" ∷ []) ≡ spec.no_command }
+    ensures compile { spec.reading (codes "compile" ∷ codes "s" ∷ codes "q" ∷ codes "--statement=1" ∷ codes "--null=N" ∷ []) ≡ spec.no_command }
+    ensures check { spec.reading (codes "check" ∷ codes "m" ∷ codes "--parts=1" ∷ []) ≡ spec.no_command }
 {}

@@ -7,6 +7,8 @@ mod FileLemmas
 pub mod LoadedColumnFacts
 pub mod LoadingLaws
 mod MachineLemmas
+pub mod PartLaws
+mod PartLemmas
 mod PushLemmas
 mod RecordLemmas
 mod RowLemmas

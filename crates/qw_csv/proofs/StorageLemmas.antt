@@ -1,5 +1,5 @@
 -- Values that are pushed behind those of a column.
-use Rattle.std.proofs.Common.{◌≡◌, ◌≤◌, ◌<◌, ◌+◌, ◌-◌, ◌∙◌, ℕ, zero, suc, Bool, true, false, List, [], ◌∷◌, ◌++◌, length, map, take, drop, refl, sym, ap, arith, take_all, length-append, ℤ, Vec, Global, Some, get_or, not}
+use Rattle.std.proofs.Common.{◌≡◌, ◌≤◌, ◌<◌, ◌+◌, ◌-◌, ◌∙◌, ℕ, zero, suc, Bool, true, false, List, [], ◌∷◌, ◌++◌, length, map, take, drop, refl, sym, ap, arith, take_all, length-append, ℤ, Vec, Global, Option, Some, None, get_or, not}
 use Rattle.std.specs.Prelude.{Err, IsTrue, IsUtf8, MatchResult, Ok, Result, chars, if◌then◌else◌, slice_get}
 use Rattle.std.specs.Result.{is_ok}
 use Rattle.std.specs.List.{AllByRecursion}
@@ -23,7 +23,7 @@ use Rattle.qw_types.specs.declared.schema.ColumnType.{ColumnType}
 use Rattle.qw_csv.specs.declared.storage.Values.{Values}
 use Rattle.qw_types.specs.Contents.{column_type}
 use Rattle.qw_csv.specs.Contents.{integer_column}
-use Rattle.qw_csv.specs.Inner.Storage.{AreCellsOf, AreEnds, AreKept, IsLiteralOf, IsWrittenText, is_null, placed, plain_values, texts_from, values_in, with_nulls}
+use Rattle.qw_csv.specs.Inner.Storage.{AreCellsOf, AreEnds, AreKept, IsLiteralOf, IsWrittenText, is_marked, is_null, placed, plain_values, texts_from, values_in, with_nulls}
 
 -- octets behind a slice play no part in it
 slice_front : (start count : ℕ) (xs ys : List ℕ) → start + count ≤ length xs → take count (drop start (xs ++ ys)) ≡ take count (drop start xs)
@@ -240,15 +240,15 @@ typed_number (ty.Decimal precision scale) field number h = h
 typed_number ty.Date field number h = absurd h.range
 typed_number (ty.Varchar limit) field number h = absurd h.range
 
-number_field : (column : Column) (field : List ℕ) (number : ℤ) → IsNumberOf column.ty field number → IsFieldOf column field (val.Num number)
+number_field : (column : Column) (field : List ℕ) (number : ℤ) → IsNumberOf column.ty field number → IsFieldOf None column field (val.Num number)
 number_field column [] number h = absurd (false≢true h.shows.form)
 number_field column (octet ∷ octets) number h = typed_number column.ty (octet ∷ octets) number h
 
-date_field : (column : Column) (field : List ℕ) (number : ℤ) → column.ty ≡ ty.Date → ShowsDate field number → IsFieldOf column field (val.Date number)
+date_field : (column : Column) (field : List ℕ) (number : ℤ) → column.ty ≡ ty.Date → ShowsDate field number → IsFieldOf None column field (val.Date number)
 date_field column [] number is h = absurd (omega (arith, h.form.long))
 date_field column (octet ∷ octets) number is h = rw is h
 
-text_field : (column : Column) (field octets : List ℕ) → IsWrittenText column.ty field octets → IsFieldOf column field (val.Text octets)
+text_field : (column : Column) (field octets : List ℕ) → IsWrittenText column.ty field octets → IsFieldOf None column field (val.Text octets)
 text_field column [] octets h = absurd (none column.ty h)
   where
     none : (type : Ty) → IsWrittenText type [] octets → ⊥
@@ -270,11 +270,28 @@ text_typed (ty.Decimal precision scale) not_null field octets h = absurd h
 text_typed ty.Date not_null field octets h = absurd h
 text_typed (ty.Varchar limit) not_null field octets h = h.2
 
-pub literal_field : (column : Column) (field : List ℕ) (value : Val) → IsLiteralOf column.ty field value → IsFieldOf column field value
-literal_field column field val.Null h = absurd h
-literal_field column field (val.Num number) h = number_field column field number h
-literal_field column field (val.Date number) h = date_field column field number h.0 h.1
-literal_field column field (val.Text octets) h = text_field column field octets h
+literal_plain : (column : Column) (field : List ℕ) (value : Val) → IsLiteralOf column.ty field value → IsFieldOf None column field value
+literal_plain column field val.Null h = absurd h
+literal_plain column field (val.Num number) h = number_field column field number h
+literal_plain column field (val.Date number) h = date_field column field number h.0 h.1
+literal_plain column field (val.Text octets) h = text_field column field octets h
+
+-- so does a field that is judged by the type, whatever stands for null
+literal_of_type : (type : Ty) (field : List ℕ) (value : Val) → IsLiteralOf type field value → IsTypedFieldOf type field value
+literal_of_type type field val.Null h = absurd h
+literal_of_type type field (val.Num number) h = typed_number type field number h
+literal_of_type type field (val.Date number) h = rw h.0 h.1
+literal_of_type type field (val.Text octets) h = written type h
+  where
+    written : (t : Ty) → IsWrittenText t field octets → IsTypedFieldOf t field (val.Text octets)
+    written ty.Integer these = absurd these
+    written (ty.Decimal precision scale) these = absurd these
+    written ty.Date these = absurd these
+    written (ty.Varchar limit) these = (these.0, these.2)
+
+pub literal_field : (null : Option (List ℕ)) (column : Column) (field : List ℕ) (value : Val) → is_marked null field ≡ false → IsLiteralOf column.ty field value → IsFieldOf null column field value
+literal_field None column field value other h = literal_plain column field value h
+literal_field (Some null) column field value other h = rw other (literal_of_type column.ty field value h)
 
 pub literal_typed : (type : Ty) (not_null : Bool) (field : List ℕ) (value : Val) → IsLiteralOf type field value → IsOfTypeOrNull type not_null value
 literal_typed type not_null field val.Null h = absurd h
@@ -362,7 +379,7 @@ abbrev pub Literal : (column : Column) (field : List ℕ) (before after : Cells)
 Literal column field before after = (value : Val) × IsLiteralOf column.ty field value × AreCellsOf column.ty after × (plain_values after ≡ plain_values before ++ value ∷ [])
 
 abbrev pub Stored : (column : Column) (field : List ℕ) (before after : Values) → Type 0
-Stored column field before after = (value : Val) × IsFieldOf column field value × AreKept (column_type column) after × (values_in after ≡ values_in before ++ value ∷ [])
+Stored column field before after = (value : Val) × IsLiteralOf column.ty field value × AreKept (column_type column) after × (values_in after ≡ values_in before ++ value ∷ [])
 
 pub literal_kept_with_null : (column : Column) (field : List ℕ) (before after : Values) → column.not_null ≡ false → AreKept (column_type column) before
     → Literal column field before.cells after.cells → after.nulls.items ≡ before.nulls.items ++ false ∷ [] → Stored column field before after
@@ -371,7 +388,7 @@ literal_kept_with_null column field before after nullable kept (value, of, form,
     let put : plain_values after.cells ≡ plain_values before.cells ++ placed column.ty value ∷ [] = pushed ∙ ap (λ (v : Val). plain_values before.cells ++ v ∷ []) same in
     let flag : after.nulls.items ≡ before.nulls.items ++ is_null value ∷ [] = flags ∙ ap (λ (b : Bool). before.nulls.items ++ b ∷ []) not_null in
     let h = kept_with_null (column_type column) before after value nullable kept (literal_typed column.ty column.not_null field value of) form put flag in
-    (value, literal_field column field value of, h.0, h.1)
+    (value, of, h.0, h.1)
 
 pub literal_kept_not_null : (column : Column) (field : List ℕ) (before after : Values) → column.not_null ≡ true → AreKept (column_type column) before
     → Literal column field before.cells after.cells → after.nulls.items ≡ before.nulls.items → Stored column field before after
@@ -379,4 +396,4 @@ literal_kept_not_null column field before after never kept (value, of, form, pus
     let (same, _) = literal_placed column.ty field value of in
     let put : plain_values after.cells ≡ plain_values before.cells ++ placed column.ty value ∷ [] = pushed ∙ ap (λ (v : Val). plain_values before.cells ++ v ∷ []) same in
     let h = kept_not_null (column_type column) before after value never kept (literal_typed column.ty column.not_null field value of) form put flags in
-    (value, literal_field column field value of, h.0, h.1)
+    (value, of, h.0, h.1)

@@ -1,6 +1,6 @@
 //! Laws of files in parts and of the text that stands for null, and cases worked out.
 
-ghost use Rattle.std.specs.Prelude.{◌≡◌, ◌↔◌, ◌+◌, ℕ, List, [], ◌∷◌, Option, Some, None, codes, true, false};
+ghost use Rattle.std.specs.Prelude.{◌≡◌, ◌↔◌, ◌+◌, ℕ, pos, List, [], ◌∷◌, Option, Some, None, codes, true, false};
 ghost use Rattle.qw_types.specs.declared.schema.Table.{Table};
 ghost use Rattle.qw_types.specs.declared.value.Ty.TheVariants as ty;
 ghost use Rattle.qw_types.specs.declared.value.Val.{Val};
@@ -49,7 +49,7 @@ pub fn worked_null_texts()
     ensures longer { IsFieldOf (Some (codes "N")) (may_be_null (ty.Varchar 5)) (codes "NO") (val.Text (codes "NO")) }
     ensures spaced { IsFieldOf (Some (codes "N")) (may_be_null (ty.Varchar 5)) (codes " N") (val.Text (codes " N")) }
     ensures number { IsFieldFault (Some (codes "7")) (may_be_null ty.Integer) (codes "7x") (cell.Form form.NotNumber) }
-    ensures seven { IsFieldOf (Some (codes "7")) (may_be_null ty.Integer) (codes " 7") (val.Num 7) }
+    ensures seven { IsFieldOf (Some (codes "7")) (may_be_null ty.Integer) (codes " 7") (val.Num (pos 7)) }
     ensures empty_text { IsFieldOf (Some (codes "N")) (may_be_null (ty.Varchar 5)) [] (val.Text []) }
     ensures empty_text_never_null { IsFieldOf (Some (codes "N")) (never_null (ty.Varchar 5)) [] (val.Text []) }
     ensures empty_is_no_null { IsFieldOf (Some (codes "N")) (may_be_null (ty.Varchar 5)) [] val.Null → ⊥ }

@@ -1,11 +1,13 @@
--- Mirrors `read::value`, `read::number_of`, `read::options_of` and `read::gen_words`: how what they return is read on.
+-- Mirrors `read::value`, `read::number_of`, `read::options_of`, `read::null_of`, `read::parts_of`, `read::run_words` and `read::gen_words`: how what they
+-- return is read on.
 use Rattle.std.specs.Prelude.{◌≡◌, ℕ, List, Option, Some, None, Result, Ok, Err}
 use Rattle.std.specs.Borrow.{Bor}
-use Rattle.qw_command_line.specs.Read.{options_of}
-use Rattle.qw_command_line.specs.Words.{Reading, RunOptions, command, gen, out_of_range}
+use Rattle.qw_command_line.specs.Read.{names_of, options_of, text_of}
+use Rattle.qw_command_line.specs.Words.{Reading, RunOptions, command, gen, run, out_of_range}
 use Rattle.qw_command_line.specs.declared.command.Number.{Number}
 use Rattle.qw_command_line.specs.declared.command.GenWords.{GenWords}
 use Rattle.qw_command_line.specs.declared.command.RunOptions.{RunOptions as ReadOptions}
+use Rattle.qw_command_line.specs.declared.command.RunWords.{RunWords}
 use Rattle.qw_command_line.specs.declared.command.WordsFault.{WordsFault}
 use Rattle.qw_command_line.specs.declared.command.WordsFault.TheVariants.{Refused, OutOfRange, NoMemory}
 
@@ -36,3 +38,18 @@ options_read (Err number) read = out_of_range number
 abbrev pub gen_read : Result GenWords Number → Reading
 gen_read (Ok words) = command (gen words.seed words.rows (options_of words.options))
 gen_read (Err number) = out_of_range number
+
+-- what the text that stands for null is read as, or the number of its octets that is out of its range
+abbrev pub null_read : Result (Option (Bor (List ℕ))) Number → (Option (List ℕ) → Reading) → Reading
+null_read (Ok text) read = read (text_of text)
+null_read (Err number) read = out_of_range number
+
+-- what the number of parts is read as, or the number that is out of its range
+abbrev pub parts_read : Result (Option ℕ) Number → (Option ℕ → Reading) → Reading
+parts_read (Ok parts) read = read parts
+parts_read (Err number) read = out_of_range number
+
+-- what the words of `run` are read as, or the number that is out of its range
+abbrev pub run_read : Result RunWords Number → Reading
+run_read (Ok words) = command (run (names_of words) (options_of words.options))
+run_read (Err number) = out_of_range number

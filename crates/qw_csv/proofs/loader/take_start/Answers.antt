@@ -7,8 +7,8 @@ use Rattle.qw_csv.proofs.MachineLemmas.{leaves_bare}
 use Rattle.qw_csv.proofs.loader.take_start.Goals as goal
 
 pub returns-then-len-lt3-clause-taken : goal.returns-then-len-lt3-clause-taken
-returns-then-len-lt3-clause-taken c given records leaves taken =
-    record { records = records; leaves = rw c.in_ok-extend_from_slice.ensures.items leaves; taken = taken; columns = c.requires }
+returns-then-len-lt3-clause-taken c given before records leaves many taken =
+    record { many = many; records = records; leaves = rw c.in_ok-extend_from_slice.ensures.items leaves; taken = taken; columns = c.requires }
 
 pub take_lines-requires-clause-placed : goal.take_lines-requires-clause-placed
 take_lines-requires-clause-placed c = rw c.in_ok-line.ensures.items placed_line
@@ -22,8 +22,8 @@ bare c given records leaves =
 
 pub returns-clause-taken : goal.returns-clause-taken
 returns-clause-taken c =
-    MatchResult-weaker c.take_lines.result c.take_lines.ensures.taken (λ _ h given records leaves taken. h given records (bare c given records leaves) taken) (λ _ h. h)
+    MatchResult-weaker c.take_lines.result c.take_lines.ensures.taken (λ _ h given before records leaves many taken. h given before records (bare c given records leaves) many taken) (λ _ h. h)
 
 pub returns-clause-fault : goal.returns-clause-fault
 returns-clause-fault c =
-    MatchResult-weaker c.take_lines.result c.take_lines.ensures.fault (λ _ h. h) (λ _ h memory given behind records leaves taken. h memory given behind records (bare c given records leaves) taken)
+    MatchResult-weaker c.take_lines.result c.take_lines.ensures.fault (λ _ h. h) (λ _ h memory given behind before records leaves many taken. h memory given behind before records (bare c given records leaves) many taken)
