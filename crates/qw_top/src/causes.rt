@@ -25,8 +25,8 @@ pub(crate) enum Cause<'a> {
     SchemaTooLong,
     Schema(&'a SchemaFault),
     /// A table's file; where tables have parts, that of the part of this number, counted from 1.
-    TableTooLong(&'a Table, Option<u32>),
-    Table(&'a Table, Option<u32>, &'a LoadFault),
+    TableTooLong(&'a Table, Option<u64>),
+    Table(&'a Table, Option<u64>, &'a LoadFault),
     QueriesTooLong,
     Queries(&'a ParseFault),
     /// The queries are a script, and one means nothing over the schema.
@@ -235,7 +235,7 @@ fn kind_words(kind: FaultKind) -> &'static str
 }
 
 /// The words for a table's file: the table's name, and the number of the part where there is one.
-fn file_words(alloc: Global, table: &Table, part: Option<u32>) -> Result<String, NoMemory>
+fn file_words(alloc: Global, table: &Table, part: Option<u64>) -> Result<String, NoMemory>
     ensures { IfOk result (λ words. string_bytes words ≡ file_words table.now part) }
 {
     let name = table.name.as_str();
@@ -249,7 +249,7 @@ fn file_words(alloc: Global, table: &Table, part: Option<u32>) -> Result<String,
 fn table_cause(
     alloc: Global,
     table: &Table,
-    part: Option<u32>,
+    part: Option<u64>,
     fault: &LoadFault,
 ) -> Result<String, NoMemory>
     ensures { IfOk result (λ words. string_bytes words ≡ table_cause table.now part fault.now) }

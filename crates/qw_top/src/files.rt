@@ -74,7 +74,7 @@ pub fn part_file_name(
     alloc: Global,
     folder: &str,
     table: &str,
-    part: u32,
+    part: u64,
 ) -> Result<String, NoMemory>
     ensures { IfOk result (λ name. string_bytes name ≡ part_file_of folder.now table.now part) }
 {
@@ -93,9 +93,9 @@ pub fn part_file_name(
 pub(crate) fn file_name(
     alloc: Global,
     folder: &str,
-    parts: Option<u32>,
+    parts: Option<u64>,
     table: &str,
-    part: u32,
+    part: u64,
 ) -> Result<String, NoMemory>
     ensures { IfOk result (λ name. string_bytes name ≡ file_of folder.now parts table.now part) }
 {
@@ -106,7 +106,7 @@ pub(crate) fn file_name(
 }
 
 /// How many files a table has.
-pub(crate) fn files_in(parts: Option<u32>) -> u32
+pub(crate) fn files_in(parts: Option<u64>) -> u64
     ensures { result ≡ files_in parts }
 {
     parts.unwrap_or(1)

@@ -1,6 +1,7 @@
 //! The files of a table, loaded as they are read, one after another and piece by piece, each within its limit.
 
-ghost use Rattle.std.specs.Prelude.{◌≡◌, ◌≢◌, ◌+◌, ◌<◌, ◌≤◌, ℕ, List, [], take, drop, map, length, IfErr, IfOk, IsErrOf, OnOk, ⊤};
+ghost use Rattle.std.specs.String.{string_bytes};
+ghost use Rattle.std.specs.Prelude.{◌≡◌, ◌≢◌, ◌+◌, ◌++◌, ◌<◌, ◌≤◌, ℕ, List, [], take, drop, map, length, IfErr, IfOk, IsErrOf, OnOk, ⊤};
 ghost use Rattle.qw_types.specs.Contents.{column_type};
 ghost use Rattle.qw_io.specs.Files.{OfFile};
 ghost use Rattle.qw_csv.specs.Field.{lent};
@@ -51,13 +52,13 @@ impl From<ReadFault> for FileFault {
 pub(crate) enum TableFault {
     /// The file of this number is longer than its limit.
     #[error("file {0} is longer than its limit")]
-    TooLong(u32),
+    TooLong(u64),
     /// The file of this name could not be read.
     #[error("a file could not be read")]
     Unread(String),
     /// The first fault of the records, which is in the file of this number. It is never want of memory.
     #[error("file {0}: {1}")]
-    Content(u32, LoadFault),
+    Content(u64, LoadFault),
     #[error("want of memory")]
     NoMemory,
 }
@@ -150,12 +151,12 @@ fn load_part<F: Shelf>(
     files: &mut F,
     names: &RunWords<'_>,
     table: &Table,
-    index: u32,
+    index: u64,
     loader: Loader,
     piece: &mut [u8],
 ) -> Result<Loader, TableFault>
     requires room { 0 < length piece.old }
-    requires few { index < 4294967295 }
+    requires few { index < 18446744073709551615 }
     requires start { (parts : List (List ℕ)) × HasTaken table.now (names_of names.now).null parts loader [] }
     ensures ended { IfOk result (λ next. OfPart (F.files files.old) (names_of names.now) table.now.name (index + 1) (Ends table.now (names_of names.now) loader next)) }
     ensures stops { IfErr result (λ fault. IsFileFault (F.files files.old) (names_of names.now) table.now.name (index + 1)
@@ -178,12 +179,12 @@ fn load_last<F: Shelf>(
     files: &mut F,
     names: &RunWords<'_>,
     table: &Table,
-    index: u32,
+    index: u64,
     loader: Loader,
     piece: &mut [u8],
 ) -> Result<Loaded, TableFault>
     requires room { 0 < length piece.old }
-    requires few { index < 4294967295 }
+    requires few { index < 18446744073709551615 }
     requires start { (parts : List (List ℕ)) × HasTaken table.now (names_of names.now).null parts loader [] }
     ensures ended { IfOk result (λ loaded. OfPart (F.files files.old) (names_of names.now) table.now.name (index + 1) (Finishes table.now (names_of names.now) loader loaded.rows)) }
     ensures columns { IfOk result (λ loaded. loaded.columns ≡ map column_type table.now.columns) }
@@ -207,12 +208,12 @@ fn take_file<F: Shelf>(
     files: &mut F,
     names: &RunWords<'_>,
     table: &Table,
-    index: u32,
+    index: u64,
     loader: Loader,
     piece: &mut [u8],
 ) -> Result<Loader, TableFault>
     requires room { 0 < length piece.old }
-    requires few { index < 4294967295 }
+    requires few { index < 18446744073709551615 }
     requires start { (parts : List (List ℕ)) × HasTaken table.now (names_of names.now).null parts loader [] }
     ensures taken { IfOk result (λ next. OfPart (F.files files.old) (names_of names.now) table.now.name (index + 1) (Takes table.now (names_of names.now) loader next)) }
     ensures stops { IfErr result (λ fault. IsFileFault (F.files files.old) (names_of names.now) table.now.name (index + 1)
@@ -229,7 +230,7 @@ fn take_file<F: Shelf>(
 }
 
 /// A fault in the file of this number and this name.
-fn in_file(number: u32, name: String, fault: FileFault) -> TableFault
+fn in_file(number: u64, name: String, fault: FileFault) -> TableFault
     ensures { IsInFile number (string_bytes name) fault result }
 {
     match fault {
@@ -239,7 +240,7 @@ fn in_file(number: u32, name: String, fault: FileFault) -> TableFault
 }
 
 /// The same of its reading.
-fn in_read(number: u32, name: String, fault: ReadFault) -> TableFault
+fn in_read(number: u64, name: String, fault: ReadFault) -> TableFault
     ensures { IsInRead number (string_bytes name) fault result }
 {
     match fault {
@@ -250,7 +251,7 @@ fn in_read(number: u32, name: String, fault: ReadFault) -> TableFault
 }
 
 /// The same of its records.
-fn in_load(number: u32, fault: LoadFault) -> TableFault
+fn in_load(number: u64, fault: LoadFault) -> TableFault
     ensures { IsInLoad number fault result }
 {
     match fault {
@@ -338,7 +339,7 @@ fn fault_among<F: Shelf>(
     files: &mut F,
     names: &RunWords<'_>,
     table: &Table,
-    part: u32,
+    part: u64,
     fault: LoadFault,
     piece: &mut [u8],
 ) -> TableFault
@@ -360,7 +361,7 @@ fn skip_files<F: Shelf>(
     files: &mut F,
     names: &RunWords<'_>,
     table: &Table,
-    from: u32,
+    from: u64,
     piece: &mut [u8],
 ) -> Result<(), TableFault>
     requires room { 0 < length piece.old }
@@ -387,11 +388,11 @@ fn skip_file<F: Shelf>(
     files: &mut F,
     names: &RunWords<'_>,
     table: &Table,
-    index: u32,
+    index: u64,
     piece: &mut [u8],
 ) -> Result<(), TableFault>
     requires room { 0 < length piece.old }
-    requires few { index < 4294967295 }
+    requires few { index < 18446744073709551615 }
     ensures held { OnOk result (OfPart (F.files files.old) (names_of names.now) table.now.name (index + 1) (λ bytes. ⊤)) }
     ensures stops { IfErr result (λ fault. IsFileFault (F.files files.old) (names_of names.now) table.now.name (index + 1) (λ why. ⊥) fault) }
     ensures shelf { HasRead (failed_tables result) (told_by F.Shelf files.old) (told_by F.Shelf files.new) }

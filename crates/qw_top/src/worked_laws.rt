@@ -161,6 +161,8 @@ pub fn worked_word_lines()
     ensures statement { line_of_cause (number_out_of_range number.Statement) ≡ codes "words: statement out of range\n" }
     ensures seed { line_of_cause (number_out_of_range number.Seed) ≡ codes "words: SEED out of range\n" }
     ensures rows { line_of_cause (number_out_of_range number.Rows) ≡ codes "words: ROWS out of range\n" }
+    ensures null { line_of_cause (number_out_of_range number.Null) ≡ codes "words: null out of range\n" }
+    ensures parts { line_of_cause (number_out_of_range number.Parts) ≡ codes "words: parts out of range\n" }
 {}
 
 /// The files of generated input, by the names that a run of them takes: the schema, the file of each table that it declares, one row of SALE being

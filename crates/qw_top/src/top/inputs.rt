@@ -144,7 +144,7 @@ fn read_table<'a, F: Shelf>(
 fn table_unloaded<'a>(
     alloc: Global,
     table: &Table,
-    parts: Option<u32>,
+    parts: Option<u64>,
     fault: TableFault,
 ) -> Stop<'a>
     ensures { StopsForTable parts table.now fault.entry result }
@@ -162,7 +162,7 @@ fn table_unloaded<'a>(
 }
 
 /// The number of a file of a table as it is told: that of the part, where each table has so many.
-fn told_part(parts: Option<u32>, part: u32) -> Option<u32>
+fn told_part(parts: Option<u64>, part: u64) -> Option<u64>
     ensures { result ≡ told_part parts part }
 {
     match parts {
