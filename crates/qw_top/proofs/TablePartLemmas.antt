@@ -1,5 +1,6 @@
 -- How the loading of a table's files goes on from file to file, and how it ends.
 use Rattle.std.proofs.Common.{◌≡◌, ◌⊎◌, ℕ, suc, ◌+◌, ◌≤◌, ◌<◌, Option, Some, None, Result, Ok, Err, List, [], ◌∷◌, ◌++◌, inl, inr, length, map, ap, sym, subst, refl, arith, append_assoc, length-append}
+use Rattle.std.specs.Prelude.{IfErr, IfOk, ⊤}
 use Rattle.std.specs.String.{string_bytes}
 use Rattle.qw_types.specs.Contents.{Contents, column_type}
 use Rattle.qw_types.specs.declared.schema.Table.{Table}
@@ -75,7 +76,7 @@ failed_in_load part why fault is =
       | inr other ↦ rw (is.1 other) refl
     ]
 
-pub failed_in_read : (part : ℕ) (name : List ℕ) (why : ReadFault) (fault : TableFault) → IsInRead part name why fault → failed_table fault ≡ failed_read name (Err why)
+pub failed_in_read : {T : Type 0} (part : ℕ) (name : List ℕ) (why : ReadFault) (fault : TableFault) → IsInRead part name why fault → failed_table fault ≡ failed_read {T = T} name (Err why)
 failed_in_read part name read_faults.TooLong fault is = rw is refl
 failed_in_read part name read_faults.Failed (Unread other) is = ap (λ (n : List ℕ). Some n) is
 failed_in_read part name read_faults.Failed (TooLong number) is = absurd is
@@ -85,7 +86,7 @@ failed_in_read part name read_faults.NoMemory fault is = rw is refl
 
 pub failed_in_file : (part : ℕ) (name : List ℕ) (why : FileFault) (fault : TableFault) → IsInFile part name why fault → failed_table fault ≡ failed_file name why
 failed_in_file part name (file_faults.Unread read_faults.TooLong) fault is = rw is refl
-failed_in_file part name (file_faults.Unread read_faults.Failed) fault is = failed_in_read part name read_faults.Failed fault is
+failed_in_file part name (file_faults.Unread read_faults.Failed) fault is = failed_in_read {T = ℕ} part name read_faults.Failed fault is
 failed_in_file part name (file_faults.Unread read_faults.NoMemory) fault is = rw is refl
 failed_in_file part name (file_faults.Content why) fault is = failed_in_load part why fault is
 
@@ -165,6 +166,22 @@ module _ (before now : Told) (names : Names) (table : Table) (loader : Progress)
   fails_at fault few is =
       fault_of_table before.files names table (index + 1) h.parts (λ why. OfPart before.files names table.name (index + 1) (λ bytes. Fails table names loader bytes why))
       (IsFaultyFront before.files names table) fault h.held (omega (arith, h.many)) few (λ why. fails_front why few) is
+
+  -- what comes of the last one
+  pub last_loaded : (result : Result Contents TableFault) (last : ℕ) → last ≡ index → last + 1 ≡ files_in names.parts →
+      IfOk result (λ one. OfPart before.files names table.name (last + 1) (Finishes table names loader one.rows)) → IfOk result (λ one. one.columns ≡ map column_type table.columns) →
+      IfOk result (λ one. TableIs before.files names table one)
+  last_loaded (Ok one) last is all ended columns =
+      loads_all one (omega (arith, is, all)) (subst (λ (n : ℕ). OfPart before.files names table.name (n + 1) (Finishes table names loader one.rows)) is ended) columns
+  last_loaded (Err fault) last is all ended columns = tt
+
+  pub last_fails : (result : Result Contents TableFault) (last : ℕ) → last ≡ index → last + 1 ≡ files_in names.parts →
+      IfErr result (λ fault. IsFileFault before.files names table.name (last + 1) (λ why. OfPart before.files names table.name (last + 1) (λ bytes. Fails table names loader bytes why)) fault) →
+      IfErr result (λ fault. IsTableFault before.files names table (IsFaultyFront before.files names table) fault)
+  last_fails (Ok one) last is all stops = tt
+  last_fails (Err fault) last is all stops =
+      fails_at fault (omega (arith, is, all))
+      (subst (λ (n : ℕ). IsFileFault before.files names table.name (n + 1) (λ why. OfPart before.files names table.name (n + 1) (λ bytes. Fails table names loader bytes why)) fault) is stops)
 
 -- ---- how far the rest was read
 
