@@ -1,5 +1,5 @@
 -- Which words are numbers in range, values of a match of the command line, the options of a run, and the words of `run` and `gen`.
-use Rattle.std.proofs.Common.{◌≡◌, ◌∙◌, ℕ, ◌<◌, ◌^◌, true, false, List, Option, Some, None, Result, Ok, Err, refl, sym, ap, arith}
+use Rattle.std.proofs.Common.{◌≡◌, ◌∙◌, ℕ, ◌<◌, ◌^◌, true, false, List, length, Option, Some, None, Result, Ok, Err, refl, sym, ap, arith}
 use Rattle.std.specs.Prelude.{IsErrAnd, nat_le, option_map, ◌&&◌, codes}
 use Rattle.std.specs.Option.{ok_or, option_map_or}
 use Rattle.std.specs.Borrow.{Bor}
@@ -10,12 +10,14 @@ use Rattle.clap.specs.Words.{Row, first_of, first_value, rows_of}
 use Rattle.clap.specs.declared.parser.matches.Found.{Found}
 use Rattle.qw_types.specs.Digits.{are_digits}
 use Rattle.qw_types.proofs.DigitLemmas.{all_digits, own, some_digit}
-use Rattle.qw_command_line.specs.Words.{Reading, RunOptions, command, default_options, gen, gen_with, is_given, least_of, most_of, name_of, out_of_range, read_run, run, value_in_range, with_number, with_option, with_options}
-use Rattle.qw_command_line.specs.Inner.Values.{IsRefusal, IsValue, gen_read, number_read, options_read}
+use Rattle.qw_command_line.specs.Words.{Reading, RunOptions, command, default_options, gen, gen_with, is_given, least_of, most_of, name_of, is_in_range, out_of_range, read_run, run, run_with, value_in_range, with_null, with_number, with_option, with_options, with_parts}
+use Rattle.qw_command_line.specs.Inner.Values.{IsRefusal, IsValue, gen_read, null_read, number_read, options_read, parts_read, run_read}
+use Rattle.qw_command_line.specs.Read.{options_of, text_of}
+use Rattle.qw_command_line.specs.declared.command.RunWords.{RunWords}
 use Rattle.qw_command_line.specs.declared.command.GenWords.{GenWords}
 use Rattle.qw_command_line.specs.declared.command.RunOptions.{RunOptions as ReadOptions}
 use Rattle.qw_command_line.specs.declared.command.Number.{Number}
-use Rattle.qw_command_line.specs.declared.command.Number.TheVariants.{Quantum, Pages, Steps, Statement, Seed, Rows}
+use Rattle.qw_command_line.specs.declared.command.Number.TheVariants.{Quantum, Pages, Steps, Statement, Seed, Rows, Null, Parts}
 use Rattle.qw_command_line.specs.declared.command.WordsFault.{WordsFault}
 use Rattle.qw_command_line.specs.declared.command.WordsFault.TheVariants.{Refused, OutOfRange, NoMemory}
 
@@ -28,6 +30,8 @@ fits Steps = search arith
 fits Statement = search arith
 fits Seed = search arith
 fits Rows = search arith
+fits Null = search arith
+fits Parts = search arith
 
 past : (least most : ℕ) (bs : List ℕ) → most < 2 ^ 64 → (digits_value 10 bs < 2 ^ 64 → ⊥) → (are_digits bs && (nat_le least (digits_value 10 bs) && nat_le (digits_value 10 bs) most)) ≡ false
 past least most bs most_fits large = grind (arith)
@@ -103,11 +107,68 @@ told (Err e) number read is = rw is refl
 
 -- ---- the words of `run`
 
-pub run_read : (rows : List Row) (schema folder queries : List ℕ) (r : Result ReadOptions Number) → first_of (codes "SCHEMA") rows ≡ Some schema →
-    first_of (codes "DIR") rows ≡ Some folder → first_of (codes "QUERIES") rows ≡ Some queries →
-    ((read : RunOptions → Reading) → with_options rows read ≡ options_read r read) →
-    read_run rows ≡ options_read r (λ options. command (run (record { schema = schema; folder = folder; queries = queries }) options))
-run_read rows schema folder queries r s f q o = rw (s, f, q) (o _)
+pub places_read : (rows : List Row) (schema folder queries : List ℕ) (r : Result RunWords Number) → first_of (codes "SCHEMA") rows ≡ Some schema →
+    first_of (codes "DIR") rows ≡ Some folder → first_of (codes "QUERIES") rows ≡ Some queries → run_with rows schema folder queries ≡ run_read r → read_run rows ≡ run_read r
+places_read rows schema folder queries r s f q o = rw (s, f, q) o
+
+-- the text that stands for null
+module _ (rows : List Row) (name : List ℕ) (read : Option (List ℕ) → Reading) (named : name ≡ name_of Null) where
+  pub null_found : (text : List ℕ) → first_of name rows ≡ Some text → is_in_range Null (length text) ≡ true → with_null rows read ≡ read (Some text)
+  null_found text found fits_in =
+      let there : first_of (name_of Null) rows ≡ Some text = rw named at found in
+      rw (there, fits_in) refl
+
+  pub null_wrong : (text : List ℕ) → first_of name rows ≡ Some text → is_in_range Null (length text) ≡ false → with_null rows read ≡ out_of_range Null
+  null_wrong text found past_it =
+      let there : first_of (name_of Null) rows ≡ Some text = rw named at found in
+      rw (there, past_it) refl
+
+  pub null_left_out : first_of name rows ≡ None → with_null rows read ≡ read None
+  null_left_out none = rw (← named, none) refl
+
+-- and the number of parts
+module _ (rows : List Row) (name : List ℕ) (read : Option ℕ → Reading) (named : name ≡ name_of Parts) where
+  pub parts_found : (word : List ℕ) (value : Option ℕ) (count : ℕ) → first_of name rows ≡ Some word → value ≡ value_in_range Parts word → value ≡ Some count → with_parts rows read ≡ read (Some count)
+  parts_found word value count found is some =
+      let there : first_of (name_of Parts) rows ≡ Some word = rw named at found in
+      let one : value_in_range Parts word ≡ Some count = sym is ∙ some in
+      rw (there, one) refl
+
+  pub parts_wrong : (word : List ℕ) (value : Option ℕ) → first_of name rows ≡ Some word → value ≡ value_in_range Parts word → value ≡ None → with_parts rows read ≡ out_of_range Parts
+  parts_wrong word value found is none =
+      let there : first_of (name_of Parts) rows ≡ Some word = rw named at found in
+      let no : value_in_range Parts word ≡ None = sym is ∙ none in
+      rw (there, no) refl
+
+  pub parts_left_out : first_of name rows ≡ None → with_parts rows read ≡ read None
+  parts_left_out none = rw (← named, none) refl
+
+-- the options of `run`: all are in range, or one isn't
+abbrev ReadsOptions : List Row → Result ReadOptions Number → Type 0
+ReadsOptions rows r = (read : RunOptions → Reading) → with_options rows read ≡ options_read r read
+
+abbrev ReadsNull : List Row → Result (Option (Bor (List ℕ))) Number → Type 0
+ReadsNull rows r = (read : Option (List ℕ) → Reading) → with_null rows read ≡ null_read r read
+
+abbrev ReadsParts : List Row → Result (Option ℕ) Number → Type 0
+ReadsParts rows r = (read : Option ℕ → Reading) → with_parts rows read ≡ parts_read r read
+
+module _ (rows : List Row) (schema folder queries : List ℕ) where
+  pub run_is_read : (options : ReadOptions) (null : Option (Bor (List ℕ))) (r : Result (Option ℕ) Number) → ReadsOptions rows (Ok options) → ReadsNull rows (Ok null) → ReadsParts rows r →
+      run_with rows schema folder queries
+      ≡ parts_read r (λ parts. command (run (record { schema = schema; folder = folder; queries = queries; null = text_of null; parts = parts }) (options_of options)))
+  run_is_read options null r o n p = o _ ∙ (n _ ∙ p _)
+
+  pub null_is_told : (options : ReadOptions) (number : Number) → ReadsOptions rows (Ok options) → ReadsNull rows (Err number) → run_with rows schema folder queries ≡ out_of_range number
+  null_is_told options number o n = o _ ∙ n _
+
+  pub option_is_told : (number : Number) → ReadsOptions rows (Err number) → run_with rows schema folder queries ≡ out_of_range number
+  option_is_told number o = o _
+
+-- the number that is told
+pub run_told : (r : Result RunWords Number) (number : Number) → IsErrAnd r (λ (e : Number). e ≡ number) → out_of_range number ≡ run_read r
+run_told (Ok words) number h = absurd h
+run_told (Err e) number is = rw is refl
 
 -- ---- the words of `gen`
 

@@ -34,7 +34,8 @@ among_parts table null many (p ∷ front) bytes behind rows before e (first, lat
 pub parts_or_fail : (table : Table) (null : Option (List ℕ)) (parts : List (List ℕ)) (rows : List (List Val)) (part : ℕ) (e : LoadFault) → LoadsParts table null parts rows
     → IsFirstPartFault table null parts part e → ⊥
 parts_or_fail table null parts rows part e h k =
-    among_parts table null 0 k.front k.bytes k.behind rows k.rows e (rw k.split at h.each) (omega (arith, h.few)) k.before k.fault
+    let count : 0 + length k.rows ≡ length k.rows = omega arith in
+    among_parts table null 0 k.front k.bytes k.behind rows k.rows e (rw k.split at h.each) (omega (arith, h.few)) k.before (rw count k.fault)
 
 -- two parts at fault, each behind parts that stand for rows, are one part
 same_place : (table : Table) (null : Option (List ℕ)) (many : ℕ) (front other : List (List ℕ)) (x y : List ℕ) (behind further : List (List ℕ)) (rows later : List (List Val)) (a b : LoadFault)
@@ -65,8 +66,10 @@ same_place table null many (p ∷ front) (q ∷ other) x y behind further rows l
 pub same_first_part : (table : Table) (null : Option (List ℕ)) (parts : List (List ℕ)) (part other : ℕ) (a b : LoadFault) → IsFirstPartFault table null parts part a
     → IsFirstPartFault table null parts other b → (part ≡ other) × (a ≡ b)
 same_first_part table null parts part other a b h k =
+    let count : 0 + length h.rows ≡ length h.rows = omega arith in
+    let count' : 0 + length k.rows ≡ length k.rows = omega arith in
     let (place, fault) =
-    same_place table null 0 h.front k.front h.bytes k.bytes h.behind k.behind h.rows k.rows a b (sym h.split ∙ k.split) h.before k.before (omega (arith, h.few)) (omega (arith, k.few)) h.fault k.fault in
+    same_place table null 0 h.front k.front h.bytes k.bytes h.behind k.behind h.rows k.rows a b (sym h.split ∙ k.split) h.before k.before (omega (arith, h.few)) (omega (arith, k.few)) (rw count h.fault) (rw count' k.fault) in
     (omega (arith, h.number, k.number, place), fault)
 
 -- ---- a file in one part

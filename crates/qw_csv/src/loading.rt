@@ -91,10 +91,7 @@ pub enum PartFault {
     NoMemory,
     /// What is wrong with this part, counted from 1. It is never want of memory.
     #[error("part {part}: {fault}")]
-    At {
-        part: usize,
-        fault: LoadFault,
-    },
+    At { part: usize, fault: LoadFault },
 }
 
 /// A fault of this part, counted from 1.
@@ -145,7 +142,13 @@ pub fn load_parts(
     };
     let mut loaded = none.loaded;
     for index in 0..parts.len() {
-        match take_rest(alloc, table, null, next_part(loaded), parts[index].as_slice()) {
+        match take_rest(
+            alloc,
+            table,
+            null,
+            next_part(loaded),
+            parts[index].as_slice(),
+        ) {
             Ok(next) => loaded = next,
             Err(fault) => return Err(in_part(index + 1, fault)),
         }
@@ -200,11 +203,7 @@ pub(crate) fn none_taken(alloc: Global, columns: &[Column]) -> Result<Taken, Loa
     ensures memory { IfErr result (λ e. e ≡ LoadFault.NoMemory) }
 {
     let values = no_values(alloc, columns)?;
-    Ok(Taken {
-        loaded: loaded(alloc, columns, values, 0)?,
-        before: 0,
-        named: false,
-    })
+    Ok(next_part(loaded(alloc, columns, values, 0)?))
 }
 
 /// That of no record of the next part, behind the parts whose rows these are.
@@ -216,8 +215,8 @@ pub(crate) fn next_part(loaded: Loaded) -> Taken
 {
     Taken {
         before: loaded.len(),
-        loaded,
         named: false,
+        loaded,
     }
 }
 

@@ -12,7 +12,7 @@ ghost use Rattle.qw_csv.specs.declared.loading.LoadFault.{LoadFault};
 ghost use Rattle.qw_csv.specs.declared.loading.LoadFault.TheVariants as fault;
 ghost use Rattle.qw_csv.specs.Field.{IsFieldFault, IsFieldOf};
 ghost use Rattle.qw_csv.specs.Loading.{IsFirstFault, IsFirstPartFault, IsRecordFault, Loads, LoadsParts};
-ghost use Rattle.qw_csv.specs.Worked.{may_be_null, never_null};
+ghost use Rattle.qw_csv.specs.Worked.{first_part, headless_part, marked_part, may_be_null, never_null, one_column, wide_part};
 
 /// A file in one part, where no text stands for null, stands for the rows that it stands for, and has the first fault that it has, in part 1.
 pub fn one_part()
@@ -67,4 +67,13 @@ pub fn worked_numbers()
     ensures too_many { IsRecordFault None [] 999999 2 (codes "7" ∷ []) fault.TooManyRows }
     ensures first { IsRecordFault None [] 999999 2 (codes "7" ∷ []) (fault.FieldCount 2) → ⊥ }
     ensures other { IsRecordFault None [] 999999 1 (codes "7" ∷ []) (fault.FieldCount 1000000) → ⊥ }
+{}
+
+/// Two parts stand for the rows of both, each behind its own header, and the second also behind a byte order mark. A fault of the second is told
+/// with number 2 and the number of its record in it, and a part without a header isn't read on behind the first.
+pub fn worked_parts()
+    ensures both { LoadsParts one_column None (first_part ∷ marked_part ∷ []) ((val.Num (pos 7) ∷ []) ∷ (val.Num (pos 8) ∷ []) ∷ []) }
+    ensures wide { IsFirstPartFault one_column None (first_part ∷ wide_part ∷ []) 2 (fault.FieldCount 1) }
+    ensures headless { IsFirstPartFault one_column None (first_part ∷ headless_part ∷ wide_part ∷ []) 2 fault.BadHeader }
+    ensures first { IsFirstPartFault one_column None (first_part ∷ wide_part ∷ headless_part ∷ []) 3 fault.BadHeader → ⊥ }
 {}

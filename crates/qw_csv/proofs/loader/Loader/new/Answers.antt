@@ -14,7 +14,7 @@ returns-clause-none c null =
         many = before;
         records = [];
         leaves = rw none (leaves_all []);
-        taken = none_taken_yet null c.args.table.now.columns [] c.in_ok-none_taken.none_taken.named c.in_ok-none_taken.none_taken.loaded.rows named rows (omega arith);
+        taken = none_taken_yet null c.args.table.now.columns [] c.in_ok-none_taken.field-0.named c.in_ok-none_taken.field-0.loaded.rows named rows (omega arith);
         columns = rw c.as_slice.ensures.same at c.in_ok-none_taken.ensures.columns;
       },
     )
