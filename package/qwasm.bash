@@ -4,9 +4,11 @@ _qwasm() {
     case $COMP_CWORD,${COMP_WORDS[1]} in
     1,*) mapfile -t COMPREPLY < <(compgen -W "run compile check gen" -- "$word") ;;
     *,run | *,gen)
-        case $before in --quantum | --pages | --steps) return ;; esac
+        case $before in --quantum | --pages | --steps | --null | --parts) return ;; esac
+        local options="--quantum --pages --steps --stats"
+        [ "${COMP_WORDS[1]}" = gen ] || options+=" --null --parts"
         case $word in
-        -*) mapfile -t COMPREPLY < <(compgen -W "--quantum --pages --steps --stats" -- "$word") ;;
+        -*) mapfile -t COMPREPLY < <(compgen -W "$options" -- "$word") ;;
         *) [ "${COMP_WORDS[1]}" = gen ] || mapfile -t COMPREPLY < <(compgen -f -- "$word") ;;
         esac
         ;;

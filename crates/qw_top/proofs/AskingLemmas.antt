@@ -8,7 +8,7 @@ use Rattle.std.proofs.lemmas.Slice.Eq.{bytes_eq-Decides}
 use Rattle.qw_io.specs.Files.{Watched, watched_after}
 use Rattle.qw_top.specs.Asking.{AsksWithin, IsOne}
 use Rattle.qw_top.specs.Call.{IsRunLimit, IsTableLimit, IsTextLimit}
-use Rattle.qw_top.specs.FileNames.{table_file_of}
+use Rattle.qw_top.specs.FileNames.{file_of}
 use Rattle.qw_top.specs.Limits.{most_table_octets, most_text_octets}
 use Rattle.qw_top.specs.Top.{Names}
 
@@ -86,9 +86,11 @@ pub texts_asked : (schema queries : List ℕ) (old middle new : Option Watched) 
 texts_asked schema queries old middle new first second =
     asks_then (IsTextLimit schema queries) old middle new (text_asked schema queries schema old middle (inl refl) first) (text_asked schema queries queries middle new (inr refl) second)
 
--- the file of a table in a folder
-pub table_asked : (folder table : List ℕ) (old new : Option Watched) → AsksWithin (IsOne (table_file_of folder table) most_table_octets) old new → AsksWithin (IsTableLimit folder) old new
-table_asked folder table old new asked = asks_weaker (IsOne (table_file_of folder table) most_table_octets) (IsTableLimit folder) old new (λ other limit is. ((table, is.0), is.1)) asked
+-- a file of a table
+pub table_asked : (names : Names) (table : List ℕ) (part : ℕ) (old new : Option Watched) → AsksWithin (IsOne (file_of names.folder names.parts table part) most_table_octets) old new →
+    AsksWithin (IsTableLimit names) old new
+table_asked names table part old new asked =
+    asks_weaker (IsOne (file_of names.folder names.parts table part) most_table_octets) (IsTableLimit names) old new (λ other limit is. ((table, part, is.0), is.1)) asked
 
 module _ (names : Names) where
   text_of_run : (old new : Option Watched) → AsksWithin (IsTextLimit names.schema names.queries) old new → AsksWithin (IsRunLimit names) old new
@@ -97,11 +99,11 @@ module _ (names : Names) where
   pub schema_asked : (old new : Option Watched) → AsksWithin (IsOne names.schema most_text_octets) old new → AsksWithin (IsRunLimit names) old new
   schema_asked old new asked = text_of_run old new (text_asked names.schema names.queries names.schema old new (inl refl) asked)
 
-  pub tables_asked : (old middle new : Option Watched) → AsksWithin (IsOne names.schema most_text_octets) old middle → AsksWithin (IsTableLimit names.folder) middle new → AsksWithin (IsRunLimit names) old new
+  pub tables_asked : (old middle new : Option Watched) → AsksWithin (IsOne names.schema most_text_octets) old middle → AsksWithin (IsTableLimit names) middle new → AsksWithin (IsRunLimit names) old new
   tables_asked old middle new first second =
-      asks_then (IsRunLimit names) old middle new (schema_asked old middle first) (asks_weaker (IsTableLimit names.folder) (IsRunLimit names) middle new (λ name limit is. inr is) second)
+      asks_then (IsRunLimit names) old middle new (schema_asked old middle first) (asks_weaker (IsTableLimit names) (IsRunLimit names) middle new (λ name limit is. inr is) second)
 
-  pub queries_asked : (old first second new : Option Watched) → AsksWithin (IsOne names.schema most_text_octets) old first → AsksWithin (IsTableLimit names.folder) first second →
+  pub queries_asked : (old first second new : Option Watched) → AsksWithin (IsOne names.schema most_text_octets) old first → AsksWithin (IsTableLimit names) first second →
       AsksWithin (IsOne names.queries most_text_octets) second new → AsksWithin (IsRunLimit names) old new
   queries_asked old first second new one two three =
       asks_then (IsRunLimit names) old second new (tables_asked old first second one two) (text_of_run second new (text_asked names.schema names.queries names.queries second new (inr refl) three))

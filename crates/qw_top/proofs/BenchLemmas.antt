@@ -5,7 +5,7 @@ use Rattle.std.specs.List.{AllByRecursion, AllZip}
 use Rattle.qw_types.specs.Contents.{Contents}
 use Rattle.qw_types.specs.Limits.{most_tables}
 use Rattle.qw_types.specs.declared.schema.Table.{Table}
-use Rattle.qw_csv.proofs.ColumnLaws.{loaded_of_columns}
+use Rattle.qw_csv.proofs.ColumnLaws.{parts_of_columns}
 use Rattle.qw_meaning.specs.Select.{AreOfEntries, entries_of}
 use Rattle.qw_grouped.specs.Whole.{sources_in}
 use Rattle.qw_schema.proofs.SchemaLemmas.{ReadsSchema-tables}
@@ -35,13 +35,13 @@ entries_read schema tables (query ∷ queries) are over = (entries_loaded schema
 
 -- ---- as many rows as tables
 
-pub contents_of : (files : Files) (folder : List ℕ) (schema : List Table) (tables : List Contents) → TablesAre files folder schema tables → AreContentsOf schema tables
-contents_of files folder [] [] are = tt
-contents_of files folder [] (one ∷ tables) are = are
-contents_of files folder (table ∷ schema) [] are = are
-contents_of files folder (table ∷ schema) (one ∷ tables) are = (
-  record { columns = are.0.columns; few = are.0.loads.few; typed = loaded_of_columns table are.0.bytes one.rows are.0.loads },
-  contents_of files folder schema tables are.1,
+pub contents_of : (files : Files) (names : Names) (schema : List Table) (tables : List Contents) → TablesAre files names schema tables → AreContentsOf schema tables
+contents_of files names [] [] are = tt
+contents_of files names [] (one ∷ tables) are = are
+contents_of files names (table ∷ schema) [] are = are
+contents_of files names (table ∷ schema) (one ∷ tables) are = (
+  record { columns = are.0.columns; few = are.0.loads.few; typed = parts_of_columns table names.null are.0.parts one.rows are.0.loads },
+  contents_of files names schema tables are.1,
 )
 
 pub same_many : (schema : List Table) (tables : List Contents) → AreContentsOf schema tables → length tables ≡ length schema
@@ -127,7 +127,7 @@ module _ (files : Files) (names : Names) (schema : List Table) (tables : List Co
   accepted_few = few_tables files names schema tables queries asks
 
   pub accepted_contents : AreContentsOf schema tables
-  accepted_contents = contents_of files names.folder schema tables asks.before.loaded
+  accepted_contents = contents_of files names schema tables asks.before.loaded
 
   pub accepted_run : (limits : Limits) (quantum : ℕ) (b : Standing) → HasRun limits quantum tables queries b → HasAsked limits quantum files names queries b
   accepted_run limits quantum b run = record { schema = schema; tables = tables; asks = asks; run = run }

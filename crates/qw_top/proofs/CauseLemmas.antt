@@ -2,7 +2,7 @@
 use Rattle.std.proofs.Common.{◌≡◌, ℕ, List, ◌++◌, ◌∙◌, codes, refl, sym, append_assoc}
 use Rattle.qw_command_line.specs.Words.{name_of}
 use Rattle.qw_command_line.specs.declared.command.Number.{Number}
-use Rattle.qw_command_line.specs.declared.command.Number.TheVariants.{Quantum, Pages, Steps, Statement, Seed, Rows}
+use Rattle.qw_command_line.specs.declared.command.Number.TheVariants.{Quantum, Pages, Steps, Statement, Seed, Rows, Null, Parts}
 use Rattle.qw_top.specs.Causes.{line_of_cause, number_out_of_range}
 
 pub pieces_4 : (a b c d : List ℕ) → a ++ (b ++ (c ++ d)) ≡ a ++ b ++ c ++ d
@@ -22,3 +22,5 @@ line_of_number Steps name is = rw is refl
 line_of_number Statement name is = rw is refl
 line_of_number Seed name is = rw is refl
 line_of_number Rows name is = rw is refl
+line_of_number Null name is = rw is refl
+line_of_number Parts name is = rw is refl

@@ -12,6 +12,7 @@ mod EntryLemmas
 mod GeneratedLemmas
 mod InputLemmas
 mod OutputLemmas
+mod PlainLemmas
 mod QueryLemmas
 mod ReportLemmas
 mod RunLemmas
@@ -20,5 +21,6 @@ mod ShortLemmas
 mod StopLemmas
 mod StoppedLemmas
 mod TableFileLemmas
+mod TablePartLemmas
 mod UnreadLemmas
 mod WholeFileLemmas

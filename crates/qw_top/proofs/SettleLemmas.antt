@@ -26,7 +26,7 @@ use Rattle.qw_top.proofs.EachLemmas.{all_contains}
 -- at the schema file, at a table's, at the queries file, or at none of them
 pub data SettlesAt (limits : Limits) (files : Files) (names : Names) (cause : Cause) : Type 0 where
   at_schema : IsNoSchema files names.schema cause → SettlesAt limits files names cause
-  at_table : (table : Table) → IsNextTable files names table → IsNoTable files names.folder table cause → SettlesAt limits files names cause
+  at_table : (table : Table) → IsNextTable files names table → IsNoTable files names table cause → SettlesAt limits files names cause
   at_queries : (schema : List Table) (tables : List Contents) → HasTables files names schema tables → IsNoScript files names.queries schema cause → SettlesAt limits files names cause
   at_pages : (schema : List Table) (tables : List Contents) (queries : List Asked) (need : ℕ) → HasQueries files names schema tables queries →
       cause ≡ total_pages need → need ≡ pages_in_all tables (same_limits limits queries) → most_pages < need → SettlesAt limits files names cause
@@ -35,8 +35,9 @@ module _ (limits : Limits) (files : Files) (names : Names) where
   settled_at : (cause : Cause) → FilesSettle limits files names cause → SettlesAt limits files names cause
   settled_at schema_too_long long = at_schema (inl (refl, long))
   settled_at (schema_refused fault) (text, file, refused) = at_schema (inr (fault, text, refl, file, refused))
-  settled_at (table_too_long table) (next, long) = at_table table next (inl (refl, long))
-  settled_at (table_refused table fault) (next, (bytes, file, fails)) = at_table table next (inr (fault, bytes, refl, file, fails))
+  settled_at (table_too_long table number) (next, (part, is, long)) = at_table table next (inl (part, ap (table_too_long table) is, long))
+  settled_at (table_refused table number fault) (next, (part, is, faulty)) =
+      at_table table next (inr (part, fault, ap (λ (n : Option ℕ). table_refused table n fault) is, faulty))
   settled_at queries_too_long (schema, tables, held, long) = at_queries schema tables held (inl (refl, long))
   settled_at (queries_refused fault) (schema, tables, text, held, file, refused) = at_queries schema tables held (inr (inl (fault, text, refl, file, refused)))
   settled_at (queries_mistyped fault) (schema, tables, text, held, file, mistyped) = at_queries schema tables held (inr (inr (fault, text, refl, file, mistyped)))
@@ -47,9 +48,9 @@ module _ (limits : Limits) (files : Files) (names : Names) where
   schema_settles cause (inl (is, long)) = subst (FilesSettle limits files names) (sym is) long
   schema_settles cause (inr (fault, text, is, file, refused)) = subst (FilesSettle limits files names) (sym is) (text, file, refused)
 
-  pub table_settles : (table : Table) (cause : Cause) → IsNextTable files names table → IsNoTable files names.folder table cause → FilesSettle limits files names cause
-  table_settles table cause next (inl (is, long)) = subst (FilesSettle limits files names) (sym is) (next, long)
-  table_settles table cause next (inr (fault, bytes, is, file, fails)) = subst (FilesSettle limits files names) (sym is) (next, (bytes, file, fails))
+  pub table_settles : (table : Table) (cause : Cause) → IsNextTable files names table → IsNoTable files names table cause → FilesSettle limits files names cause
+  table_settles table cause next (inl (part, is, long)) = subst (FilesSettle limits files names) (sym is) (next, (part, refl, long))
+  table_settles table cause next (inr (part, fault, is, faulty)) = subst (FilesSettle limits files names) (sym is) (next, (part, refl, faulty))
 
   pub queries_settle : (schema : List Table) (tables : List Contents) (cause : Cause) → HasTables files names schema tables → IsNoScript files names.queries schema cause → FilesSettle limits files names cause
   queries_settle schema tables cause held (inl (is, long)) = subst (FilesSettle limits files names) (sym is) (schema, tables, held, long)
@@ -67,11 +68,11 @@ module _ (limits : Limits) (told : List ℕ → Option (List ℕ)) (names : Name
   schema_first cause other none (at_pages schema tables queries need held _ _ _) = absurd (SchemaIs-refused told names.schema schema cause held.before.declared none)
 
   -- a table's file
-  table_first : (table : Table) (cause other : Cause) → IsNextTable (Some told) names table → IsNoTable (Some told) names.folder table cause → SettlesAt limits (Some told) names other → cause ≡ other
+  table_first : (table : Table) (cause other : Cause) → IsNextTable (Some told) names table → IsNoTable (Some told) names table cause → SettlesAt limits (Some told) names other → cause ≡ other
   table_first table cause other next none (at_schema none') = absurd (SchemaIs-refused told names.schema (next.before ++ table ∷ next.behind) other next.declared none')
   table_first table cause other next none (at_table table' next' none') =
       let e = one_refused told names table table' cause other next next' none none' in
-      IsNoTable-unique told names.folder table' cause other (subst (λ (t : Table). IsNoTable (Some told) names.folder t cause) e none) none'
+      IsNoTable-unique told names table' cause other (subst (λ (t : Table). IsNoTable (Some told) names t cause) e none) none'
   table_first table cause other next none (at_queries schema tables held _) = absurd (next_accepted told names table schema tables cause next held none)
   table_first table cause other next none (at_pages schema tables queries need held _ _ _) = absurd (next_accepted told names table schema tables cause next held.before none)
 
@@ -143,8 +144,8 @@ cause_is_refusal words_refused = tt
 cause_is_refusal (number_out_of_range number) = tt
 cause_is_refusal schema_too_long = tt
 cause_is_refusal (schema_refused fault) = tt
-cause_is_refusal (table_too_long table) = tt
-cause_is_refusal (table_refused table fault) = tt
+cause_is_refusal (table_too_long table number) = tt
+cause_is_refusal (table_refused table number fault) = tt
 cause_is_refusal queries_too_long = tt
 cause_is_refusal (queries_refused fault) = tt
 cause_is_refusal (queries_mistyped fault) = tt
@@ -203,8 +204,8 @@ refusal_settled limits files names kept StepLimitMet r why = absurd r
 pub settled_explains : (limits : Limits) (files : Files) (names : Names) (kept : Option Standing) (cause : Cause) → FilesSettle limits files names cause → RunExplains limits files names kept (status_of_cause cause)
 settled_explains limits files names kept schema_too_long h = (schema_too_long, h, refl)
 settled_explains limits files names kept (schema_refused fault) h = (schema_refused fault, h, refl)
-settled_explains limits files names kept (table_too_long table) h = (table_too_long table, h, refl)
-settled_explains limits files names kept (table_refused table fault) h = (table_refused table fault, h, refl)
+settled_explains limits files names kept (table_too_long table number) h = (table_too_long table number, h, refl)
+settled_explains limits files names kept (table_refused table number fault) h = (table_refused table number fault, h, refl)
 settled_explains limits files names kept queries_too_long h = (queries_too_long, h, refl)
 settled_explains limits files names kept (queries_refused fault) h = (queries_refused fault, h, refl)
 settled_explains limits files names kept (queries_mistyped fault) h = (queries_mistyped fault, h, refl)

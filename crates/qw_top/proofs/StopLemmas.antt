@@ -1,11 +1,9 @@
 -- How the reading of the files goes on from stage to stage, and how it stops.
 use Rattle.std.proofs.Common.{◌≡◌, ◌⊎◌, ℕ, zero, suc, ◌<◌, Option, Some, None, List, [], ◌∷◌, ◌++◌, inl, inr, refl, sym, subst, length, ap, arith, take, drop, get_or}
 use Rattle.std.proofs.lemmas.Option.{none-some, same_Some}
+use Rattle.std.specs.String.{string_bytes}
 use Rattle.qw_types.specs.Contents.{Contents}
 use Rattle.qw_types.specs.declared.schema.Table.{Table}
-use Rattle.qw_csv.specs.declared.loading.LoadFault.{LoadFault}
-use Rattle.qw_csv.specs.declared.loading.LoadFault.TheVariants as load_faults
-use Rattle.qw_csv.specs.Loading.{IsFirstFault}
 use Rattle.qw_parse.specs.Script.{IsScriptRefused}
 use Rattle.qw_parse.specs.declared.fault.ParseFault.{ParseFault}
 use Rattle.qw_parse.specs.declared.fault.ParseFault.TheVariants as script_faults
@@ -15,26 +13,31 @@ use Rattle.qw_schema.specs.declared.parse.SchemaFault.{SchemaFault}
 use Rattle.qw_schema.specs.declared.parse.SchemaFault.TheVariants as schema_faults
 use Rattle.qw_schema.specs.Parse.{IsRefused}
 use Rattle.qw_top.specs.Causes.{Cause, queries_mistyped, queries_refused, schema_refused, table_refused, table_too_long, total_pages}
-use Rattle.qw_top.specs.FileNames.{table_file_of}
+use Rattle.qw_top.specs.FileNames.{told_part}
 use Rattle.qw_bench.specs.declared.bench.Limits.{Limits}
-use Rattle.qw_top.specs.Limits.{most_table_octets, most_text_octets}
-use Rattle.qw_top.specs.Top.{Asked, Files, FilesSettle, HasQueries, HasTables, IsFile, IsFileOf, IsMistyped, IsNextTable, IsTooLong, Names, QueriesAre, SchemaIs, TableIs, TablesAre}
-use Rattle.qw_top.specs.declared.files.ReadFault.TheVariants as read_faults
-use Rattle.qw_top.specs.declared.files.ReadFault.TheVariants.{TooLong}
+use Rattle.qw_top.specs.Limits.{most_text_octets}
+use Rattle.qw_top.specs.Top.{Asked, Files, FilesSettle, HasQueries, HasTables, IsFile, IsFileOf, IsMistyped, IsNextTable, IsTableFile, Names, QueriesAre, SchemaIs, TableIs, TablesAre}
 use Rattle.qw_top.specs.declared.table_file.TableFault.{TableFault}
-use Rattle.qw_top.specs.declared.table_file.TableFault.TheVariants.{Content, Unread as Unloaded}
+use Rattle.qw_top.specs.declared.table_file.TableFault.TheVariants.{Content, TooLong, Unread as UnreadFile, NoMemory as Wanted}
 use Rattle.qw_top.specs.declared.stop.Stop.{Stop}
 use Rattle.qw_top.specs.declared.stop.Stop.TheVariants.{Refused, Unread, NoMemory}
-use Rattle.qw_top.specs.Inner.Inputs.{IsNoSchema, IsNoScript, IsNoTable, StopsAtTables}
+use Rattle.qw_top.specs.Inner.Inputs.{IsNoSchema, IsNoScript, IsNoTable, StopsAtTable, StopsAtTables, StopsForTable}
 use Rattle.qw_top.specs.declared.top.queries.QueriesFault.{QueriesFault}
 use Rattle.qw_top.specs.declared.top.queries.QueriesFault.TheVariants.{Script, Typing}
 use Rattle.qw_top.specs.Inner.Queries.{Refuses, StopsForFault}
 use Rattle.qw_top.specs.Inner.Stages.{FilesStop, StopsToRun}
 use Rattle.qw_top.specs.Inner.Shelves.{failed_table}
-use Rattle.qw_top.specs.Inner.Stop.{StopsAs, StopsFor, failed_at, octets_of}
+use Rattle.qw_top.specs.Inner.Tables.{IsUnloaded}
+use Rattle.qw_top.specs.Inner.Stop.{StopsAs, StopsBy, StopsFor, failed_at, octets_of}
 use Rattle.qw_top.proofs.SettleLemmas.{queries_settle, schema_settles, table_settles}
 
--- a stop for a cause that is one of a stage's reasons
+-- a stop for a cause that is one of a command's reasons
+pub StopsFor-by : (reason : Cause → Type 0) (named : List ℕ → Type 0) (cause : Cause) (stop : Stop) → reason cause → StopsFor cause stop → StopsBy reason named stop
+StopsFor-by reason named cause (Refused refusal line) holds stops = (cause, holds, stops)
+StopsFor-by reason named cause (Unread file) holds stops = absurd stops
+StopsFor-by reason named cause NoMemory holds stops = tt
+
+-- and of a stage's
 pub StopsFor-stage : (reason : Cause → Type 0) (name : List ℕ) (cause : Cause) (stop : Stop) → reason cause → StopsFor cause stop → StopsAs reason name stop
 StopsFor-stage reason name cause (Refused refusal line) holds stops = (cause, holds, stops)
 StopsFor-stage reason name cause (Unread file) holds stops = absurd stops
@@ -62,13 +65,6 @@ script_or_memory (script_faults.TooMany k what limit) = inr (λ same. cc)
 typing_or_memory : (fault : TypeFault) → (fault ≡ type_faults.NoMemory) ⊎ (fault ≡ type_faults.NoMemory → ⊥)
 typing_or_memory type_faults.NoMemory = inl refl
 typing_or_memory (type_faults.Fault k kind name) = inr (λ same. cc)
-
-load_or_memory : (fault : LoadFault) → (fault ≡ load_faults.NoMemory) ⊎ (fault ≡ load_faults.NoMemory → ⊥)
-load_or_memory load_faults.NoMemory = inl refl
-load_or_memory load_faults.BadHeader = inr (λ same. cc)
-load_or_memory (load_faults.FieldCount row) = inr (λ same. cc)
-load_or_memory (load_faults.Field row column why) = inr (λ same. cc)
-load_or_memory load_faults.TooManyRows = inr (λ same. cc)
 
 wants : (reason : Cause → Type 0) (name : List ℕ) (stop : Stop) → stop ≡ NoMemory → StopsAs reason name stop
 wants reason name stop is = subst (λ (s : Stop). StopsAs reason name s) (sym is) tt
@@ -113,39 +109,28 @@ stopped_none cause (Refused refusal line) h = refl
 stopped_none cause (Unread file) h = absurd h
 stopped_none cause NoMemory h = refl
 
--- where it is a fault of its records
-pub content_none : (table : Table) (fault : LoadFault) (stop : Stop) → (fault ≡ load_faults.NoMemory → stop ≡ NoMemory)
-    → ((fault ≡ load_faults.NoMemory → ⊥) → StopsFor (table_refused table fault) stop) → failed_at stop ≡ None
-content_none table fault stop memory refused =
-    elim (load_or_memory fault) [
-      | inl is ↦ rw (memory is) refl
-      | inr other ↦ stopped_none (table_refused table fault) stop (refused other)
-    ]
+pub table_stop_failed : (parts : Option ℕ) (table : Table) (fault : TableFault) (stop : Stop) → StopsForTable parts table fault stop → failed_at stop ≡ failed_table fault
+table_stop_failed parts table (TooLong part) stop stops = stopped_none (table_too_long table (told_part parts part)) stop stops
+table_stop_failed parts table (UnreadFile name) stop stops = stops
+table_stop_failed parts table (Content part fault) stop stops = stopped_none (table_refused table (told_part parts part) fault) stop stops
+table_stop_failed parts table Wanted stop stops = rw stops refl
 
-unread_stop : (reason : Cause → Type 0) (name : List ℕ) (stop : Stop) → failed_at stop ≡ Some name → StopsAs reason name stop
-unread_stop reason name (Refused refusal line) is = absurd (none-some name is)
-unread_stop reason name (Unread file) is = same_Some (octets_of file) name is
-unread_stop reason name NoMemory is = absurd (none-some name is)
+unread_stop : (reason : Cause → Type 0) (named : List ℕ → Type 0) (name : List ℕ) (stop : Stop) → failed_at stop ≡ Some name → named name → StopsBy reason named stop
+unread_stop reason named name (Refused refusal line) is may = absurd (none-some name is)
+unread_stop reason named name (Unread file) is may = subst named (sym (same_Some (octets_of file) name is)) may
+unread_stop reason named name NoMemory is may = absurd (none-some name is)
 
-pub table_unloaded_stops : (files : Files) (folder : List ℕ) (table : Table) (stop : Stop) (name : List ℕ) (fault : TableFault) → name ≡ table_file_of folder table.name
-    → (fault ≡ Unloaded TooLong → IsTooLong files name most_table_octets)
-    → ((load : LoadFault) → fault ≡ Content load → (load ≡ load_faults.NoMemory → ⊥) → (bytes : List ℕ) × IsFile files name most_table_octets bytes × IsFirstFault table bytes load)
-    → (fault ≡ Unloaded TooLong → StopsFor (table_too_long table) stop) → (fault ≡ Unloaded read_faults.NoMemory → stop ≡ NoMemory)
-    → ((load : LoadFault) → fault ≡ Content load → (load ≡ load_faults.NoMemory → stop ≡ NoMemory) × ((load ≡ load_faults.NoMemory → ⊥) → StopsFor (table_refused table load) stop))
-    → failed_at stop ≡ failed_table name fault → StopsAs (IsNoTable files folder table) (table_file_of folder table.name) stop
-table_unloaded_stops files folder table stop name (Unloaded TooLong) is long holds stops memory content failed =
-    StopsFor-stage (IsNoTable files folder table) (table_file_of folder table.name) (table_too_long table) stop (inl (refl, rw is at (long refl))) (stops refl)
-table_unloaded_stops files folder table stop name (Unloaded read_faults.Failed) is long holds stops memory content failed =
-    unread_stop (IsNoTable files folder table) (table_file_of folder table.name) stop (rw is at failed)
-table_unloaded_stops files folder table stop name (Unloaded read_faults.NoMemory) is long holds stops memory content failed =
-    wants (IsNoTable files folder table) (table_file_of folder table.name) stop (memory refl)
-table_unloaded_stops files folder table stop name (Content load) is long holds stops memory content failed =
-    elim (load_or_memory load) [
-      | inl want ↦ wants (IsNoTable files folder table) (table_file_of folder table.name) stop ((content load refl).0 want)
-      | inr other ↦
-          let (bytes, file, fault) = holds load refl other in
-          StopsFor-stage (IsNoTable files folder table) (table_file_of folder table.name) (table_refused table load) stop (inr (load, bytes, refl, rw is at file, fault)) ((content load refl).1 other)
-    ]
+wants_by : (reason : Cause → Type 0) (named : List ℕ → Type 0) (stop : Stop) → stop ≡ NoMemory → StopsBy reason named stop
+wants_by reason named stop is = subst (λ (s : Stop). StopsBy reason named s) (sym is) tt
+
+pub table_unloaded_stops : (files : Files) (names : Names) (table : Table) (fault : TableFault) (stop : Stop) → IsUnloaded files names table fault → StopsForTable names.parts table fault stop →
+    StopsAtTable files names table stop
+table_unloaded_stops files names table (TooLong part) stop why stops =
+    StopsFor-by (IsNoTable files names table) (IsTableFile files names table.name) (table_too_long table (told_part names.parts part)) stop (inl (part, refl, why)) stops
+table_unloaded_stops files names table (UnreadFile name) stop why stops = unread_stop (IsNoTable files names table) (IsTableFile files names table.name) (string_bytes name) stop stops why
+table_unloaded_stops files names table (Content part fault) stop why stops =
+    StopsFor-by (IsNoTable files names table) (IsTableFile files names table.name) (table_refused table (told_part names.parts part) fault) stop (inr (part, fault, refl, why)) stops
+table_unloaded_stops files names table Wanted stop why stops = wants_by (IsNoTable files names table) (IsTableFile files names table.name) stop stops
 
 split : {A : Type 0} (xs : List A) (i : ℕ) (x : A) → i < length xs → x ≡ get_or xs i x → xs ≡ take i xs ++ x ∷ drop (suc i) xs
 split [] i x within is = absurd (omega (arith, within))
@@ -153,9 +138,9 @@ split (y ∷ xs) zero x within is = ap (λ z. z ∷ xs) (sym is)
 split (y ∷ xs) (suc i) x within is = ap (λ zs. y ∷ zs) (split xs i x (omega (arith, within)) is)
 
 -- where the reading of the tables' files stopped, behind those that were accepted
-pub tables_stop_at : (files now : Files) (folder : List ℕ) (schema : List Table) (i : ℕ) (table : Table) (contents : List Contents) (stop : Stop) → i < length schema → table ≡ get_or schema i table →
-    now ≡ files → TablesAre files folder (take i schema) contents → StopsAs (IsNoTable now folder table) (table_file_of folder table.name) stop → StopsAtTables files folder schema stop
-tables_stop_at files now folder schema i table contents stop within is same loaded stops =
+pub tables_stop_at : (files now : Files) (names : Names) (schema : List Table) (i : ℕ) (table : Table) (contents : List Contents) (stop : Stop) → i < length schema → table ≡ get_or schema i table →
+    now ≡ files → TablesAre files names (take i schema) contents → StopsAtTable now names table stop → StopsAtTables files names schema stop
+tables_stop_at files now names schema i table contents stop within is same loaded stops =
     inr (
       take i schema,
       table,
@@ -163,7 +148,7 @@ tables_stop_at files now folder schema i table contents stop within is same load
       contents,
       split schema i table within is,
       loaded,
-      subst (λ (f : Files). StopsAs (IsNoTable f folder table) (table_file_of folder table.name) stop) same stops,
+      subst (λ (f : Files). StopsAtTable f names table stop) same stops,
     )
 
 -- a stage's stop for a reason that is one of another's
@@ -179,12 +164,18 @@ StopsAs-files limits files names reason name (Refused refusal line) settle named
 StopsAs-files limits files names reason name (Unread file) settle named is = subst (λ (octets : List ℕ). IsFileOf files names octets) (sym is) named
 StopsAs-files limits files names reason name NoMemory settle named stops = tt
 
+StopsBy-files : (limits : Limits) (files : Files) (names : Names) (reason : Cause → Type 0) (named : List ℕ → Type 0) (stop : Stop) → ((cause : Cause) → reason cause → FilesSettle limits files names cause) →
+    ((name : List ℕ) → named name → IsFileOf files names name) → StopsBy reason named stop → FilesStop limits files names stop
+StopsBy-files limits files names reason named (Refused refusal line) settle may (cause, holds, is) = (cause, settle cause holds, is)
+StopsBy-files limits files names reason named (Unread file) settle may is = may (octets_of file) is
+StopsBy-files limits files names reason named NoMemory settle may stops = tt
+
 module _ (limits : Limits) (files : Files) (names : Names) where
   pub schema_stops : (stop : Stop) → StopsAs (IsNoSchema files names.schema) names.schema stop → FilesStop limits files names stop
   schema_stops stop stops = StopsAs-files limits files names (IsNoSchema files names.schema) names.schema stop (schema_settles limits files names) (inl refl) stops
 
   -- where the tables' stage stopped, after a schema that was accepted
-  pub tables_stop : (now : Files) (schema : List Table) (stop : Stop) → now ≡ files → SchemaIs files names.schema schema → StopsAtTables now names.folder schema stop → FilesStop limits files names stop
+  pub tables_stop : (now : Files) (schema : List Table) (stop : Stop) → now ≡ files → SchemaIs files names.schema schema → StopsAtTables now names schema stop → FilesStop limits files names stop
   tables_stop now schema stop same declared (inl is) = subst (FilesStop limits files names) (sym is) tt
   tables_stop now schema stop same declared (inr (before, table, behind, contents, is, loaded, stops)) =
       let next : IsNextTable files names table = record {
@@ -192,18 +183,18 @@ module _ (limits : Limits) (files : Files) (names : Names) where
         behind = behind;
         declared = subst (λ (s : List Table). SchemaIs files names.schema s) is declared;
         contents = contents;
-        loaded = subst (λ (f : Files). TablesAre f names.folder before contents) same loaded;
+        loaded = subst (λ (f : Files). TablesAre f names before contents) same loaded;
       } in
-      StopsAs-files limits files names (IsNoTable files names.folder table) (table_file_of names.folder table.name) stop
+      StopsBy-files limits files names (IsNoTable files names table) (IsTableFile files names table.name) stop
       (λ cause none. table_settles limits files names table cause next none)
-      (inr (inl (table, next, refl)))
-      (subst (λ (f : Files). StopsAs (IsNoTable f names.folder table) (table_file_of names.folder table.name) stop) same stops)
+      (λ name is. inr (inl (table, next, is)))
+      (subst (λ (f : Files). StopsAtTable f names table stop) same stops)
 
   -- what was accepted before the queries file
-  pub tables_accepted : (now : Files) (schema : List Table) (tables : List Contents) → now ≡ files → SchemaIs files names.schema schema → TablesAre now names.folder schema tables → HasTables files names schema tables
+  pub tables_accepted : (now : Files) (schema : List Table) (tables : List Contents) → now ≡ files → SchemaIs files names.schema schema → TablesAre now names schema tables → HasTables files names schema tables
   tables_accepted now schema tables same declared loaded = record {
     declared = declared;
-    loaded = subst (λ (f : Files). TablesAre f names.folder schema tables) same loaded;
+    loaded = subst (λ (f : Files). TablesAre f names schema tables) same loaded;
   }
 
   -- where the queries' stage stopped
@@ -225,12 +216,12 @@ module _ (limits : Limits) (files : Files) (names : Names) where
 
 -- ---- the tables' files, one after another
 
-pub TablesAre-more : (files : Files) (folder : List ℕ) (tables : List Table) (contents : List Contents) (table : Table) (one : Contents) →
-    TablesAre files folder tables contents → TableIs files folder table one → TablesAre files folder (tables ++ table ∷ []) (contents ++ one ∷ [])
-TablesAre-more files folder [] [] table one are is = (is, tt)
-TablesAre-more files folder [] (first ∷ contents) table one are is = absurd are
-TablesAre-more files folder (first ∷ tables) [] table one are is = absurd are
-TablesAre-more files folder (first ∷ tables) (held ∷ contents) table one are is = (are.0, TablesAre-more files folder tables contents table one are.1 is)
+pub TablesAre-more : (files : Files) (names : Names) (tables : List Table) (contents : List Contents) (table : Table) (one : Contents) →
+    TablesAre files names tables contents → TableIs files names table one → TablesAre files names (tables ++ table ∷ []) (contents ++ one ∷ [])
+TablesAre-more files names [] [] table one are is = (is, tt)
+TablesAre-more files names [] (first ∷ contents) table one are is = absurd are
+TablesAre-more files names (first ∷ tables) [] table one are is = absurd are
+TablesAre-more files names (first ∷ tables) (held ∷ contents) table one are is = (are.0, TablesAre-more files names tables contents table one are.1 is)
 
 -- ---- after what was asked for was read
 

@@ -16,7 +16,7 @@ use Rattle.qw_bench.specs.Standing.{Standing}
 use Rattle.qw_command_line.specs.Words.{run, compile, check, gen, Reading, RunOptions, command, no_command, out_of_range, TextNames, reading}
 use Rattle.qw_top.specs.Causes.{Cause, words_refused, number_out_of_range, schema_too_long, schema_refused, queries_too_long, queries_refused, queries_mistyped, no_statement, module_too_long, module_refused, status_of_cause}
 use Rattle.qw_top.specs.Delivered.{CommandNotes, LeavesBench, LeavesNothing, RunLeaves}
-use Rattle.qw_top.specs.FileNames.{table_file_of}
+use Rattle.qw_top.specs.FileNames.{file_of}
 use Rattle.qw_top.specs.Generated.{generated_files, generated_names}
 use Rattle.qw_top.specs.Limits.{limits_of, most_module_octets, most_table_octets, most_text_octets}
 use Rattle.qw_top.specs.Output.{TookFront, with_text}
@@ -193,13 +193,14 @@ Notes files words fault_name status old new = NotesBy files (reading words) faul
 abbrev pub IsTextLimit : (schema queries : List ℕ) → (name : List ℕ) → (limit : ℕ) → Type 0
 IsTextLimit schema queries name limit = ((name ≡ schema) ⊎ (name ≡ queries)) × (limit ≡ most_text_octets)
 
--- the limit of the file of a table in a folder
-abbrev pub IsTableLimit : (folder : List ℕ) → (name : List ℕ) → (limit : ℕ) → Type 0
-IsTableLimit folder name limit = ((table : List ℕ) × (name ≡ table_file_of folder table)) × (limit ≡ most_table_octets)
+-- the limit of a file of a table
+abbrev pub IsTableLimit : Names → (name : List ℕ) → (limit : ℕ) → Type 0
+IsTableLimit names name limit =
+    ((table : List ℕ) × (part : ℕ) × (name ≡ file_of names.folder names.parts table part)) × (limit ≡ most_table_octets)
 
 -- the limits of the files of a run
 abbrev pub IsRunLimit : Names → (name : List ℕ) → (limit : ℕ) → Type 0
-IsRunLimit names name limit = IsTextLimit names.schema names.queries name limit ⊎ IsTableLimit names.folder name limit
+IsRunLimit names name limit = IsTextLimit names.schema names.queries name limit ⊎ IsTableLimit names name limit
 
 -- a limit of the file of this name, by what the words say of it; they may name one file twice
 abbrev pub IsLimitBy : Reading → (name : List ℕ) → (limit : ℕ) → Type 0

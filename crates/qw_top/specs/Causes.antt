@@ -34,15 +34,16 @@ use Rattle.qw_top.specs.declared.status.Status.{Status}
 use Rattle.qw_top.specs.declared.status.Status.TheVariants.{WordsRefused, SchemaRefused, TableFileRefused, QueriesRefused, TotalPages}
 
 -- What the words and the files settle: no words of a command, or words with a number that is out of its range; a file that is
--- longer than its limit; a text that is no schema, a table file that stands for no rows, a text that is no script, a script with a
+-- longer than its limit; a text that is no schema, a table whose files stand for no rows, a text that is no script, a script with a
 -- query that means nothing over the schema, octets that are no valid module, each with its fault; a statement that isn't there; or more pages than a memory has.
+-- Where tables have parts, a table's file is told with the number of its part.
 pub data Cause : Type 0 where
   words_refused : Cause
   number_out_of_range : Number → Cause
   schema_too_long : Cause
   schema_refused : SchemaFault → Cause
-  table_too_long : Table → Cause
-  table_refused : Table → LoadFault → Cause
+  table_too_long : Table → (number : Option ℕ) → Cause
+  table_refused : Table → (number : Option ℕ) → LoadFault → Cause
   queries_too_long : Cause
   queries_refused : ParseFault → Cause
   queries_mistyped : TypeFault → Cause
@@ -57,8 +58,8 @@ status_of_cause words_refused = WordsRefused
 status_of_cause (number_out_of_range number) = WordsRefused
 status_of_cause schema_too_long = SchemaRefused
 status_of_cause (schema_refused fault) = SchemaRefused
-status_of_cause (table_too_long table) = TableFileRefused
-status_of_cause (table_refused table fault) = TableFileRefused
+status_of_cause (table_too_long table number) = TableFileRefused
+status_of_cause (table_refused table number fault) = TableFileRefused
 status_of_cause queries_too_long = QueriesRefused
 status_of_cause (queries_refused fault) = QueriesRefused
 status_of_cause (queries_mistyped fault) = QueriesRefused
@@ -160,17 +161,22 @@ cell_cause cell.NotUtf8 = not_utf8
 abbrev pub column_name : Table → ℕ → List ℕ
 column_name table index = option_map_or (λ (column : Column). column.name) (slice_get table.columns index) []
 
--- a table, and what is wrong in its record of this number
-abbrev pub in_record : Table → ℕ → List ℕ
-in_record table row = table.name ++ codes " record " ++ decimal row
+-- a table, or the part of it of this number
+abbrev pub file_words : Table → (number : Option ℕ) → List ℕ
+file_words table None = table.name
+file_words table (Some number) = table.name ++ codes " part " ++ decimal number
 
--- why a table file stands for no rows
-abbrev pub table_cause : Table → LoadFault → List ℕ
-table_cause table load.BadHeader = table.name ++ codes ": bad header"
-table_cause table (load.FieldCount row) = in_record table row ++ codes ": field count"
-table_cause table (load.Field row index why) = in_record table row ++ codes " column " ++ column_name table index ++ codes ": " ++ cell_cause why
-table_cause table load.TooManyRows = table.name ++ codes ": too many rows"
-table_cause table load.NoMemory = codes "want of memory"
+-- a table's file, and what is wrong in its record of this number
+abbrev pub in_record : Table → (number : Option ℕ) → ℕ → List ℕ
+in_record table number row = file_words table number ++ codes " record " ++ decimal row
+
+-- why a table's file stands for no rows
+abbrev pub table_cause : Table → (number : Option ℕ) → LoadFault → List ℕ
+table_cause table number load.BadHeader = file_words table number ++ codes ": bad header"
+table_cause table number (load.FieldCount row) = in_record table number row ++ codes ": field count"
+table_cause table number (load.Field row index why) = in_record table number row ++ codes " column " ++ column_name table index ++ codes ": " ++ cell_cause why
+table_cause table number load.TooManyRows = file_words table number ++ codes ": too many rows"
+table_cause table number load.NoMemory = codes "want of memory"
 
 -- the name of what is out of the profile
 abbrev pub what_words : What → List ℕ
@@ -205,8 +211,8 @@ words_of_cause words_refused = None
 words_of_cause (number_out_of_range number) = Some (codes "words: " ++ name_of number ++ codes " out of range")
 words_of_cause schema_too_long = Some (codes "schema: " ++ too_long)
 words_of_cause (schema_refused fault) = Some (codes "schema: " ++ schema_cause fault)
-words_of_cause (table_too_long table) = Some (table.name ++ codes ": " ++ too_long)
-words_of_cause (table_refused table fault) = Some (table_cause table fault)
+words_of_cause (table_too_long table number) = Some (file_words table number ++ codes ": " ++ too_long)
+words_of_cause (table_refused table number fault) = Some (table_cause table number fault)
 words_of_cause queries_too_long = Some (codes "queries: " ++ too_long)
 words_of_cause (queries_refused fault) = Some (codes "queries: " ++ script_cause fault)
 words_of_cause (queries_mistyped fault) = Some (codes "queries: " ++ typing_cause fault)

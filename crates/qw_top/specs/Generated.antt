@@ -1,5 +1,5 @@
 -- The files of generated input, which a run reads in place of those of a folder.
-use Rattle.std.specs.Prelude.{ℕ, List, [], Option, Some, if◌then◌else◌, codes}
+use Rattle.std.specs.Prelude.{ℕ, List, [], Option, Some, None, if◌then◌else◌, codes}
 use Rattle.std.specs.Str.{bytes_eq}
 use Rattle.qw_generate.specs.Generated.{queries_text, sale_text, schema_text, shop_text}
 use Rattle.qw_command_line.specs.Words.{Names}
@@ -7,7 +7,7 @@ use Rattle.qw_top.specs.Top.{Files}
 
 -- their names
 abbrev pub generated_names : Names
-generated_names = record { schema = codes "schema.sql"; folder = codes "."; queries = codes "queries.sql" }
+generated_names = record { schema = codes "schema.sql"; folder = codes "."; queries = codes "queries.sql"; null = None; parts = None }
 
 -- The text of the file of a name, of these four. A file of any other name, which no run asks for, is empty.
 abbrev pub text_named : (schema sale shop queries : List ℕ) → (name : List ℕ) → List ℕ

@@ -8,4 +8,5 @@ pub mod Shelves
 pub mod Sinks
 pub mod Stages
 pub mod Stop
+pub mod Tables
 pub mod WholeFiles

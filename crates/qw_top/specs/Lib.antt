@@ -9,6 +9,7 @@ pub mod Inner
 pub mod Limits
 pub mod Notes
 pub mod Output
+pub mod Plain
 pub mod Status
 pub mod Top
 pub mod Worked

@@ -1,5 +1,5 @@
 -- What the files of a run hold, and which ends of a run the words and the files explain.
-use Rattle.std.specs.Prelude.{◌≡◌, ◌⊎◌, ℕ, ◌<◌, ◌≤◌, List, [], ◌∷◌, ◌++◌, Option, Some, length, map, Contains, slice_get}
+use Rattle.std.specs.Prelude.{◌≡◌, ◌⊎◌, ℕ, suc, ◌+◌, ◌<◌, ◌≤◌, List, [], ◌∷◌, ◌++◌, Option, Some, length, map, Contains, slice_get}
 use Rattle.std.specs.List.{AllByRecursion}
 use Rattle.qw_io.specs.Files.{OfFile}
 use Rattle.qw_types.specs.Contents.{Contents, column_type}
@@ -7,7 +7,8 @@ use Rattle.qw_types.specs.declared.code.Code.{Code}
 use Rattle.qw_types.specs.declared.schema.Table.{Table}
 use Rattle.qw_types.specs.declared.value.Val.{Val}
 use Rattle.qw_linear.specs.Memory.{most_pages}
-use Rattle.qw_csv.specs.Loading.{IsFirstFault, Loads}
+use Rattle.qw_csv.specs.Loading.{IsFirstPartFault, LoadsParts}
+use Rattle.qw_csv.specs.declared.loading.LoadFault.{LoadFault}
 use Rattle.qw_meaning.specs.Outcome.{Raises}
 use Rattle.qw_grouped.specs.Whole.{Whole, whole_outcome}
 use Rattle.qw_order.specs.declared.sort_key.SortKey.{SortKey}
@@ -25,7 +26,7 @@ use Rattle.qw_bench.specs.declared.bench.Limits.{Limits}
 use Rattle.qw_sink.specs.declared.sink.Head.{Head}
 pub use Rattle.qw_command_line.specs.Words.{Names}
 use Rattle.qw_top.specs.Causes.{Cause, schema_too_long, schema_refused, table_too_long, table_refused, queries_too_long, queries_refused, queries_mistyped, total_pages, status_of_cause}
-use Rattle.qw_top.specs.FileNames.{table_file_of}
+use Rattle.qw_top.specs.FileNames.{file_of, files_in, told_part}
 use Rattle.qw_top.specs.Limits.{most_table_octets, most_text_octets}
 use Rattle.qw_top.specs.declared.status.Status.{Status}
 use Rattle.qw_top.specs.declared.status.Status.TheVariants.{Done, WordsRefused, SchemaRefused, TableFileRefused, QueriesRefused, ReadFailed, WriteFailed, Raised, PageLimitMet, StepLimitMet, TotalPages, NoMemory}
@@ -52,18 +53,29 @@ pub record SchemaIs (files : Files) (name : List ℕ) (schema : List Table) : Ty
   pub file : IsFile files name most_text_octets text
   pub reads : ReadsSchema text schema
 
--- the file of a table in this folder stands for these rows
-pub record TableIs (files : Files) (folder : List ℕ) (table : Table) (contents : Contents) : Type 0 where
-  pub bytes : List ℕ
-  pub file : IsFile files (table_file_of folder table.name) most_table_octets bytes
-  pub loads : Loads table bytes contents.rows
+-- The files of a table from the one of this number on hold these octets, one for one, each within the limit.
+abbrev pub HoldFrom : Files → Names → (table : List ℕ) → (parts : List (List ℕ)) → (part : ℕ) → Type 0
+HoldFrom files names table [] part = Unit {0}
+HoldFrom files names table (bytes ∷ parts) part =
+    IsFile files (file_of names.folder names.parts table part) most_table_octets bytes × HoldFrom files names table parts (suc part)
+
+-- all its files hold these octets: its parts in order, or its one file
+pub record HoldAll (files : Files) (names : Names) (table : List ℕ) (parts : List (List ℕ)) : Type 0 where
+  pub each : HoldFrom files names table parts 1
+  pub all : length parts ≡ files_in names.parts
+
+-- the files of a table stand for these rows
+pub record TableIs (files : Files) (names : Names) (table : Table) (contents : Contents) : Type 0 where
+  pub parts : List (List ℕ)
+  pub held : HoldAll files names table.name parts
+  pub loads : LoadsParts table names.null parts contents.rows
   pub columns : contents.columns ≡ map column_type table.columns
 
--- the files of tables in this folder stand for these rows, one for one
-abbrev pub TablesAre : Files → (folder : List ℕ) → List Table → List Contents → Type 0
-TablesAre files folder [] [] = Unit {0}
-TablesAre files folder (table ∷ tables) (one ∷ contents) = TableIs files folder table one × TablesAre files folder tables contents
-TablesAre files folder _ _ = ⊥
+-- the files of tables stand for these rows, one for one
+abbrev pub TablesAre : Files → Names → List Table → List Contents → Type 0
+TablesAre files names [] [] = Unit {0}
+TablesAre files names (table ∷ tables) (one ∷ contents) = TableIs files names table one × TablesAre files names tables contents
+TablesAre files names _ _ = ⊥
 
 -- A query of a script: what it means, the header of its rows, and the keys by which these are sorted, none without ORDER BY.
 pub record Asked : Type 0 where
@@ -107,7 +119,7 @@ pub record QueriesAre (files : Files) (name : List ℕ) (schema : List Table) (q
 -- the schema file declares these tables, and their files stand for these rows
 pub record HasTables (files : Files) (names : Names) (schema : List Table) (tables : List Contents) : Type 0 where
   pub declared : SchemaIs files names.schema schema
-  pub loaded : TablesAre files names.folder schema tables
+  pub loaded : TablesAre files names schema tables
 
 -- the schema file declares these tables, their files stand for these rows, and the queries file asks for these queries over them
 pub record HasQueries (files : Files) (names : Names) (schema : List Table) (tables : List Contents) (queries : List Asked) : Type 0 where
@@ -120,13 +132,25 @@ pub record IsNextTable (files : Files) (names : Names) (table : Table) : Type 0 
   pub behind : List Table
   pub declared : SchemaIs files names.schema (before ++ table ∷ behind)
   pub contents : List Contents
-  pub loaded : TablesAre files names.folder before contents
+  pub loaded : TablesAre files names before contents
 
--- The name of a file that a run may read: that of the schema file; where this was accepted, those of the tables' files, each where
--- those before it were accepted; and where all were, that of the queries file.
+-- The files of a table before the one of this number, counted from 1, are within the limit.
+pub record IsNextPart (files : Files) (names : Names) (table : List ℕ) (part : ℕ) : Type 0 where
+  pub before : List (List ℕ)
+  pub held : HoldFrom files names table before 1
+  pub next : part ≡ length before + 1
+  pub few : part ≤ files_in names.parts
+
+-- the name of a file of a table, of which those before it are within the limit
+abbrev pub IsTableFile : Files → Names → (table : List ℕ) → (name : List ℕ) → Type 0
+IsTableFile files names table name = (part : ℕ) × IsNextPart files names table part × (name ≡ file_of names.folder names.parts table part)
+
+-- The name of a file that a run may read: that of the schema file; where this was accepted, those of the tables' files, a table's files
+-- where those of the tables before it were accepted, and each of them where those before it are within the limit; and where all were
+-- accepted, that of the queries file.
 abbrev pub IsFileOf : Files → Names → List ℕ → Type 0
 IsFileOf files names name = (name ≡ names.schema)
-    ⊎ ((table : Table) × IsNextTable files names table × (name ≡ table_file_of names.folder table.name))
+    ⊎ ((table : Table) × IsNextTable files names table × IsTableFile files names table.name name)
     ⊎ ((schema : List Table) × (tables : List Contents) × HasTables files names schema tables × (name ≡ names.queries))
 
 -- ---- which cause they settle
@@ -135,15 +159,25 @@ IsFileOf files names name = (name ≡ names.schema)
 abbrev pub same_limits : Limits → List Asked → List Limits
 same_limits limits queries = map (λ (asked : Asked). limits) queries
 
--- The files of these names settle the cause for which a run ends before it has a bench, under limits for each query. A file is
--- refused only where all files before it were accepted.
+-- the file of a table of this number is too long, and those before it aren't
+abbrev pub IsLongPart : Files → Names → Table → (part : ℕ) → Type 0
+IsLongPart files names table part =
+    IsNextPart files names table.name part × IsTooLong files (file_of names.folder names.parts table.name part) most_table_octets
+
+-- no file of a table is too long, and the first fault among them is in the one of this number
+abbrev pub IsFaultyPart : Files → Names → Table → (part : ℕ) → LoadFault → Type 0
+IsFaultyPart files names table part fault =
+    (parts : List (List ℕ)) × HoldAll files names table.name parts × IsFirstPartFault table names.null parts part fault
+
+-- The files of these names settle the cause for which a run ends before it has a bench, under limits for each query. A table is
+-- refused only where the schema file and all tables before it were accepted, and the queries file only where all tables were.
 abbrev pub FilesSettle : (limits : Limits) → Files → Names → Cause → Type 0
 FilesSettle limits files names schema_too_long = IsTooLong files names.schema most_text_octets
 FilesSettle limits files names (schema_refused fault) = (text : List ℕ) × IsFile files names.schema most_text_octets text × IsRefused text fault
-FilesSettle limits files names (table_too_long table) =
-    IsNextTable files names table × IsTooLong files (table_file_of names.folder table.name) most_table_octets
-FilesSettle limits files names (table_refused table fault) = IsNextTable files names table
-    × ((bytes : List ℕ) × IsFile files (table_file_of names.folder table.name) most_table_octets bytes × IsFirstFault table bytes fault)
+FilesSettle limits files names (table_too_long table number) =
+    IsNextTable files names table × ((part : ℕ) × (number ≡ told_part names.parts part) × IsLongPart files names table part)
+FilesSettle limits files names (table_refused table number fault) =
+    IsNextTable files names table × ((part : ℕ) × (number ≡ told_part names.parts part) × IsFaultyPart files names table part fault)
 FilesSettle limits files names queries_too_long = (schema : List Table) × (tables : List Contents)
     × HasTables files names schema tables × IsTooLong files names.queries most_text_octets
 FilesSettle limits files names (queries_refused fault) = (schema : List Table) × (tables : List Contents) × (text : List ℕ)

@@ -3,7 +3,7 @@
 ghost use Rattle.std.specs.Prelude.{◌≡◌, ◌++◌, IfOk, codes};
 ghost use Rattle.std.specs.Fmt.{decimal};
 ghost use Rattle.std.specs.String.{string_bytes};
-ghost use Rattle.qw_top.specs.Causes.{cell_cause, column_name, counted, counted_in_script, in_statement, kind_words, line_of_cause, module_cause, part_words, schema_cause, script_cause, status_of_cause, table_cause, too_many, typing_cause, what_words};
+ghost use Rattle.qw_top.specs.Causes.{cell_cause, column_name, counted, counted_in_script, file_words, in_statement, kind_words, line_of_cause, module_cause, part_words, schema_cause, script_cause, status_of_cause, table_cause, too_many, typing_cause, what_words};
 ghost use Rattle.qw_top.specs.Inner.Causes.{cause_of};
 ghost use Rattle.qw_top.specs.Inner.Stop.{refusal_status};
 
@@ -24,8 +24,9 @@ use std::alloc::Global;
 pub(crate) enum Cause<'a> {
     SchemaTooLong,
     Schema(&'a SchemaFault),
-    TableTooLong(&'a Table),
-    Table(&'a Table, &'a LoadFault),
+    /// A table's file; where tables have parts, that of the part of this number, counted from 1.
+    TableTooLong(&'a Table, Option<u64>),
+    Table(&'a Table, Option<u64>, &'a LoadFault),
     QueriesTooLong,
     Queries(&'a ParseFault),
     /// The queries are a script, and one means nothing over the schema.
@@ -45,7 +46,7 @@ impl Cause<'_> {
     {
         match self {
             Cause::SchemaTooLong | Cause::Schema(_) => Refusal::Schema,
-            Cause::TableTooLong(_) | Cause::Table(_, _) => Refusal::TableFile,
+            Cause::TableTooLong(_, _) | Cause::Table(_, _, _) => Refusal::TableFile,
             Cause::QueriesTooLong
             | Cause::Queries(_)
             | Cause::Mistyped(_)
@@ -65,9 +66,12 @@ impl Cause<'_> {
                 let words = schema_cause(alloc, fault)?;
                 line_on(alloc, "schema", words.as_str())
             }
-            Cause::TableTooLong(table) => line_on(alloc, table.name.as_str(), "too long"),
-            Cause::Table(table, fault) => {
-                let words = table_cause(alloc, table, fault)?;
+            Cause::TableTooLong(table, part) => {
+                let told = file_words(alloc, table, part)?;
+                line_on(alloc, told.as_str(), "too long")
+            }
+            Cause::Table(table, part, fault) => {
+                let words = table_cause(alloc, table, part, fault)?;
                 line_of(alloc, words.as_str())
             }
             Cause::QueriesTooLong => line_on(alloc, "queries", "too long"),
@@ -230,11 +234,28 @@ fn kind_words(kind: FaultKind) -> &'static str
     }
 }
 
-/// The words for why a table file stands for no rows.
-fn table_cause(alloc: Global, table: &Table, fault: &LoadFault) -> Result<String, NoMemory>
-    ensures { IfOk result (λ words. string_bytes words ≡ table_cause table.now fault.now) }
+/// The words for a table's file: the table's name, and the number of the part where there is one.
+fn file_words(alloc: Global, table: &Table, part: Option<u64>) -> Result<String, NoMemory>
+    ensures { IfOk result (λ words. string_bytes words ≡ file_words table.now part) }
 {
     let name = table.name.as_str();
+    match part {
+        Some(part) => Ok(format!(in alloc; "{name} part {part}")?),
+        None => Ok(String::from_str(alloc, name)?),
+    }
+}
+
+/// The words for why a table's file stands for no rows.
+fn table_cause(
+    alloc: Global,
+    table: &Table,
+    part: Option<u64>,
+    fault: &LoadFault,
+) -> Result<String, NoMemory>
+    ensures { IfOk result (λ words. string_bytes words ≡ table_cause table.now part fault.now) }
+{
+    let told = file_words(alloc, table, part)?;
+    let name = told.as_str();
     match fault {
         LoadFault::BadHeader => Ok(format!(in alloc; "{name}: bad header")?),
         LoadFault::FieldCount { row } => Ok(format!(in alloc; "{name} record {row}: field count")?),

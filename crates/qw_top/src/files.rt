@@ -6,17 +6,18 @@ ghost use Rattle.std.specs.Option.{option_map};
 ghost use Rattle.qw_io.specs.Files.{OfFile, watched_after};
 ghost use Rattle.qw_top.specs.Asking.{AsksWithin, IsOne};
 ghost use Rattle.qw_top.specs.Inner.Shelves.{HasRead, failed_read, told_by};
-ghost use Rattle.qw_top.specs.FileNames.{table_file_of};
+ghost use Rattle.qw_top.specs.FileNames.{file_of, files_in, part_file_of, table_file_of};
 ghost use Rattle.qw_top.specs.Inner.WholeFiles.{IsFront};
 
 use qw_io::{IoFault, Shelf};
+use qw_types::NoMemory;
 use std::alloc::{AllocError, Global};
 use thiserror::Error;
 
 /// The greatest length of a schema file and of a queries file, in octets.
 pub const MAX_TEXT_FILE: usize = 1_048_576;
 
-/// The greatest length of a table file, in octets.
+/// The greatest length of a file of a table, in octets.
 pub const MAX_TABLE_FILE: usize = 268_435_456;
 
 /// The greatest length of the file of a module, in octets.
@@ -62,6 +63,53 @@ pub fn table_file_name(alloc: Global, folder: &str, table: &str) -> Result<Strin
     name.push_str(table.to_ascii_lowercase(alloc)?.as_str())?;
     name.push_str(".csv")?;
     Ok(name)
+}
+
+/// The name of the file of the part of this number of a table in a folder: `FOLDER/TABLE.PART.csv`, with the table's name in lower case.
+///
+/// # Errors
+///
+/// Want of memory.
+pub fn part_file_name(
+    alloc: Global,
+    folder: &str,
+    table: &str,
+    part: u64,
+) -> Result<String, NoMemory>
+    ensures { IfOk result (λ name. string_bytes name ≡ part_file_of folder.now table.now part) }
+{
+    let mut name = String::from_str(alloc, folder)?;
+    name.push_str("/")?;
+    name.push_str(table.to_ascii_lowercase(alloc)?.as_str())?;
+    name.push_str(".")?;
+    let number = format!(in alloc; "{part}")?;
+    name.push_str(number.as_str())?;
+    name.push_str(".csv")?;
+    Ok(name)
+}
+
+/// The name of a table's file of this number, counted from 1: that of its part, where each table has so many, and else that of its one
+/// file.
+pub(crate) fn file_name(
+    alloc: Global,
+    folder: &str,
+    parts: Option<u64>,
+    table: &str,
+    part: u64,
+) -> Result<String, NoMemory>
+    ensures { IfOk result (λ name. string_bytes name ≡ file_of folder.now parts table.now part) }
+{
+    match parts {
+        Some(_) => part_file_name(alloc, folder, table, part),
+        None => Ok(table_file_name(alloc, folder, table)?),
+    }
+}
+
+/// How many files a table has.
+pub(crate) fn files_in(parts: Option<u64>) -> u64
+    ensures { result ≡ files_in parts }
+{
+    parts.unwrap_or(1)
 }
 
 /// Reads a whole file of at most `limit` octets, piece by piece. It asks for no octet behind the one after the limit.

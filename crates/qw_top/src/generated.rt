@@ -71,6 +71,8 @@ pub(crate) fn words_of<'a>(options: RunOptions) -> RunWords<'a>
         schema: "schema.sql",
         folder: ".",
         queries: "queries.sql",
+        null: None,
+        parts: None,
         options,
     }
 }

@@ -1,116 +1,311 @@
-//! The file of a table, loaded as it is read, piece by piece within a limit.
+//! The files of a table, loaded as they are read, one after another and piece by piece, each within its limit.
 
-ghost use Rattle.std.specs.Prelude.{◌≡◌, ◌≢◌, ◌+◌, ◌<◌, ◌≤◌, ℕ, List, take, drop, map, length, IfErr, IfOk, IsErrOf, OnOk};
+ghost use Rattle.std.specs.String.{string_bytes};
+ghost use Rattle.std.specs.Prelude.{◌≡◌, ◌≢◌, ◌+◌, ◌++◌, ◌<◌, ◌≤◌, ℕ, List, [], take, drop, map, length, IfErr, IfOk, IsErrOf, OnOk, ⊤};
 ghost use Rattle.qw_types.specs.Contents.{column_type};
 ghost use Rattle.qw_io.specs.Files.{OfFile};
-ghost use Rattle.qw_csv.specs.Loading.{IsFirstFault, Loads};
+ghost use Rattle.qw_csv.specs.Field.{lent};
+ghost use Rattle.qw_csv.specs.Loading.{HasTaken};
 ghost use Rattle.qw_csv.specs.declared.loading.LoadFault.{LoadFault};
+ghost use Rattle.qw_command_line.specs.Read.{names_of};
 ghost use Rattle.qw_top.specs.Asking.{AsksWithin, IsOne};
-ghost use Rattle.qw_top.specs.Inner.Shelves.{HasRead, failed_load, failed_read, failed_table, told_by};
-ghost use Rattle.qw_top.specs.Top.{IsFile, IsTooLong};
+ghost use Rattle.qw_top.specs.Call.{IsTableLimit};
+ghost use Rattle.qw_top.specs.FileNames.{files_in};
+ghost use Rattle.qw_top.specs.Inner.Shelves.{HasRead, failed_file, failed_load, failed_read, failed_table, failed_tables, told_by};
+ghost use Rattle.qw_top.specs.Inner.Tables.{Ends, Fails, Finishes, IsFaultyFront, IsFileFault, IsInFile, IsInLoad, IsInRead, IsTableFault, IsUnloaded, OfPart, Takes};
+ghost use Rattle.qw_top.specs.Inner.WholeFiles.{Reaches};
+ghost use Rattle.qw_top.specs.Top.{HoldAll, HoldFrom, IsFile, IsTooLong, TableIs};
 
-use crate::files::ReadFault;
+use crate::files::{MAX_TABLE_FILE, ReadFault, file_name, files_in};
+use qw_command_line::command::RunWords;
 use qw_csv::loading::LoadFault;
 use qw_csv::{Loaded, Loader};
 use qw_io::Shelf;
-use qw_types::Table;
+use qw_types::{NoMemory, Table};
 use std::alloc::Global;
 use thiserror::Error;
 
 /// How many octets a call asks a shelf for, at most.
 const PIECE: usize = 262_144;
 
-/// Why the file of a table wasn't loaded.
+/// Why a file wasn't taken.
 #[derive(Clone, Copy, Debug, PartialEq, Eq, Error)]
-pub(crate) enum TableFault {
+enum FileFault {
     #[error("{0}")]
     Unread(ReadFault),
     #[error("{0}")]
     Content(LoadFault),
 }
 
-impl From<ReadFault> for TableFault {
-    ghost use Rattle.qw_top.specs.declared.table_file.TableFault.TheVariants.{Unread};
+impl From<ReadFault> for FileFault {
+    ghost use Rattle.qw_top.specs.declared.table_file.FileFault.TheVariants.{Unread};
 
     ghost from_gives = { λ read fault. fault ≡ Unread read };
 
-    fn from(fault: ReadFault) -> TableFault {
-        TableFault::Unread(fault)
+    fn from(fault: ReadFault) -> FileFault {
+        FileFault::Unread(fault)
     }
 }
 
-impl From<LoadFault> for TableFault {
-    ghost use Rattle.qw_top.specs.declared.table_file.TableFault.TheVariants.{Content};
+/// Why the files of a table weren't loaded. They are numbered from 1; a table that has no parts is one file.
+#[derive(Debug, Drop, Error)]
+pub(crate) enum TableFault {
+    /// The file of this number is longer than its limit.
+    #[error("file {0} is longer than its limit")]
+    TooLong(u64),
+    /// The file of this name could not be read.
+    #[error("a file could not be read")]
+    Unread(String),
+    /// The first fault of the records, which is in the file of this number. It is never want of memory.
+    #[error("file {0}: {1}")]
+    Content(u64, LoadFault),
+    #[error("want of memory")]
+    NoMemory,
+}
 
-    ghost from_gives = { λ load fault. fault ≡ Content load };
+impl From<NoMemory> for TableFault {
+    ghost use Rattle.qw_top.specs.declared.table_file.TableFault.TheVariants.{NoMemory};
 
-    fn from(fault: LoadFault) -> TableFault {
-        TableFault::Content(fault)
+    ghost from_gives = { λ _ fault. fault ≡ NoMemory };
+
+    fn from(_fault: NoMemory) -> TableFault {
+        TableFault::NoMemory
     }
 }
 
-/// Loads the file of a table, of at most `limit` octets. It asks for no octet behind the one after the limit. The file is read to its
-/// end, or to that octet, before a fault of its records is told.
+/// Loads the files of a table, in the order of their numbers. Of each it asks for no octet behind the one after the limit. All files are
+/// read to their ends, or one of them to that octet, before a fault of the records is told.
 ///
 /// # Errors
 ///
-/// The fault of the reading, or else the first fault of the file.
-pub(crate) fn load_file<F: Shelf>(
+/// The first fault of the reading, or else the first fault of the records.
+pub(crate) fn load_files<F: Shelf>(
     alloc: Global,
     files: &mut F,
-    name: &str,
-    limit: usize,
+    names: &RunWords<'_>,
     table: &Table,
 ) -> Result<Loaded, TableFault>
-    requires { limit < 18446744073709551615 }
-    ensures loaded { IfOk result (λ loaded. (bytes : List ℕ) × IsFile (F.files files.old) name.now limit bytes × Loads table.now bytes loaded.rows) }
-    ensures columns { IfOk result (λ loaded. loaded.columns ≡ map column_type table.now.columns) }
-    ensures too_long { IsErrOf result (TableFault.Unread ReadFault.TooLong) → IsTooLong (F.files files.old) name.now limit }
-    ensures refused { IfErr result (λ e. (fault : LoadFault) → e ≡ TableFault.Content fault → fault ≢ LoadFault.NoMemory
-        → (bytes : List ℕ) × IsFile (F.files files.old) name.now limit bytes × IsFirstFault table.now bytes fault) }
-    ensures shelf { HasRead (failed_load name.now result) (told_by F.Shelf files.old) (told_by F.Shelf files.new) }
-    ensures asked { AsksWithin (IsOne name.now limit) (F.watched files.old) (F.watched files.new) }
+    ensures loaded { IfOk result (λ loaded. TableIs (F.files files.old) (names_of names.now) table.now loaded) }
+    ensures stops { IfErr result (λ fault. IsUnloaded (F.files files.old) (names_of names.now) table.now fault) }
+    ensures shelf { HasRead (failed_tables result) (told_by F.Shelf files.old) (told_by F.Shelf files.new) }
+    ensures asked { AsksWithin (IsTableLimit (names_of names.now)) (F.watched files.old) (F.watched files.new) }
 {
-    let mut buffer = vec![in alloc; 0; PIECE].map_err(|_| TableFault::Unread(ReadFault::NoMemory))?;
-    load_pieces(alloc, files, name, limit, table, buffer.as_mut_slice())
+    let mut buffer = vec![in alloc; 0; PIECE].map_err(|_| TableFault::NoMemory)?;
+    load_pieces(alloc, files, names, table, buffer.as_mut_slice())
 }
 
 /// The same, by pieces of at most the length of `piece`.
 fn load_pieces<F: Shelf>(
     alloc: Global,
     files: &mut F,
-    name: &str,
-    limit: usize,
+    names: &RunWords<'_>,
     table: &Table,
     piece: &mut [u8],
 ) -> Result<Loaded, TableFault>
-    requires room { 0 < length piece.old }
-    requires small { limit < 18446744073709551615 }
-    ensures loaded { IfOk result (λ loaded. (bytes : List ℕ) × IsFile (F.files files.old) name.now limit bytes × Loads table.now bytes loaded.rows) }
-    ensures columns { IfOk result (λ loaded. loaded.columns ≡ map column_type table.now.columns) }
-    ensures too_long { IsErrOf result (TableFault.Unread ReadFault.TooLong) → IsTooLong (F.files files.old) name.now limit }
-    ensures refused { IfErr result (λ e. (fault : LoadFault) → e ≡ TableFault.Content fault → fault ≢ LoadFault.NoMemory
-        → (bytes : List ℕ) × IsFile (F.files files.old) name.now limit bytes × IsFirstFault table.now bytes fault) }
-    ensures shelf { HasRead (failed_load name.now result) (told_by F.Shelf files.old) (told_by F.Shelf files.new) }
-    ensures asked { AsksWithin (IsOne name.now limit) (F.watched files.old) (F.watched files.new) }
+    requires { 0 < length piece.old }
+    ensures loaded { IfOk result (λ loaded. TableIs (F.files files.old) (names_of names.now) table.now loaded) }
+    ensures stops { IfErr result (λ fault. IsUnloaded (F.files files.old) (names_of names.now) table.now fault) }
+    ensures shelf { HasRead (failed_tables result) (told_by F.Shelf files.old) (told_by F.Shelf files.new) }
+    ensures asked { AsksWithin (IsTableLimit (names_of names.now)) (F.watched files.old) (F.watched files.new) }
 {
-    let mut loader = Loader::new(alloc, table)?;
-    let mut at = 0;
-    while at <= limit {
-        let count = fetch_piece(files, name, limit, at, piece)?;
-        if count == 0 {
-            return Ok(loader.finish(alloc, table)?);
+    match load_each(alloc, files, names, table, piece) {
+        Ok(loaded) => Ok(loaded),
+        Err(TableFault::Content(part, fault)) => {
+            Err(fault_among(alloc, files, names, table, part, fault, piece))
         }
-        match loader.take(alloc, table, &piece[..count]) {
+        Err(fault) => Err(fault),
+    }
+}
+
+/// The same, but for the files behind the one that is at fault, which aren't read.
+fn load_each<F: Shelf>(
+    alloc: Global,
+    files: &mut F,
+    names: &RunWords<'_>,
+    table: &Table,
+    piece: &mut [u8],
+) -> Result<Loaded, TableFault>
+    requires { 0 < length piece.old }
+    ensures loaded { IfOk result (λ loaded. TableIs (F.files files.old) (names_of names.now) table.now loaded) }
+    ensures stops { IfErr result (λ fault. IsTableFault (F.files files.old) (names_of names.now) table.now
+        (IsFaultyFront (F.files files.old) (names_of names.now) table.now) fault) }
+    ensures shelf { HasRead (failed_tables result) (told_by F.Shelf files.old) (told_by F.Shelf files.new) }
+    ensures asked { AsksWithin (IsTableLimit (names_of names.now)) (F.watched files.old) (F.watched files.new) }
+{
+    let Ok(mut loader) = Loader::new(alloc, table) else {
+        return Err(TableFault::NoMemory);
+    };
+    let last = files_in(names.parts) - 1;
+    for index in 0..last {
+        match load_part(alloc, files, names, table, index, loader, piece) {
             Ok(next) => loader = next,
-            Err(fault) => return Err(fault_of(files, name, limit, at + count, piece, fault)),
+            Err(fault) => return Err(fault),
+        }
+    }
+    load_last(alloc, files, names, table, last, loader, piece)
+}
+
+/// Takes the file of the number behind this one, which isn't the last one.
+fn load_part<F: Shelf>(
+    alloc: Global,
+    files: &mut F,
+    names: &RunWords<'_>,
+    table: &Table,
+    index: u64,
+    loader: Loader,
+    piece: &mut [u8],
+) -> Result<Loader, TableFault>
+    requires room { 0 < length piece.old }
+    requires few { index < 18446744073709551615 }
+    requires start { (parts : List (List ℕ)) × HasTaken table.now (names_of names.now).null parts loader [] }
+    ensures ended { IfOk result (λ next. OfPart (F.files files.old) (names_of names.now) table.now.name (index + 1) (Ends table.now (names_of names.now) loader next)) }
+    ensures stops { IfErr result (λ fault. IsFileFault (F.files files.old) (names_of names.now) table.now.name (index + 1)
+        (λ why. OfPart (F.files files.old) (names_of names.now) table.now.name (index + 1) (λ bytes. Fails table.now (names_of names.now) loader bytes why)) fault) }
+    ensures shelf { HasRead (failed_tables result) (told_by F.Shelf files.old) (told_by F.Shelf files.new) }
+    ensures asked { AsksWithin (IsTableLimit (names_of names.now)) (F.watched files.old) (F.watched files.new) }
+{
+    match take_file(alloc, files, names, table, index, loader, piece) {
+        Ok(taken) => match taken.next_part(alloc, table, null_octets(names)) {
+            Ok(next) => Ok(next),
+            Err(fault) => Err(in_load(index + 1, fault)),
+        },
+        Err(fault) => Err(fault),
+    }
+}
+
+/// Takes the file of the number behind this one, which is the last one.
+fn load_last<F: Shelf>(
+    alloc: Global,
+    files: &mut F,
+    names: &RunWords<'_>,
+    table: &Table,
+    index: u64,
+    loader: Loader,
+    piece: &mut [u8],
+) -> Result<Loaded, TableFault>
+    requires room { 0 < length piece.old }
+    requires few { index < 18446744073709551615 }
+    requires start { (parts : List (List ℕ)) × HasTaken table.now (names_of names.now).null parts loader [] }
+    ensures ended { IfOk result (λ loaded. OfPart (F.files files.old) (names_of names.now) table.now.name (index + 1) (Finishes table.now (names_of names.now) loader loaded.rows)) }
+    ensures columns { IfOk result (λ loaded. loaded.columns ≡ map column_type table.now.columns) }
+    ensures stops { IfErr result (λ fault. IsFileFault (F.files files.old) (names_of names.now) table.now.name (index + 1)
+        (λ why. OfPart (F.files files.old) (names_of names.now) table.now.name (index + 1) (λ bytes. Fails table.now (names_of names.now) loader bytes why)) fault) }
+    ensures shelf { HasRead (failed_tables result) (told_by F.Shelf files.old) (told_by F.Shelf files.new) }
+    ensures asked { AsksWithin (IsTableLimit (names_of names.now)) (F.watched files.old) (F.watched files.new) }
+{
+    match take_file(alloc, files, names, table, index, loader, piece) {
+        Ok(taken) => match taken.finish(alloc, table, null_octets(names)) {
+            Ok(loaded) => Ok(loaded),
+            Err(fault) => Err(in_load(index + 1, fault)),
+        },
+        Err(fault) => Err(fault),
+    }
+}
+
+/// Takes all octets of the file of the number behind this one, which is read to its end.
+fn take_file<F: Shelf>(
+    alloc: Global,
+    files: &mut F,
+    names: &RunWords<'_>,
+    table: &Table,
+    index: u64,
+    loader: Loader,
+    piece: &mut [u8],
+) -> Result<Loader, TableFault>
+    requires room { 0 < length piece.old }
+    requires few { index < 18446744073709551615 }
+    requires start { (parts : List (List ℕ)) × HasTaken table.now (names_of names.now).null parts loader [] }
+    ensures taken { IfOk result (λ next. OfPart (F.files files.old) (names_of names.now) table.now.name (index + 1) (Takes table.now (names_of names.now) loader next)) }
+    ensures stops { IfErr result (λ fault. IsFileFault (F.files files.old) (names_of names.now) table.now.name (index + 1)
+        (λ why. OfPart (F.files files.old) (names_of names.now) table.now.name (index + 1) (λ bytes. Fails table.now (names_of names.now) loader bytes why)) fault) }
+    ensures shelf { HasRead (failed_tables result) (told_by F.Shelf files.old) (told_by F.Shelf files.new) }
+    ensures asked { AsksWithin (IsTableLimit (names_of names.now)) (F.watched files.old) (F.watched files.new) }
+{
+    let number = index + 1;
+    let name = file_name(alloc, names.folder, names.parts, table.name.as_str(), number)?;
+    match take_pieces(alloc, files, name.as_str(), names, table, loader, piece) {
+        Ok(taken) => Ok(taken),
+        Err(fault) => Err(in_file(number, name, fault)),
+    }
+}
+
+/// A fault in the file of this number and this name.
+fn in_file(number: u64, name: String, fault: FileFault) -> TableFault
+    ensures { IsInFile number (string_bytes name) fault result }
+{
+    match fault {
+        FileFault::Unread(fault) => in_read(number, name, fault),
+        FileFault::Content(fault) => in_load(number, fault),
+    }
+}
+
+/// The same of its reading.
+fn in_read(number: u64, name: String, fault: ReadFault) -> TableFault
+    ensures { IsInRead number (string_bytes name) fault result }
+{
+    match fault {
+        ReadFault::TooLong => TableFault::TooLong(number),
+        ReadFault::Failed => TableFault::Unread(name),
+        ReadFault::NoMemory => TableFault::NoMemory,
+    }
+}
+
+/// The same of its records.
+fn in_load(number: u64, fault: LoadFault) -> TableFault
+    ensures { IsInLoad number fault result }
+{
+    match fault {
+        LoadFault::NoMemory => TableFault::NoMemory,
+        fault => TableFault::Content(number, fault),
+    }
+}
+
+/// The octets that stand for null, where the words have them.
+fn null_octets<'a>(names: &RunWords<'a>) -> Option<&'a [u8]>
+    ensures { lent result ≡ (names_of names.now).null }
+{
+    match names.null {
+        Some(text) => Some(text.as_bytes()),
+        None => None,
+    }
+}
+
+/// Takes all octets of the file of a name, by pieces of at most the length of `piece`.
+fn take_pieces<F: Shelf>(
+    alloc: Global,
+    files: &mut F,
+    name: &str,
+    names: &RunWords<'_>,
+    table: &Table,
+    loader: Loader,
+    piece: &mut [u8],
+) -> Result<Loader, FileFault>
+    requires room { 0 < length piece.old }
+    requires start { (parts : List (List ℕ)) × HasTaken table.now (names_of names.now).null parts loader [] }
+    ensures taken { IfOk result (λ next. (bytes : List ℕ) × IsFile (F.files files.old) name.now MAX_TABLE_FILE bytes × Takes table.now (names_of names.now) loader next bytes) }
+    ensures too_long { IsErrOf result (FileFault.Unread ReadFault.TooLong) → IsTooLong (F.files files.old) name.now MAX_TABLE_FILE }
+    ensures refused { IfErr result (λ e. (fault : LoadFault) → e ≡ FileFault.Content fault → fault ≢ LoadFault.NoMemory
+        → (bytes : List ℕ) × IsFile (F.files files.old) name.now MAX_TABLE_FILE bytes × Fails table.now (names_of names.now) loader bytes fault) }
+    ensures shelf { HasRead (failed_load name.now result) (told_by F.Shelf files.old) (told_by F.Shelf files.new) }
+    ensures asked { AsksWithin (IsOne name.now MAX_TABLE_FILE) (F.watched files.old) (F.watched files.new) }
+{
+    let mut taken = loader;
+    let mut at = 0;
+    while at <= MAX_TABLE_FILE {
+        let count = fetch_piece(files, name, MAX_TABLE_FILE, at, piece)?;
+        if count == 0 {
+            return Ok(taken);
+        }
+        match taken.take(alloc, table, null_octets(names), &piece[..count]) {
+            Ok(next) => taken = next,
+            Err(fault) => return Err(fault_of(files, name, MAX_TABLE_FILE, at + count, piece, fault)),
         }
         at += count;
     }
-    Err(TableFault::Unread(ReadFault::TooLong))
+    Err(FileFault::Unread(ReadFault::TooLong))
 }
 
-/// Why a file isn't loaded that has this fault among its first octets, so many as were read.
+/// Why a file isn't taken that has this fault among its first octets, so many as were read.
 fn fault_of<F: Shelf>(
     files: &mut F,
     name: &str,
@@ -118,23 +313,96 @@ fn fault_of<F: Shelf>(
     at: usize,
     piece: &mut [u8],
     fault: LoadFault,
-) -> TableFault
+) -> FileFault
     requires room { 0 < length piece.old }
     requires small { limit < 18446744073709551615 }
     requires within { at ≤ limit + 1 }
-    requires there { OfFile (F.files files.old) name.now (λ file. at ≤ length file) }
-    ensures content { (other : LoadFault) → result ≡ TableFault.Content other → other ≢ LoadFault.NoMemory
+    requires there { Reaches (F.files files.old) name.now at }
+    ensures content { (other : LoadFault) → result ≡ FileFault.Content other → other ≢ LoadFault.NoMemory
         → (other ≡ fault) × (at ≤ limit) × OfFile (F.files files.old) name.now (λ file. length file ≤ limit) }
-    ensures too_long { result ≡ TableFault.Unread ReadFault.TooLong → IsTooLong (F.files files.old) name.now limit }
-    ensures shelf { HasRead (failed_table name.now result) (told_by F.Shelf files.old) (told_by F.Shelf files.new) }
+    ensures too_long { result ≡ FileFault.Unread ReadFault.TooLong → IsTooLong (F.files files.old) name.now limit }
+    ensures shelf { HasRead (failed_file name.now result) (told_by F.Shelf files.old) (told_by F.Shelf files.new) }
     ensures asked { AsksWithin (IsOne name.now limit) (F.watched files.old) (F.watched files.new) }
 {
     if fault == LoadFault::NoMemory {
-        return TableFault::Content(fault);
+        return FileFault::Content(fault);
     }
     match skip_rest(files, name, limit, at, piece) {
-        Ok(()) => TableFault::Content(fault),
-        Err(fault) => TableFault::Unread(fault),
+        Ok(()) => FileFault::Content(fault),
+        Err(fault) => FileFault::Unread(fault),
+    }
+}
+
+/// Why the files of a table aren't loaded that have this first fault, in the file of this number, as far as they were read.
+fn fault_among<F: Shelf>(
+    alloc: Global,
+    files: &mut F,
+    names: &RunWords<'_>,
+    table: &Table,
+    part: u64,
+    fault: LoadFault,
+    piece: &mut [u8],
+) -> TableFault
+    requires room { 0 < length piece.old }
+    requires faulty { IsFaultyFront (F.files files.old) (names_of names.now) table.now part fault }
+    ensures stops { IsUnloaded (F.files files.old) (names_of names.now) table.now result }
+    ensures shelf { HasRead (failed_table result) (told_by F.Shelf files.old) (told_by F.Shelf files.new) }
+    ensures asked { AsksWithin (IsTableLimit (names_of names.now)) (F.watched files.old) (F.watched files.new) }
+{
+    match skip_files(alloc, files, names, table, part, piece) {
+        Ok(()) => TableFault::Content(part, fault),
+        Err(fault) => fault,
+    }
+}
+
+/// Reads the files of a table behind so many of them, each to its end, or to the octet after the limit.
+fn skip_files<F: Shelf>(
+    alloc: Global,
+    files: &mut F,
+    names: &RunWords<'_>,
+    table: &Table,
+    from: u64,
+    piece: &mut [u8],
+) -> Result<(), TableFault>
+    requires room { 0 < length piece.old }
+    requires few { from ≤ files_in (names_of names.now).parts }
+    ensures held { OnOk result ((before : List (List ℕ)) → HoldFrom (F.files files.old) (names_of names.now) table.now.name before 1 → length before ≡ from
+        → (behind : List (List ℕ)) × HoldAll (F.files files.old) (names_of names.now) table.now.name (before ++ behind)) }
+    ensures stops { IfErr result (λ fault. (before : List (List ℕ)) → HoldFrom (F.files files.old) (names_of names.now) table.now.name before 1 → length before ≡ from
+        → IsTableFault (F.files files.old) (names_of names.now) table.now (λ part why. ⊥) fault) }
+    ensures shelf { HasRead (failed_tables result) (told_by F.Shelf files.old) (told_by F.Shelf files.new) }
+    ensures asked { AsksWithin (IsTableLimit (names_of names.now)) (F.watched files.old) (F.watched files.new) }
+{
+    for index in from..files_in(names.parts) {
+        match skip_file(alloc, files, names, table, index, piece) {
+            Ok(()) => {}
+            Err(fault) => return Err(fault),
+        }
+    }
+    Ok(())
+}
+
+/// Reads the file of the number behind this one to its end, or to the octet after the limit.
+fn skip_file<F: Shelf>(
+    alloc: Global,
+    files: &mut F,
+    names: &RunWords<'_>,
+    table: &Table,
+    index: u64,
+    piece: &mut [u8],
+) -> Result<(), TableFault>
+    requires room { 0 < length piece.old }
+    requires few { index < 18446744073709551615 }
+    ensures held { OnOk result (OfPart (F.files files.old) (names_of names.now) table.now.name (index + 1) (λ bytes. ⊤)) }
+    ensures stops { IfErr result (λ fault. IsFileFault (F.files files.old) (names_of names.now) table.now.name (index + 1) (λ why. ⊥) fault) }
+    ensures shelf { HasRead (failed_tables result) (told_by F.Shelf files.old) (told_by F.Shelf files.new) }
+    ensures asked { AsksWithin (IsTableLimit (names_of names.now)) (F.watched files.old) (F.watched files.new) }
+{
+    let number = index + 1;
+    let name = file_name(alloc, names.folder, names.parts, table.name.as_str(), number)?;
+    match skip_rest(files, name.as_str(), MAX_TABLE_FILE, 0, piece) {
+        Ok(()) => Ok(()),
+        Err(fault) => Err(in_read(number, name, fault)),
     }
 }
 
@@ -149,7 +417,7 @@ fn skip_rest<F: Shelf>(
     requires room { 0 < length piece.old }
     requires small { limit < 18446744073709551615 }
     requires within { at ≤ limit + 1 }
-    requires there { OfFile (F.files files.old) name.now (λ file. at ≤ length file) }
+    requires there { Reaches (F.files files.old) name.now at }
     ensures end { OnOk result (OfFile (F.files files.old) name.now (λ file. length file ≤ limit)) }
     ensures within { OnOk result (at ≤ limit) }
     ensures too_long { IsErrOf result ReadFault.TooLong → IsTooLong (F.files files.old) name.now limit }

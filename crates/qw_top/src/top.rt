@@ -1,6 +1,6 @@
 //! A call, from the words of the command line on.
 
-ghost use Rattle.std.specs.Prelude.{◌≡◌, ◌≢◌, ◌⊎◌, ℕ, List, map, IfSome, IsTrue, Option, Some};
+ghost use Rattle.std.specs.Prelude.{◌≡◌, ◌≢◌, ◌⊎◌, ◌↔◌, ℕ, List, map, IfSome, IsTrue, Option, Some};
 ghost use Rattle.std.specs.List.{AllByRecursion};
 ghost use Rattle.std.specs.String.{string_bytes};
 ghost use Rattle.qw_io.specs.Faults.{IsCounted};
@@ -14,11 +14,14 @@ ghost use Rattle.qw_top.specs.Asking.{AsksWithin};
 ghost use Rattle.qw_top.specs.Call.{Asks, AsksToCheck, AsksToCompile, Explains, IsLimit, IsNamed, Leaves, LeavesFront, Notes, Settles};
 ghost use Rattle.qw_top.specs.Causes.{AreOne, Cause, status_of_cause};
 ghost use Rattle.qw_top.specs.Complete.{Completes};
-ghost use Rattle.qw_top.specs.Limits.{limits_of};
+ghost use Rattle.qw_csv.specs.declared.loading.LoadFault.{LoadFault};
+ghost use Rattle.qw_top.specs.FileNames.{table_file_of};
+ghost use Rattle.qw_top.specs.Limits.{limits_of, most_table_octets};
 ghost use Rattle.qw_top.specs.declared.status.Status.{Status};
 ghost use Rattle.qw_top.specs.Notes.{want_of_memory_line};
 ghost use Rattle.qw_top.specs.Output.{with_text};
-ghost use Rattle.qw_top.specs.Top.{Asked, Files, HasQueries, HaveRoom, IsEnough, IsFault, IsRefusal, IsReported, Names, RaisesNothing};
+ghost use Rattle.qw_top.specs.Plain.{IsPlainFault, IsPlainTable, plain_names};
+ghost use Rattle.qw_top.specs.Top.{Asked, Files, HasQueries, HaveRoom, IsEnough, IsFault, IsFaultyPart, IsLongPart, IsRefusal, IsReported, IsTooLong, Names, RaisesNothing, TableIs};
 
 use crate::status::Status;
 use perform::perform;
@@ -125,6 +128,18 @@ pub fn refused_words_come_first()
     ensures { (files : Files) (words : List (List ℕ)) (kept : Option Standing) (status : Status)
         → (reading words ≡ no_command) ⊎ ((number : Number) × (reading words ≡ out_of_range number)) → Explains files words kept status
         → (status ≡ Status.WordsRefused) ⊎ (status ≡ Status.WriteFailed) ⊎ (status ≡ Status.NoMemory) }
+{}
+
+/// Where the words have neither parts of tables nor a text for null, a table stands for the rows that its one file stands for; it is too
+/// long where this file is; and its first fault is that of this file.
+pub fn plain_tables()
+    ensures rows { (files : Files) (schema folder queries : List ℕ) (table : Table) (contents : Contents)
+        → TableIs files (plain_names schema folder queries) table contents ↔ IsPlainTable files folder table contents }
+    ensures too_long { (files : Files) (schema folder queries : List ℕ) (table : Table) (part : ℕ)
+        → IsLongPart files (plain_names schema folder queries) table part
+        ↔ ((part ≡ 1) × IsTooLong files (table_file_of folder table.name) most_table_octets) }
+    ensures fault { (files : Files) (schema folder queries : List ℕ) (table : Table) (part : ℕ) (fault : LoadFault)
+        → IsFaultyPart files (plain_names schema folder queries) table part fault ↔ ((part ≡ 1) × IsPlainFault files folder table fault) }
 {}
 
 /// Told files hold one schema, one list of rows of each of its tables, and one list of queries at most.

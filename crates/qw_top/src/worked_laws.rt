@@ -24,7 +24,7 @@ ghost use Rattle.qw_top.specs.Asking.{AsksWithin, IsOne};
 ghost use Rattle.qw_top.specs.Causes.{line_of_cause, module_refused, module_too_long, no_statement, number_out_of_range, queries_mistyped, queries_refused, queries_too_long, schema_refused, schema_too_long, table_refused, table_too_long, total_pages};
 ghost use Rattle.qw_top.specs.Complete.{AreEnough, most_steps, status_meant};
 ghost use Rattle.qw_top.specs.Delivered.{status_of_ends};
-ghost use Rattle.qw_top.specs.FileNames.{table_file_of};
+ghost use Rattle.qw_top.specs.FileNames.{file_of, files_in, table_file_of, told_part};
 ghost use Rattle.qw_top.specs.Generated.{generated_names, told_generated};
 ghost use Rattle.qw_top.specs.Limits.{limits_of, most_module_octets, most_table_octets, most_text_octets};
 ghost use Rattle.qw_top.specs.Top.{IsHeader, RaisesNothing};
@@ -77,19 +77,42 @@ pub fn worked_schema_lines()
     ensures bad_size { line_of_cause (schema_refused (schema.BadSize 1)) ≡ codes "schema: bad size in statement 1\n" }
 {}
 
-/// The lines on the file of a table.
+/// The lines on the file of a table that has no parts.
 pub fn worked_table_lines()
-    ensures too_long { line_of_cause (table_too_long worked_table) ≡ codes "T: too long\n" }
-    ensures bad_header { line_of_cause (table_refused worked_table load.BadHeader) ≡ codes "T: bad header\n" }
-    ensures field_count { line_of_cause (table_refused worked_table (load.FieldCount 12)) ≡ codes "T record 12: field count\n" }
-    ensures not_number { line_of_cause (table_refused worked_table (load.Field 1 0 (cell.Form NotNumber))) ≡ codes "T record 1 column A: not a number\n" }
-    ensures too_large { line_of_cause (table_refused worked_table (load.Field 3 1 (cell.Form TooLarge))) ≡ codes "T record 3 column B: too large\n" }
-    ensures too_fine { line_of_cause (table_refused worked_table (load.Field 2 0 (cell.Form TooFine))) ≡ codes "T record 2 column A: too fine\n" }
-    ensures not_date { line_of_cause (table_refused worked_table (load.Field 10 1 (cell.Form NotDate))) ≡ codes "T record 10 column B: not a date\n" }
-    ensures null { line_of_cause (table_refused worked_table (load.Field 1 0 cell.NullForbidden)) ≡ codes "T record 1 column A: null forbidden\n" }
-    ensures text_too_long { line_of_cause (table_refused worked_table (load.Field 1 1 cell.TextTooLong)) ≡ codes "T record 1 column B: text too long\n" }
-    ensures not_utf8 { line_of_cause (table_refused worked_table (load.Field 1 0 cell.NotUtf8)) ≡ codes "T record 1 column A: not utf-8\n" }
-    ensures too_many_rows { line_of_cause (table_refused worked_table load.TooManyRows) ≡ codes "T: too many rows\n" }
+    ensures too_long { line_of_cause (table_too_long worked_table None) ≡ codes "T: too long\n" }
+    ensures bad_header { line_of_cause (table_refused worked_table None load.BadHeader) ≡ codes "T: bad header\n" }
+    ensures field_count { line_of_cause (table_refused worked_table None (load.FieldCount 12)) ≡ codes "T record 12: field count\n" }
+    ensures not_number { line_of_cause (table_refused worked_table None (load.Field 1 0 (cell.Form NotNumber))) ≡ codes "T record 1 column A: not a number\n" }
+    ensures too_large { line_of_cause (table_refused worked_table None (load.Field 3 1 (cell.Form TooLarge))) ≡ codes "T record 3 column B: too large\n" }
+    ensures too_fine { line_of_cause (table_refused worked_table None (load.Field 2 0 (cell.Form TooFine))) ≡ codes "T record 2 column A: too fine\n" }
+    ensures not_date { line_of_cause (table_refused worked_table None (load.Field 10 1 (cell.Form NotDate))) ≡ codes "T record 10 column B: not a date\n" }
+    ensures null { line_of_cause (table_refused worked_table None (load.Field 1 0 cell.NullForbidden)) ≡ codes "T record 1 column A: null forbidden\n" }
+    ensures text_too_long { line_of_cause (table_refused worked_table None (load.Field 1 1 cell.TextTooLong)) ≡ codes "T record 1 column B: text too long\n" }
+    ensures not_utf8 { line_of_cause (table_refused worked_table None (load.Field 1 0 cell.NotUtf8)) ≡ codes "T record 1 column A: not utf-8\n" }
+    ensures too_many_rows { line_of_cause (table_refused worked_table None load.TooManyRows) ≡ codes "T: too many rows\n" }
+{}
+
+/// The lines on a part of a table: the part's number, counted from 1, comes behind the table's name.
+pub fn worked_part_lines()
+    ensures too_long { line_of_cause (table_too_long worked_table (Some 2)) ≡ codes "T part 2: too long\n" }
+    ensures bad_header { line_of_cause (table_refused worked_table (Some 1) load.BadHeader) ≡ codes "T part 1: bad header\n" }
+    ensures field_count { line_of_cause (table_refused worked_table (Some 3) (load.FieldCount 12)) ≡ codes "T part 3 record 12: field count\n" }
+    ensures not_number { line_of_cause (table_refused worked_table (Some 999) (load.Field 1 0 (cell.Form NotNumber))) ≡ codes "T part 999 record 1 column A: not a number\n" }
+    ensures null { line_of_cause (table_refused worked_table (Some 10) (load.Field 2 0 cell.NullForbidden)) ≡ codes "T part 10 record 2 column A: null forbidden\n" }
+    ensures too_many_rows { line_of_cause (table_refused worked_table (Some 2) load.TooManyRows) ≡ codes "T part 2: too many rows\n" }
+{}
+
+/// The names of a table's files in the folder `d`: of a table without parts one, whichever number is asked for; of one with parts one for each
+/// number. A table without parts has one file, and its number isn't told.
+pub fn worked_file_names()
+    ensures plain { file_of (codes "d") None (codes "SALES") 1 ≡ codes "d/sales.csv" }
+    ensures first { file_of (codes "d") (Some 2) (codes "SALES") 1 ≡ codes "d/sales.1.csv" }
+    ensures last { file_of (codes "d") (Some 999) (codes "SALES") 999 ≡ codes "d/sales.999.csv" }
+    ensures one { file_of (codes "d") (Some 1) (codes "SALES") 1 ≡ codes "d/sales.1.csv" }
+    ensures one_file { files_in None ≡ 1 }
+    ensures two_files { files_in (Some 2) ≡ 2 }
+    ensures untold { told_part None 1 ≡ None }
+    ensures told { told_part (Some 2) 2 ≡ Some 2 }
 {}
 
 /// The lines on a queries file, and on the pages of a run.
@@ -138,6 +161,8 @@ pub fn worked_word_lines()
     ensures statement { line_of_cause (number_out_of_range number.Statement) ≡ codes "words: statement out of range\n" }
     ensures seed { line_of_cause (number_out_of_range number.Seed) ≡ codes "words: SEED out of range\n" }
     ensures rows { line_of_cause (number_out_of_range number.Rows) ≡ codes "words: ROWS out of range\n" }
+    ensures null { line_of_cause (number_out_of_range number.Null) ≡ codes "words: null out of range\n" }
+    ensures parts { line_of_cause (number_out_of_range number.Parts) ≡ codes "words: parts out of range\n" }
 {}
 
 /// The files of generated input, by the names that a run of them takes: the schema, the file of each table that it declares, one row of SALE being

@@ -7,8 +7,8 @@ use Rattle.qw_top.specs.Causes.{Cause, schema_too_long, schema_refused, table_to
 abbrev pub cause_of : Told → Cause
 cause_of told.SchemaTooLong = schema_too_long
 cause_of (told.Schema fault) = schema_refused fault.now
-cause_of (told.TableTooLong table) = table_too_long table.now
-cause_of (told.Table table fault) = table_refused table.now fault.now
+cause_of (told.TableTooLong table part) = table_too_long table.now part
+cause_of (told.Table table part fault) = table_refused table.now part fault.now
 cause_of told.QueriesTooLong = queries_too_long
 cause_of (told.Queries fault) = queries_refused fault.now
 cause_of (told.Mistyped fault) = queries_mistyped fault.now

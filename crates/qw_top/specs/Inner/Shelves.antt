@@ -1,5 +1,6 @@
 -- What reading leaves of a shelf.
 use Rattle.std.specs.Prelude.{◌≡◌, ℕ, ◌≤◌, List, Option, Some, None, IfSome, Result, Ok, Err}
+use Rattle.std.specs.String.{string_bytes}
 use Rattle.qw_io.specs.Faults.{IsCounted}
 use Rattle.qw_io.specs.Files.{Watched}
 use Rattle.qw_io.specs.declared.shelf.Shelf.{Ghosts}
@@ -7,8 +8,10 @@ use Rattle.qw_io.specs.declared.fault.IoFault.{IoFault}
 use Rattle.qw_io.specs.declared.fault.IoFault.TheVariants.{Failed as DeviceFailed, NoMemory as NoMemoryLeft}
 use Rattle.qw_top.specs.declared.files.ReadFault.{ReadFault}
 use Rattle.qw_top.specs.declared.files.ReadFault.TheVariants.{Failed, NoMemory}
+use Rattle.qw_top.specs.declared.table_file.FileFault.{FileFault}
+use Rattle.qw_top.specs.declared.table_file.FileFault.TheVariants.{Unread}
 use Rattle.qw_top.specs.declared.table_file.TableFault.{TableFault}
-use Rattle.qw_top.specs.declared.table_file.TableFault.TheVariants.{Unread}
+use Rattle.qw_top.specs.declared.table_file.TableFault.TheVariants.{Unread as UnreadFile}
 
 -- what a shelf tells: its files, its count of faults, the name of the file that the last one was at, and how far one file was asked for
 pub record Told : Type 0 where
@@ -32,13 +35,22 @@ failed_read name (Err Failed) = Some name
 failed_read name _ = None
 
 -- and of one that was loaded as it was read
-abbrev pub failed_table : List ℕ → TableFault → Option (List ℕ)
-failed_table name (Unread Failed) = Some name
-failed_table name _ = None
+abbrev pub failed_file : List ℕ → FileFault → Option (List ℕ)
+failed_file name (Unread Failed) = Some name
+failed_file name _ = None
 
-abbrev pub failed_load : {T : Type 0} → List ℕ → Result T TableFault → Option (List ℕ)
-failed_load name (Err fault) = failed_table name fault
+abbrev pub failed_load : {T : Type 0} → List ℕ → Result T FileFault → Option (List ℕ)
+failed_load name (Err fault) = failed_file name fault
 failed_load name (Ok _) = None
+
+-- and of those of a table
+abbrev pub failed_table : TableFault → Option (List ℕ)
+failed_table (UnreadFile name) = Some (string_bytes name)
+failed_table _ = None
+
+abbrev pub failed_tables : {T : Type 0} → Result T TableFault → Option (List ℕ)
+failed_tables (Err fault) = failed_table fault
+failed_tables (Ok _) = None
 
 -- A fault at the file of this name was counted, and is the last one where its name is told; or there was none, and none was
 -- counted.

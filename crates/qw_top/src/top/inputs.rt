@@ -2,29 +2,27 @@
 
 ghost use Rattle.std.specs.Prelude.{◌≡◌, ◌≢◌, ◌≤◌, IfOk, IfErr, length, map};
 ghost use Rattle.std.specs.List.{AllByRecursion};
-ghost use Rattle.qw_csv.specs.declared.loading.LoadFault.{LoadFault};
-ghost use Rattle.qw_top.specs.Causes.{schema_refused, table_refused, table_too_long};
-ghost use Rattle.qw_top.specs.FileNames.{table_file_of};
+ghost use Rattle.qw_top.specs.Causes.{schema_refused};
+ghost use Rattle.qw_top.specs.FileNames.{told_part};
 ghost use Rattle.qw_top.specs.Inner.Causes.{cause_of};
-ghost use Rattle.qw_top.specs.Inner.Inputs.{IsNoSchema, IsNoScript, IsNoTable, StopsAtTables};
+ghost use Rattle.qw_top.specs.Inner.Inputs.{IsNoSchema, IsNoScript, StopsAtTable, StopsAtTables, StopsForTable};
 ghost use Rattle.qw_top.specs.Inner.Queries.{IsOver, StopsForFault, asked_of};
 ghost use Rattle.qw_command_line.specs.Read.{names_of, options_of};
 ghost use Rattle.qw_top.specs.Asking.{AsksWithin, IsOne};
 ghost use Rattle.qw_top.specs.Call.{IsRunLimit, IsTableLimit};
-ghost use Rattle.qw_top.specs.Limits.{limits_of, most_table_octets, most_text_octets};
+ghost use Rattle.qw_top.specs.Limits.{limits_of, most_text_octets};
 ghost use Rattle.qw_top.specs.Inner.Stages.{FilesStop};
-ghost use Rattle.qw_top.specs.Inner.Shelves.{HasRead, failed_table, told_by};
-ghost use Rattle.qw_top.specs.Inner.Stop.{StopsAs, StopsFor, failed_at, failed_stop, octets_of};
+ghost use Rattle.qw_top.specs.Inner.Shelves.{HasRead, told_by};
+ghost use Rattle.qw_top.specs.Inner.Stop.{StopsAs, StopsFor, failed_stop, octets_of};
 ghost use Rattle.qw_top.specs.Top.{HasQueries, IsFile, IsTooLong, QueriesAre, SchemaIs, TableIs, TablesAre};
 
 use super::queries::{QueriesFault, queries_of};
 use crate::causes::Cause;
-use crate::files::{MAX_TABLE_FILE, MAX_TEXT_FILE, ReadFault, read_whole, table_file_name};
+use crate::files::{MAX_TEXT_FILE, ReadFault, read_whole};
 use crate::stop::{FileName, Stop, refused};
-use crate::table_file::{TableFault, load_file};
+use crate::table_file::{TableFault, load_files};
 use qw_command_line::command::RunWords;
 use qw_csv::Loaded;
-use qw_csv::loading::LoadFault;
 use qw_io::Shelf;
 use qw_parse::fault::ParseFault;
 use qw_schema::parse::{SchemaFault, schema_of};
@@ -63,7 +61,7 @@ pub fn prepare<'a, F: Shelf>(
     ensures within { AsksWithin (IsRunLimit (names_of names.now)) (F.watched files.old) (F.watched files.new) }
 {
     let schema = read_schema(alloc, names.schema, files)?;
-    let tables = read_tables(alloc, names.folder, schema.as_slice(), files)?;
+    let tables = read_tables(alloc, names, schema.as_slice(), files)?;
     let queries = read_queries(alloc, names.queries, &schema, files)?;
     Ok(Prepared {
         schema,
@@ -102,21 +100,21 @@ fn schema_stop<'a>(alloc: Global, fault: &SchemaFault) -> Stop<'a>
     }
 }
 
-/// The rows of the table files of a schema, in this folder.
+/// The rows of the tables of a schema, by their files.
 fn read_tables<'a, F: Shelf>(
     alloc: Global,
-    folder: &str,
+    names: &RunWords<'a>,
     schema: &[Table],
     files: &mut F,
 ) -> Result<Vec<Loaded>, Stop<'a>>
-    ensures accepted { IfOk result (λ tables. TablesAre (F.files files.old) folder.now schema.now tables.items) }
-    ensures stops { IfErr result (λ stop. StopsAtTables (F.files files.old) folder.now schema.now stop) }
+    ensures accepted { IfOk result (λ tables. TablesAre (F.files files.old) (names_of names.now) schema.now tables.items) }
+    ensures stops { IfErr result (λ stop. StopsAtTables (F.files files.old) (names_of names.now) schema.now stop) }
     ensures shelf { HasRead (failed_stop result) (told_by F.Shelf files.old) (told_by F.Shelf files.new) }
-    ensures within { AsksWithin (IsTableLimit folder.now) (F.watched files.old) (F.watched files.new) }
+    ensures within { AsksWithin (IsTableLimit (names_of names.now)) (F.watched files.old) (F.watched files.new) }
 {
     let mut tables = Vec::with_capacity(alloc, schema.len()).map_err(|_| Stop::NoMemory)?;
     for table in schema {
-        let loaded = read_table(alloc, folder, table, files)?;
+        let loaded = read_table(alloc, names, table, files)?;
         let Ok(()) = tables.push(loaded) else {
             return Err(Stop::NoMemory);
         };
@@ -124,55 +122,52 @@ fn read_tables<'a, F: Shelf>(
     Ok(tables)
 }
 
-/// The rows of the file of a table, in this folder.
+/// The rows of a table, by its files.
 fn read_table<'a, F: Shelf>(
     alloc: Global,
-    folder: &str,
+    names: &RunWords<'a>,
     table: &Table,
     files: &mut F,
 ) -> Result<Loaded, Stop<'a>>
-    ensures accepted { IfOk result (λ loaded. TableIs (F.files files.old) folder.now table.now loaded) }
-    ensures stops { IfErr result (λ stop.
-        StopsAs (IsNoTable (F.files files.old) folder.now table.now) (table_file_of folder.now table.now.name) stop) }
+    ensures accepted { IfOk result (λ loaded. TableIs (F.files files.old) (names_of names.now) table.now loaded) }
+    ensures stops { IfErr result (λ stop. StopsAtTable (F.files files.old) (names_of names.now) table.now stop) }
     ensures shelf { HasRead (failed_stop result) (told_by F.Shelf files.old) (told_by F.Shelf files.new) }
-    ensures within { AsksWithin (IsOne (table_file_of folder.now table.now.name) most_table_octets) (F.watched files.old) (F.watched files.new) }
+    ensures within { AsksWithin (IsTableLimit (names_of names.now)) (F.watched files.old) (F.watched files.new) }
 {
-    let name = table_file_name(alloc, folder, table.name.as_str()).map_err(|_| Stop::NoMemory)?;
-    match load_file(alloc, files, name.as_str(), MAX_TABLE_FILE, table) {
+    match load_files(alloc, files, names, table) {
         Ok(loaded) => Ok(loaded),
-        Err(fault) => Err(table_unloaded(alloc, table, FileName::Made(name), &fault)),
+        Err(fault) => Err(table_unloaded(alloc, table, names.parts, fault)),
     }
 }
 
-/// Why a run stops at the file of a table that wasn't loaded.
+/// Why a run stops at the files of a table that weren't loaded, where each table has so many parts.
 fn table_unloaded<'a>(
     alloc: Global,
     table: &Table,
-    name: FileName<'a>,
-    fault: &TableFault,
+    parts: Option<u64>,
+    fault: TableFault,
 ) -> Stop<'a>
-    ensures too_long { fault.now ≡ TableFault.Unread ReadFault.TooLong → StopsFor (table_too_long table.now) result }
-    ensures memory { fault.now ≡ TableFault.Unread ReadFault.NoMemory → result ≡ Stop.NoMemory }
-    ensures content { (load : LoadFault) → fault.now ≡ TableFault.Content load
-        → (load ≡ LoadFault.NoMemory → result ≡ Stop.NoMemory) × (load ≢ LoadFault.NoMemory → StopsFor (table_refused table.now load) result) }
-    ensures failed { failed_at result ≡ failed_table (octets_of name.entry) fault.now }
+    ensures { StopsForTable parts table.now fault.entry result }
 {
     match fault {
-        TableFault::Unread(ReadFault::TooLong) => refused(alloc, Cause::TableTooLong(table)),
-        TableFault::Unread(ReadFault::Failed) => Stop::Unread(name),
-        TableFault::Unread(ReadFault::NoMemory) => Stop::NoMemory,
-        TableFault::Content(fault) => table_stop(alloc, table, fault),
+        TableFault::TooLong(part) => {
+            refused(alloc, Cause::TableTooLong(table, told_part(parts, part)))
+        }
+        TableFault::Unread(name) => Stop::Unread(FileName::Made(name)),
+        TableFault::Content(part, fault) => {
+            refused(alloc, Cause::Table(table, told_part(parts, part), &fault))
+        }
+        TableFault::NoMemory => Stop::NoMemory,
     }
 }
 
-/// Why a run stops at the file of a table that stands for no rows.
-fn table_stop<'a>(alloc: Global, table: &Table, fault: &LoadFault) -> Stop<'a>
-    ensures memory { fault.now ≡ LoadFault.NoMemory → result ≡ Stop.NoMemory }
-    ensures refused { fault.now ≢ LoadFault.NoMemory → StopsFor (table_refused table.now fault.now) result }
+/// The number of a file of a table as it is told: that of the part, where each table has so many.
+fn told_part(parts: Option<u64>, part: u64) -> Option<u64>
+    ensures { result ≡ told_part parts part }
 {
-    match fault {
-        LoadFault::NoMemory => Stop::NoMemory,
-        fault => refused(alloc, Cause::Table(table, fault)),
+    match parts {
+        Some(_) => Some(part),
+        None => None,
     }
 }
 
