@@ -123,4 +123,5 @@ refused_before (refusal.Fault kind token) false c h = absurd cc
 pub entry_refused : (g : Grouping) (r : Refusal) (rest rest' : List CodeEntry) (e : CodeEntry) (all : List Fault) → rest ≡ e ∷ rest' → Refuses r (outcome (starred_faults (Some g) (columns_from (64 * e.number) e.columns.now)) true)
     → starred_faults (Some g) (columns_meant (as_entries rest)) ≡ all → Refuses r (outcome all true)
 entry_refused g r rest rest' e all first h before =
-    rw entries_split g rest rest' e all first before at (refused_before r (has_ungrouped g (columns_from (64 * e.number) e.columns.now)) (has_ungrouped g (columns_meant (as_entries rest'))) h)
+    let is = entries_split g rest rest' e all first before in
+    rw is at (refused_before r (has_ungrouped g (columns_from (64 * e.number) e.columns.now)) (has_ungrouped g (columns_meant (as_entries rest'))) h)

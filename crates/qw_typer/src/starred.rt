@@ -15,7 +15,7 @@ use qw_types::Column;
 use std::alloc::Global;
 
 /// All columns of all entries in order, each of which has to be grouped.
-#[tactic(auto, using(crate::proofs::OutcomeLemmas::refuses_memory), unfolding(crate::specs::Inner::Typing::Refuses))]
+#[tactic(auto, using(crate::proofs::StarredLemmas::entry_kept, crate::proofs::StarredLemmas::entry_refused))]
 pub(crate) fn starred<'a>(
     alloc: Global,
     entries: &[Entry<'_>],
@@ -58,10 +58,7 @@ fn push_grouped<'a>(
                 .push(Expr::Column(place.place, place.ty))
                 .map_err(|_| Refusal::NoMemory)?,
             None => {
-                return Err(Refusal::Fault(
-                    FaultKind::NotGrouped,
-                    Token::Literal(b"*".as_slice()),
-                ));
+                return Err(Refusal::Fault(FaultKind::NotGrouped, Token::Literal(b"*".as_slice())));
             }
         }
     }

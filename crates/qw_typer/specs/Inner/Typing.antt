@@ -38,7 +38,7 @@ use Rattle.qw_typer.specs.declared.tree.Typed.{Typed}
 use Rattle.qw_typer.specs.Faults.{Fault, among_faults, arithmetic_faults, branch_faults, case_faults, comparison_faults, faults, field_faults, function_word, argument_faults, group_faults, nested_faults, reference_faults, first_of_all, first_of_branches, first_token, is_allowed, item_faults, misplaced, results_agree, results_kind, sign_faults}
 use Rattle.qw_typer.specs.Grouping.{starred_faults}
 use Rattle.qw_typer.specs.Meant.{Entry, FunctionColumn, Grouping, Scope, first_of, function_meant, in_group, meant, referred, ungrouped, with_not, with_sign}
-use Rattle.qw_typer.specs.Typed.{entry_meant, items_meant}
+use Rattle.qw_typer.specs.Typed.{columns_meant, entry_meant, items_meant}
 
 -- the entries of FROM that the code keeps
 abbrev pub as_entry : CodeEntry → Entry
