@@ -28,7 +28,7 @@ use Rattle.qw_ast.specs.Syntax.{column, Reference, Select, Selected, all_columns
 use Rattle.qw_typer.specs.declared.fault.FaultKind.TheVariants.{NotGrouped}
 use Rattle.qw_typer.specs.Faults.{Fault, argument_faults, counted_faults, fault_where, faults, first_token, has_scale, or_own, reference_faults, takes}
 use Rattle.qw_typer.specs.Functions.{Written, counted, applied, functions_in}
-use Rattle.qw_typer.specs.Grouping.{as_grouped, columns_faults, columns_grouped, function_column, function_faults, function_of, functions_faults, grouping_faults, grouping_of, has_ungrouped, is_grouped, kind_of_function, many_faults, or_rows, rows_counted, starred, starred_faults}
+use Rattle.qw_typer.specs.Grouping.{as_grouped, columns_faults, columns_grouped, function_column, function_faults, function_of, functions_faults, grouping_faults, grouping_of, has_ungrouped, is_grouped, kind_of_function, many_faults, or_rows, rows_counted, starred}
 use Rattle.qw_typer.specs.Meant.{Entry, FunctionColumn, Grouping, Scope, column_grouped, column_named, condition_meant, first_of, is_qualified, listed, meant, referred, ungrouped}
 use Rattle.qw_typer.specs.Typed.{IsWithin, columns_from, columns_meant, conjuncts, conjuncts_having, entries_named, entry_meant, filter_faults, grouped_meant, having_faults, items_meant, over_faults, scope_of, selected_faults, sources_faults, sources_meant}
 use Rattle.qw_typer.specs.Inner.Grouping.{over_group}
@@ -36,7 +36,7 @@ use Rattle.qw_typer.specs.Inner.Queries.{HaveTables}
 use Rattle.qw_typer.specs.Inner.Typing.{kind_scale}
 use Rattle.qw_typer.proofs.GroupedLemmas.{behind_faults, group_scope, grouped_over}
 use Rattle.qw_typer.proofs.LawLemmas.{condition_more, conjuncts_of_sources, entries_meant, filter_over, in_scope_of, item_more, length_map, length_scope, list_over, ones_from, sized_ones, some_entry, some_items, specified_query}
-use Rattle.qw_typer.proofs.StarLemmas.{none_both}
+use Rattle.qw_typer.proofs.StarLemmas.{ungrouped_both}
 use Rattle.qw_typer.proofs.SoundLemmas.{AreSized, HasSized, HasSizedTypes, IsAt, IsGood, Reaches, all_both, all_more, good, grouped_good, no_both, no_own, not_where, sized_type, tested, types_of}
 
 -- ---- columns of GROUP BY
@@ -268,7 +268,7 @@ starred_more g xs ys = map-append (λ (e : meaning.Expression). unwrap_or (colum
 starred_over : (all : List Entry) (g : Grouping) → HasSizedTypes (Some g) → (entries : List Entry) → has_ungrouped g (columns_meant entries) ≡ false → AllByRecursion (IsItemOver (Reaches all (Some g))) (starred (Some g) (columns_meant entries))
 starred_over all g s [] h = tt
 starred_over all g s (e ∷ es) h =
-    let q = none_both g (columns_from (64 * e.number) e.columns) (columns_meant es) h in
+    let q = ungrouped_both g (columns_from (64 * e.number) e.columns) (columns_meant es) h in
     let here = columns_from (64 * e.number) e.columns in
     subst (AllByRecursion (IsItemOver (Reaches all (Some g)))) (sym (starred_more g here (columns_meant es)))
     (all_both (IsItemOver (Reaches all (Some g))) (starred (Some g) here) (starred (Some g) (columns_meant es)) (starred_columns all g s (64 * e.number) e.columns q.0) (starred_over all g s es q.1))

@@ -1,5 +1,5 @@
 -- A grouped query over a schema: what it means where it has no fault, and one of its faults else.
-use Rattle.std.proofs.Common.{◌≡◌, Bool, ℕ, true, List, [], Ok, refl, sym, ap, ◌∙◌, subst}
+use Rattle.std.proofs.Common.{◌≡◌, Bool, ℕ, true, List, [], Ok, sym, ap, ◌∙◌, subst}
 use Rattle.qw_types.specs.declared.schema.Table.{Table}
 use Rattle.qw_grouped.specs.Grouped as group
 use Rattle.qw_grouped.specs.Grouped.{Grouped, IsGrouped}

@@ -29,7 +29,7 @@ use Rattle.qw_typer.specs.Typed.{Means, columns_from, columns_meant, column_name
 use Rattle.qw_typer.proofs.GroupedLemmas.{plain_scope}
 use Rattle.qw_typer.proofs.GroupedSound.{has_kind_at, starred_more}
 use Rattle.qw_typer.proofs.LawLemmas.{entries_meant, starred_length}
-use Rattle.qw_typer.proofs.StarLemmas.{none_both}
+use Rattle.qw_typer.proofs.StarLemmas.{ungrouped_both}
 use Rattle.qw_typer.proofs.SoundLemmas.{all_both, no_both, no_own, not_where, tested}
 
 -- ---- what is asked
@@ -109,7 +109,7 @@ starred_kinds g place (c ∷ columns) h =
 all_grouped : (g : Grouping) (entries : List Entry) → has_ungrouped g (columns_meant entries) ≡ false → HaveKinds (starred (Some g) (columns_meant entries))
 all_grouped g [] h = tt
 all_grouped g (e ∷ es) h =
-    let q = none_both g (columns_from (64 * e.number) e.columns) (columns_meant es) h in
+    let q = ungrouped_both g (columns_from (64 * e.number) e.columns) (columns_meant es) h in
     let here = columns_from (64 * e.number) e.columns in
     subst HaveKinds (sym (starred_more g here (columns_meant es)))
     (all_both (λ (x : meaning.Expression). has_kind (kind_of x) ≡ true) (starred (Some g) here) (starred (Some g) (columns_meant es)) (starred_kinds g (64 * e.number) e.columns q.0) (all_grouped g es q.1))

@@ -1,5 +1,5 @@
 -- A query over the entries of its FROM, and over a schema.
-use Rattle.std.proofs.Common.{◌≡◌, Bool, false, ℕ, ◌*◌, ◌≤◌, List, [], ◌∷◌, length, map, Ok, refl, sym, ap, ◌∙◌, arith, subst}
+use Rattle.std.proofs.Common.{◌≡◌, Bool, false, ℕ, ◌*◌, ◌≤◌, List, [], ◌∷◌, length, map, Ok, sym, ap, ◌∙◌, arith, subst}
 use Rattle.std.specs.Prelude.{Contains}
 use Rattle.std.proofs.lemmas.List.{length-map}
 use Rattle.std.proofs.lemmas.List.Sums.{sum_by-cons}

@@ -103,8 +103,8 @@ found_there p cs f h = elim (cases_Bool (list_any p cs)) [
     nowhere cs e P h = rw (none_found p cs e) at h
 
 -- none of two lists of columns
-pub none_both : (g : Grouping) (xs ys : List meaning.Expression) → has_ungrouped g (xs ++ ys) ≡ false → (has_ungrouped g xs ≡ false) × (has_ungrouped g ys ≡ false)
-none_both g xs ys h = or_parts (has_ungrouped g xs) (has_ungrouped g ys) (sym (list_any-append (λ (e : meaning.Expression). is_none (column_grouped g e)) xs ys) ∙ h)
+pub ungrouped_both : (g : Grouping) (xs ys : List meaning.Expression) → has_ungrouped g (xs ++ ys) ≡ false → (has_ungrouped g xs ≡ false) × (has_ungrouped g ys ≡ false)
+ungrouped_both g xs ys h = or_parts (has_ungrouped g xs) (has_ungrouped g ys) (sym (list_any-append (λ (e : meaning.Expression). is_none (column_grouped g e)) xs ys) ∙ h)
 
 abbrev numbers_from : ℕ → List Column → List ℕ
 numbers_from place [] = []
@@ -123,7 +123,7 @@ columns_there g place (c ∷ columns) h =
 all_there : (g : Grouping) (entries : List Entry) → has_ungrouped g (columns_meant entries) ≡ false → AllByRecursion (λ (j : ℕ). has j g.columns ≡ true) (numbers_of entries)
 all_there g [] h = tt
 all_there g (e ∷ es) h =
-    let q = none_both g (columns_from (64 * e.number) e.columns) (columns_meant es) h in
+    let q = ungrouped_both g (columns_from (64 * e.number) e.columns) (columns_meant es) h in
     all_both (λ (j : ℕ). has j g.columns ≡ true) (numbers_from (64 * e.number) e.columns) (numbers_of es) (columns_there g (64 * e.number) e.columns q.0) (all_there g es q.1)
 
 -- what grows behind a block of numbers

@@ -1,6 +1,6 @@
 -- What groups a query: the columns of its GROUP BY and its set functions; and their faults (ISO/IEC 9075:1992, 6.4, 6.5, 7.7 to 7.9). What is said
 -- here of a column or a set function that has a fault means nothing, and only makes the meaning total.
-use Rattle.std.specs.Prelude.{ℕ, ◌==◌, pos, nat_lt, Bool, true, false, not, ◌&&◌, if◌then◌else◌, List, [], ◌∷◌, ◌++◌, length, map, Option, Some, None, is_none, codes, unwrap_or}
+use Rattle.std.specs.Prelude.{ℕ, ◌==◌, pos, nat_lt, Bool, not, ◌&&◌, if◌then◌else◌, List, [], ◌∷◌, ◌++◌, length, map, Option, Some, None, is_none, codes, unwrap_or}
 use Rattle.std.specs.List.{flat_map, list_any}
 use Rattle.qw_types.specs.declared.value.Ty.TheVariants as type
 use Rattle.qw_scalar.specs.Expression as meaning

@@ -1,6 +1,6 @@
 -- The result columns that the keys of an ORDER BY name, and the faults of the keys (ISO/IEC 9075:1992, 13.1). `names` are the names of the
 -- result columns, in order. What is said here of a key that has a fault means nothing, and only makes the meaning total.
-use Rattle.std.specs.Prelude.{ℕ, suc, ◌-◌, ◌==◌, nat_le, Bool, not, ◌&&◌, if◌then◌else◌, List, [], ◌∷◌, ◌++◌, length, map}
+use Rattle.std.specs.Prelude.{ℕ, suc, ◌-◌, nat_le, Bool, not, ◌&&◌, if◌then◌else◌, List, [], ◌∷◌, ◌++◌, length, map}
 use Rattle.std.specs.List.{flat_map}
 use Rattle.std.specs.Str.{bytes_eq}
 use Rattle.std.specs.Str.Parse.{digits_value}

@@ -1,5 +1,5 @@
 -- Tables and queries of worked cases.
-use Rattle.std.specs.Prelude.{ℕ, false, true, List, [], ◌∷◌, map, Option, Some, None, codes}
+use Rattle.std.specs.Prelude.{ℕ, false, true, List, [], ◌∷◌, map, Some, None, codes}
 use Rattle.qw_types.specs.declared.schema.Column.{Column}
 use Rattle.qw_types.specs.declared.schema.Table.{Table}
 use Rattle.qw_types.specs.declared.value.Ty.TheVariants as type
@@ -7,7 +7,7 @@ use Rattle.qw_scalar.specs.declared.comparison.Comparison.TheVariants.{Equal}
 use Rattle.qw_order.specs.declared.sort_key.SortKey.{SortKey}
 use Rattle.qw_ast.specs.Syntax.{Expression, column, number, comparison, Entry, Joined, Source, Key, result_column, SortSpecification, Select, all_columns, items}
 use Rattle.qw_typer.specs.Keys.{keys_meant}
-use Rattle.qw_typer.specs.Typed.{items_meant, result_names, scope_of}
+use Rattle.qw_typer.specs.Typed.{result_names, scope_of}
 
 abbrev pub integer_column : List ℕ → Column
 integer_column name = record { name = name; ty = type.Integer; not_null = false }

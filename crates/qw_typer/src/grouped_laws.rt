@@ -10,8 +10,8 @@ ghost use Rattle.qw_ast.specs.declared.script.SetFunction.TheVariants.{Avg, Sum}
 ghost use Rattle.qw_ast.specs.Syntax.{Select, count_rows, number, set_function};
 ghost use Rattle.qw_typer.specs.declared.fault.FaultKind.TheVariants.{Clash, NestedAggregate, NotGrouped, ScaleTooLarge};
 ghost use Rattle.qw_typer.specs.Grouping.{is_grouped};
-ghost use Rattle.qw_typer.specs.Typed.{grouped_meant, query_faults, result_names, scope_over, whole_meant};
-ghost use Rattle.qw_typer.specs.Worked.{all_from, alone, join, table, table_as, two_tables};
+ghost use Rattle.qw_typer.specs.Typed.{grouped_meant, query_faults, whole_meant};
+ghost use Rattle.qw_typer.specs.Worked.{all_from, join, table, two_tables};
 ghost use Rattle.qw_typer.specs.WorkedGroups.{all_by, by, from_t, is_one, named, once, one_table, where_t};
 
 /// `SELECT D, COUNT(*), SUM(E) FROM T GROUP BY D HAVING COUNT(*) = 1`, whose set functions stand at the places 22, 17 and 4: the grouped table

@@ -38,7 +38,7 @@ returns-in-None-clause-gives c =
     let column = c.index-columns-index.result in
     let asked : place_meant c.column.result ≡ column_grouped g (own_column (c.first_column-first.result + c.loop-index.index) column) = c.column.ensures in
     let found = (rw c.in-None.is at asked) ∙ ap (λ (k : Column). column_grouped g (own_column (c.first_column-first.result + c.loop-index.index) k)) c.index-columns-index.is in
-    column_refused g c.args.columns.now c.loop-index.index column c.args.number c.first_column-first.result _ c.loop-index-test.true c.first_column-first.ensures found c.loop-index.invariant.faultless
+    rw c.as_slice.ensures (column_refused g c.args.columns.now c.loop-index.index column c.args.number c.first_column-first.result _ c.loop-index-test.true c.first_column-first.ensures found c.loop-index.invariant.faultless)
 
 pub returns-clause-gives : goal.returns-clause-gives
 returns-clause-gives c = (
