@@ -52,10 +52,10 @@ pub fn emit_end(
     requires takes { CanCarry (known_of known.now) [] (values_sink (end_of end)) }
     requires can { CanEnd (end_of end) (free_of emitter.old) }
     requires served { IsServed (free_of emitter.old) (known_of known.now) }
-    ensures emits { IfOk result (λ ended. EmitsTo (IsEnded (end_of end) ended.fields.items) (known_of known.now) [] emitter.old emitter.new) }
-    ensures cells { IfOk result (λ ended. map Some ended.kinds.items ≡ cell_kinds (end_of end)) }
-    ensures values { IfOk result (λ ended. kinds_of (sources_of ended.fields.items) ≡ value_kinds (end_of end)) }
-    ensures short { OnOk result (extent emitter.new ≤ extent emitter.old + end_span end) }
+    ensures emits { IfOk result (λ ended. EmitsTo (IsEnded (end_of end.entry) ended.fields.items) (known_of known.now) [] emitter.old emitter.new) }
+    ensures cells { IfOk result (λ ended. map Some ended.kinds.items ≡ cell_kinds (end_of end.entry)) }
+    ensures values { IfOk result (λ ended. kinds_of (sources_of ended.fields.items) ≡ value_kinds (end_of end.entry)) }
+    ensures short { OnOk result (extent emitter.new ≤ extent emitter.old + end_span end.entry) }
 {
     match end {
         End::Sink(sink) => {
