@@ -1,5 +1,5 @@
 -- The block of a row that goes into groups is typed.
-use Rattle.std.proofs.Common.{◌≡◌, ℕ, ◌+◌, Option, Some, List, ◌++◌, drop, length, map, take, slice_get, sym, ap, ◌∙◌, subst, arith}
+use Rattle.std.proofs.Common.{◌≡◌, ℕ, ◌+◌, Option, Some, List, drop, length, map, take, slice_get, sym, ap, ◌∙◌, subst, arith}
 use Rattle.std.specs.List.{AllByRecursion}
 use Rattle.qw_types.specs.declared.kind.Kind.{Kind}
 use Rattle.qw_module.specs.declared.instruction.ValType.{ValType}

@@ -1,6 +1,6 @@
 -- What the worked cases of what is innermost are of: the rows that COUNT(*) without GROUP BY counts, and select lists.
-use Rattle.std.specs.Prelude.{pos, None, List, [], ◌∷◌}
-use Rattle.qw_scalar.specs.Expression.{Expression, number}
+use Rattle.std.specs.Prelude.{pos, None, [], ◌∷◌}
+use Rattle.qw_scalar.specs.Expression.{number}
 use Rattle.qw_grouped.specs.declared.set_function.SetFunctionKind.TheVariants.{CountRows}
 use Rattle.qw_physical.specs.Physical.{select}
 use Rattle.qw_operator.specs.Ends.{End, puts, sinks}
