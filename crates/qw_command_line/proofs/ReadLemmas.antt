@@ -154,16 +154,26 @@ abbrev ReadsParts : List Row → Result (Option ℕ) Number → Type 0
 ReadsParts rows r = (read : Option ℕ → Reading) → with_parts rows read ≡ parts_read r read
 
 module _ (rows : List Row) (schema folder queries : List ℕ) where
+  -- what is made of the options, then of the text that stands for null, and then of the parts
+  abbrev by_parts : RunOptions → Option (List ℕ) → Option ℕ → Reading
+  by_parts options null parts = command (run (record { schema = schema; folder = folder; queries = queries; null = null; parts = parts }) options)
+
+  abbrev by_null : RunOptions → Option (List ℕ) → Reading
+  by_null options null = with_parts rows (λ parts. by_parts options null parts)
+
+  abbrev by_options : RunOptions → Reading
+  by_options options = with_null rows (λ null. by_null options null)
+
   pub run_is_read : (options : ReadOptions) (null : Option (Bor (List ℕ))) (r : Result (Option ℕ) Number) → ReadsOptions rows (Ok options) → ReadsNull rows (Ok null) → ReadsParts rows r →
       run_with rows schema folder queries
       ≡ parts_read r (λ parts. command (run (record { schema = schema; folder = folder; queries = queries; null = text_of null; parts = parts }) (options_of options)))
-  run_is_read options null r o n p = o _ ∙ (n _ ∙ p _)
+  run_is_read options null r o n p = o by_options ∙ (n (by_null (options_of options)) ∙ p (by_parts (options_of options) (text_of null)))
 
   pub null_is_told : (options : ReadOptions) (number : Number) → ReadsOptions rows (Ok options) → ReadsNull rows (Err number) → run_with rows schema folder queries ≡ out_of_range number
-  null_is_told options number o n = o _ ∙ n _
+  null_is_told options number o n = o by_options ∙ n (by_null (options_of options))
 
   pub option_is_told : (number : Number) → ReadsOptions rows (Err number) → run_with rows schema folder queries ≡ out_of_range number
-  option_is_told number o = o _
+  option_is_told number o = o by_options
 
 -- the number that is told
 pub run_told : (r : Result RunWords Number) (number : Number) → IsErrAnd r (λ (e : Number). e ≡ number) → out_of_range number ≡ run_read r

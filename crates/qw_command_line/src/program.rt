@@ -198,7 +198,10 @@ fn with_option<'a>(
 ) -> Result<Command<'a>, AllocError>
     ensures { IfOk result (λ more. (app : App) → IsApp command.entry app → IsApp more (with_rule app (spec.option name.entry.now))) }
 {
-    let option = Arg::new(alloc, name).long(name).value_name(value).help(help);
+    let option = Arg::new(alloc, name)
+        .long(name)
+        .value_name(value)
+        .help(help);
     command.arg(option)
 }
 

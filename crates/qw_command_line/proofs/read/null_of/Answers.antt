@@ -6,12 +6,12 @@ use Rattle.qw_command_line.proofs.read.null_of.Goals as goal
 pub returns-in-Some : goal.returns-in-Some
 returns-in-Some c = λ read.
     let found = value_found (found_of c.args.matches.now) c.name.result.now c.get_str.result c.in-Some.text c.get_str.ensures c.in-Some.is in
-    null_found (rows_of (found_of c.args.matches.now)) c.name.result.now read c.name.ensures c.in-Some.text.now found (sym (rw c.len.ensures at c.is_in_range.ensures) ∙ c.if-is_in_range.true)
+    null_found (rows_of (found_of c.args.matches.now)) c.name.result.now read c.name.ensures c.in-Some.text.now found (sym c.is_in_range.ensures ∙ c.if-is_in_range.true)
 
 pub returns-in-Some-2 : goal.returns-in-Some-2
 returns-in-Some-2 c = λ read.
     let found = value_found (found_of c.args.matches.now) c.name.result.now c.get_str.result c.in-Some.text c.get_str.ensures c.in-Some.is in
-    null_wrong (rows_of (found_of c.args.matches.now)) c.name.result.now read c.name.ensures c.in-Some.text.now found (sym (rw c.len.ensures at c.is_in_range.ensures) ∙ c.if-is_in_range.false)
+    null_wrong (rows_of (found_of c.args.matches.now)) c.name.result.now read c.name.ensures c.in-Some.text.now found (sym c.is_in_range.ensures ∙ c.if-is_in_range.false)
 
 pub returns-in-None : goal.returns-in-None
 returns-in-None c = λ read.
