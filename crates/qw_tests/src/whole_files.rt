@@ -2,7 +2,7 @@
 
 use crate::tables::file;
 use qw_io::MemoryShelf;
-use qw_top::files::{ReadFault, read_whole, table_file_name};
+use qw_top::files::{ReadFault, part_file_name, read_whole, table_file_name};
 use std::alloc::{AllocError, Global};
 use std::test::Fail;
 
@@ -29,5 +29,12 @@ fn a_file_is_read_piece_by_piece(rt: HostRuntime) -> Result<(), Fail> {
         (failed, long),
         (Some(ReadFault::Failed), Some(ReadFault::TooLong))
     );
+    Ok(())
+}
+
+#[test]
+fn a_part_has_its_number_before_the_ending(rt: HostRuntime) -> Result<(), Fail> {
+    let name = part_file_name(rt.alloc(), "data", "SALES", 12)?;
+    assert_eq!(rt; name.as_str(), "data/sales.12.csv");
     Ok(())
 }

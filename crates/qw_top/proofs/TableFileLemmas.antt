@@ -125,7 +125,7 @@ module _ (before now : Told) (name : List ℕ) (limit : ℕ) (table : Table) (na
   pub fails_within : (e : LoadFault) (piece : List ℕ) (count : ℕ) → count ≤ length piece → OfFile before.files name (λ file. take count piece ≡ take count (drop at file)) → at + count ≤ limit
       → OfFile before.files name (λ file. length file ≤ limit)
       → ((parts further : List (List ℕ)) (given behind : List ℕ) → HasTaken table names.null parts loader given
-          → IsFirstPartFault table names.null (parts ++ (given ++ (take count piece ++ behind)) ∷ further) (length parts + 1) e)
+      → IsFirstPartFault table names.null (parts ++ (given ++ (take count piece ++ behind)) ∷ further) (length parts + 1) e)
       → (bytes : List ℕ) × IsFile before.files name limit bytes × Fails table names start bytes e
   fails_within e piece count fits octets within short fails =
       behind_front before.files name (h.given ++ take count piece) limit (λ bytes. Fails table names start bytes e) (more_front piece count fits octets) (omega (arith, more_long piece count fits, within)) short

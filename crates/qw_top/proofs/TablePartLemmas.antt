@@ -11,7 +11,7 @@ use Rattle.qw_csv.specs.declared.loading.LoadFault.TheVariants as load_faults
 use Rattle.qw_top.specs.Asking.{AsksWithin}
 use Rattle.qw_top.specs.Call.{IsTableLimit}
 use Rattle.qw_top.specs.FileNames.{file_of, files_in}
-use Rattle.qw_top.specs.Inner.Shelves.{HasRead, Told, failed_file, failed_read, failed_table}
+use Rattle.qw_top.specs.Inner.Shelves.{HasRead, Told, failed_file, failed_table}
 use Rattle.qw_top.specs.Inner.Tables.{Ends, Fails, Finishes, IsFaultyFront, IsFileFault, IsInFile, IsInLoad, IsInRead, IsTableFault, IsUnloaded, OfPart}
 use Rattle.qw_top.specs.Limits.{most_table_octets}
 use Rattle.qw_top.specs.Top.{Files, HoldAll, HoldFrom, IsFaultyPart, IsFile, IsNextPart, IsTooLong, Names, TableIs}
@@ -69,14 +69,14 @@ fault_of_file files names table part content name (file_faults.Unread read) faul
 fault_of_file files names table part content name (file_faults.Content load) fault is same long holds = fault_of_load files names table part content load fault is (holds load refl)
 
 -- the file at which the reading failed
-pub failed_in_load : (part : ℕ) (why : LoadFault) (fault : TableFault) → IsInLoad part why fault → failed_table fault ≡ None
+failed_in_load : (part : ℕ) (why : LoadFault) (fault : TableFault) → IsInLoad part why fault → failed_table fault ≡ None
 failed_in_load part why fault is =
     elim (load_or_memory why) [
       | inl want ↦ rw (is.0 want) refl
       | inr other ↦ rw (is.1 other) refl
     ]
 
-pub failed_in_read : {T : Type 0} (part : ℕ) (name : List ℕ) (why : ReadFault) (fault : TableFault) → IsInRead part name why fault → failed_table fault ≡ failed_read {T = T} name (Err why)
+failed_in_read : (part : ℕ) (name : List ℕ) (why : ReadFault) (fault : TableFault) → IsInRead part name why fault → failed_table fault ≡ failed_file name (file_faults.Unread why)
 failed_in_read part name read_faults.TooLong fault is = rw is refl
 failed_in_read part name read_faults.Failed (Unread other) is = ap (λ (n : List ℕ). Some n) is
 failed_in_read part name read_faults.Failed (TooLong number) is = absurd is
@@ -85,9 +85,7 @@ failed_in_read part name read_faults.Failed NoMemory is = absurd is
 failed_in_read part name read_faults.NoMemory fault is = rw is refl
 
 pub failed_in_file : (part : ℕ) (name : List ℕ) (why : FileFault) (fault : TableFault) → IsInFile part name why fault → failed_table fault ≡ failed_file name why
-failed_in_file part name (file_faults.Unread read_faults.TooLong) fault is = rw is refl
-failed_in_file part name (file_faults.Unread read_faults.Failed) fault is = failed_in_read {T = ℕ} part name read_faults.Failed fault is
-failed_in_file part name (file_faults.Unread read_faults.NoMemory) fault is = rw is refl
+failed_in_file part name (file_faults.Unread why) fault is = failed_in_read part name why fault is
 failed_in_file part name (file_faults.Content why) fault is = failed_in_load part why fault is
 
 -- behind files that are within the limit

@@ -166,17 +166,21 @@ abbrev pub file_words : Table → (number : Option ℕ) → List ℕ
 file_words table None = table.name
 file_words table (Some number) = table.name ++ codes " part " ++ decimal number
 
--- a table's file, and what is wrong in its record of this number
-abbrev pub in_record : Table → (number : Option ℕ) → ℕ → List ℕ
-in_record table number row = file_words table number ++ codes " record " ++ decimal row
+-- a file that is told by these words, and what is wrong in its record of this number
+abbrev pub in_record : (file : List ℕ) → ℕ → List ℕ
+in_record file row = file ++ codes " record " ++ decimal row
 
--- why a table's file stands for no rows
+-- why a file of a table, which is told by these words, stands for no rows
+abbrev pub load_cause : (file : List ℕ) → Table → LoadFault → List ℕ
+load_cause file table load.BadHeader = file ++ codes ": bad header"
+load_cause file table (load.FieldCount row) = in_record file row ++ codes ": field count"
+load_cause file table (load.Field row index why) = in_record file row ++ codes " column " ++ column_name table index ++ codes ": " ++ cell_cause why
+load_cause file table load.TooManyRows = file ++ codes ": too many rows"
+load_cause file table load.NoMemory = codes "want of memory"
+
+-- and where it is the one of this number
 abbrev pub table_cause : Table → (number : Option ℕ) → LoadFault → List ℕ
-table_cause table number load.BadHeader = file_words table number ++ codes ": bad header"
-table_cause table number (load.FieldCount row) = in_record table number row ++ codes ": field count"
-table_cause table number (load.Field row index why) = in_record table number row ++ codes " column " ++ column_name table index ++ codes ": " ++ cell_cause why
-table_cause table number load.TooManyRows = file_words table number ++ codes ": too many rows"
-table_cause table number load.NoMemory = codes "want of memory"
+table_cause table number fault = load_cause (file_words table number) table fault
 
 -- the name of what is out of the profile
 abbrev pub what_words : What → List ℕ

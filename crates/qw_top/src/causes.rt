@@ -3,7 +3,7 @@
 ghost use Rattle.std.specs.Prelude.{◌≡◌, ◌++◌, IfOk, codes};
 ghost use Rattle.std.specs.Fmt.{decimal};
 ghost use Rattle.std.specs.String.{string_bytes};
-ghost use Rattle.qw_top.specs.Causes.{cell_cause, column_name, counted, counted_in_script, file_words, in_statement, kind_words, line_of_cause, module_cause, part_words, schema_cause, script_cause, status_of_cause, table_cause, too_many, typing_cause, what_words};
+ghost use Rattle.qw_top.specs.Causes.{cell_cause, column_name, counted, counted_in_script, file_words, in_statement, kind_words, line_of_cause, load_cause, module_cause, part_words, schema_cause, script_cause, status_of_cause, table_cause, too_many, typing_cause, what_words};
 ghost use Rattle.qw_top.specs.Inner.Causes.{cause_of};
 ghost use Rattle.qw_top.specs.Inner.Stop.{refusal_status};
 
@@ -255,14 +255,25 @@ fn table_cause(
     ensures { IfOk result (λ words. string_bytes words ≡ table_cause table.now part fault.now) }
 {
     let told = file_words(alloc, table, part)?;
-    let name = told.as_str();
+    load_cause(alloc, told.as_str(), table, fault)
+}
+
+/// The same of a file that is told by these words.
+fn load_cause(
+    alloc: Global,
+    file: &str,
+    table: &Table,
+    fault: &LoadFault,
+) -> Result<String, NoMemory>
+    ensures { IfOk result (λ words. string_bytes words ≡ load_cause file.now table.now fault.now) }
+{
     match fault {
-        LoadFault::BadHeader => Ok(format!(in alloc; "{name}: bad header")?),
-        LoadFault::FieldCount { row } => Ok(format!(in alloc; "{name} record {row}: field count")?),
+        LoadFault::BadHeader => Ok(format!(in alloc; "{file}: bad header")?),
+        LoadFault::FieldCount { row } => Ok(format!(in alloc; "{file} record {row}: field count")?),
         LoadFault::Field { row, column, fault } => {
-            field_cause(alloc, name, *row, column_name(table, *column), *fault)
+            field_cause(alloc, file, *row, column_name(table, *column), *fault)
         }
-        LoadFault::TooManyRows => Ok(format!(in alloc; "{name}: too many rows")?),
+        LoadFault::TooManyRows => Ok(format!(in alloc; "{file}: too many rows")?),
         LoadFault::NoMemory => Ok(String::from_str(alloc, "want of memory")?),
     }
 }

@@ -3,8 +3,8 @@
 //! The program makes one call, [`qwasm`]. It takes the words of the command line, a shelf of files, a sink for the
 //! report, one for the lines on what went wrong, and a place for the bench, and answers the [`Status`] of the run.
 //!
-//! - [`files`]: a whole file, within its limit.
-//! - `table_file`: the file of a table, loaded as it is read.
+//! - [`files`]: a whole file, within its limit, and the names of files.
+//! - `table_file`: the files of a table, loaded as they are read.
 //! - `generated`: generated input as the files of a run.
 //! - [`output`]: a text written whole.
 //! - [`notes`]: the lines on what went wrong.

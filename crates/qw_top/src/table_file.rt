@@ -222,7 +222,13 @@ fn take_file<F: Shelf>(
     ensures asked { AsksWithin (IsTableLimit (names_of names.now)) (F.watched files.old) (F.watched files.new) }
 {
     let number = index + 1;
-    let name = file_name(alloc, names.folder, names.parts, table.name.as_str(), number)?;
+    let name = file_name(
+        alloc,
+        names.folder,
+        names.parts,
+        table.name.as_str(),
+        number,
+    )?;
     match take_pieces(alloc, files, name.as_str(), names, table, loader, piece) {
         Ok(taken) => Ok(taken),
         Err(fault) => Err(in_file(number, name, fault)),
@@ -298,7 +304,14 @@ fn take_pieces<F: Shelf>(
         }
         match taken.take(alloc, table, null_octets(names), &piece[..count]) {
             Ok(next) => taken = next,
-            Err(fault) => return Err(fault_of(files, name, MAX_TABLE_FILE, at + count, piece, fault)),
+            Err(fault) => return Err(fault_of(
+                files,
+                name,
+                MAX_TABLE_FILE,
+                at + count,
+                piece,
+                fault,
+            )),
         }
         at += count;
     }
@@ -399,7 +412,13 @@ fn skip_file<F: Shelf>(
     ensures asked { AsksWithin (IsTableLimit (names_of names.now)) (F.watched files.old) (F.watched files.new) }
 {
     let number = index + 1;
-    let name = file_name(alloc, names.folder, names.parts, table.name.as_str(), number)?;
+    let name = file_name(
+        alloc,
+        names.folder,
+        names.parts,
+        table.name.as_str(),
+        number,
+    )?;
     match skip_rest(files, name.as_str(), MAX_TABLE_FILE, 0, piece) {
         Ok(()) => Ok(()),
         Err(fault) => Err(in_read(number, name, fault)),

@@ -147,7 +147,7 @@ fn table_unloaded<'a>(
     parts: Option<u64>,
     fault: TableFault,
 ) -> Stop<'a>
-    ensures { StopsForTable parts table.now fault.entry result }
+    ensures { StopsForTable parts table.now fault result }
 {
     match fault {
         TableFault::TooLong(part) => {
