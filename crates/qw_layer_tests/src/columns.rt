@@ -8,7 +8,7 @@ ghost use Rattle.qw_types.specs.Value.{IsSized};
 ghost use Rattle.qw_columns.specs.Mapped.{IsMapOf, value_in};
 
 use qw_columns::{ColumnMap, PlaceFault, pages_needed, place, value_at};
-use qw_csv::loading::load;
+use qw_csv::loading::{load, load_parts};
 use qw_csv::{Cell, Loaded};
 use qw_linear::linear::{Linear, PAGE};
 use qw_types::{Column, Columns, NoMemory, Table, Text, Ty, Val};
@@ -81,6 +81,11 @@ const COLUMNS: [(Ty, bool, &[u8], &[u8]); 12] = [
 
 const ITEM_FILE: &[u8] =
     b"ID,PRICE,SOLD,LABEL\n1,10.00,1998-08-15,pen\n2,,,ink\n3,0.50,1999-01-02,\n";
+
+// The same in two parts, the second of which has a byte order mark, where NULL stands for null.
+const FIRST_PART: &[u8] = b"ID,PRICE,SOLD,LABEL\n1,10.00,1998-08-15,pen\n2,NULL,NULL,ink\n";
+
+const SECOND_PART: &[u8] = b"\xEF\xBB\xBFid,price,sold,label\n3,0.50,1999-01-02,\"NULL\"";
 
 // The table ITEM from 64 on, and behind it the table of one column and one row.
 const TWO_TABLES: &[u8] = b"\x01\0\0\0\x02\0\0\0\x03\0\0\0\0\0\0\0\
@@ -282,6 +287,29 @@ fn two_tables(rt: HostRuntime) -> Result<(), Fail> {
     let map = place(rt.alloc(), tables, &mut memory)?;
     assert_octets(&rt, &memory, TWO_TABLES);
     Ok(assert_values(&rt, rt.alloc(), &memory, &map, &VALUES)?)
+}
+
+/// The tables of ITEM in parts, and of one column and one row.
+fn parts_loaded(alloc: Global) -> Result<Vec<Loaded>, Fail>
+    ensures { IfOk result (λ tables. length tables.items ≡ 2) }
+{
+    let parts = vec![in alloc;
+        Vec::from_slice(alloc, FIRST_PART)?,
+        Vec::from_slice(alloc, SECOND_PART)?,
+    ]?;
+    let null = Some(b"NULL".as_slice());
+    let first = load_parts(alloc, &item(alloc)?, parts.as_slice(), null)?;
+    let second = load(alloc, &narrow(alloc, Ty::Integer, true)?, b"A\n7\n")?;
+    Ok(vec![in alloc; first, second]?)
+}
+
+#[test]
+fn a_table_in_parts(rt: HostRuntime) -> Result<(), Fail> {
+    let tables = parts_loaded(rt.alloc())?;
+    let mut memory = Linear::new(rt.alloc(), 1)?;
+    place(rt.alloc(), tables, &mut memory)?;
+    assert_octets(&rt, &memory, TWO_TABLES);
+    Ok(())
 }
 
 #[test]

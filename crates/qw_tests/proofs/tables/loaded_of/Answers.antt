@@ -11,7 +11,7 @@ use Rattle.qw_tests.proofs.tables.loaded_of.Goals as goal
 
 contents_loaded : (table : Table) (file : List ℕ) (loaded : Result Contents LoadFault) → IfOk loaded (λ (one : Contents). Loads table file one.rows) →
     IfOk loaded (λ (one : Contents). one.columns ≡ map column_type table.columns) → IfOk loaded (λ (one : Contents). IsContentsOf table one)
-contents_loaded table file (Ok one) loads columns = record { columns = columns; few = loads.few; typed = loaded_of_columns table file one.rows loads }
+contents_loaded table file (Ok one) loads columns = record { columns = columns; few = loads.1; typed = loaded_of_columns table file one.rows loads }
 contents_loaded table file (Err fault) loads columns = tt
 
 pub returns : goal.returns
