@@ -22,7 +22,7 @@ use Rattle.qw_typer.specs.Faults.{Fault, or_own}
 use Rattle.qw_typer.specs.Grouping.{is_grouped}
 use Rattle.qw_typer.specs.Keys.{keys_faults, keys_meant}
 use Rattle.qw_typer.specs.Meant.{Entry, Scope, ungrouped}
-use Rattle.qw_typer.specs.Typed.{IsWithin, Means, entries_faults, entries_from, items_meant, order_faults, over_faults, query_faults, result_names, scope_of}
+use Rattle.qw_typer.specs.Typed.{IsWithin, Means, entries_faults, entries_from, items_meant, order_faults, over_faults, query_faults, result_names, scope_of, scope_over}
 use Rattle.qw_typer.specs.Inner.Queries.{HaveTables, IsFrom, IsOneOf}
 use Rattle.qw_typer.specs.Inner.Sizes.{column_count, most_items}
 use Rattle.qw_typer.specs.Inner.Typing.{Refuses, as_entries, as_entry, outcome, spelled, typed_over}
