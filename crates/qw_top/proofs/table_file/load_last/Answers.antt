@@ -4,6 +4,12 @@ use Rattle.qw_top.proofs.TablePartLemmas.{fault_of_load}
 use Rattle.std.proofs.Common.{◌+◌, sym}
 use Rattle.qw_top.proofs.table_file.load_last.Goals as goal
 
+pub finish-requires : goal.finish-requires
+finish-requires g c =
+    let (bytes, file, takes) = c.in-Ok.ensures.taken in
+    let (parts, started) = c.requires.start in
+    (parts, bytes, rw c.null_octets.ensures (takes parts started))
+
 pub returns-in-Ok-finish-clause-ended : goal.returns-in-Ok-finish-clause-ended
 returns-in-Ok-finish-clause-ended g c =
     let (bytes, file, takes) = c.in-Ok.ensures.taken in

@@ -4,6 +4,12 @@ use Rattle.qw_top.proofs.TablePartLemmas.{fault_of_load}
 use Rattle.std.proofs.Common.{◌+◌, sym}
 use Rattle.qw_top.proofs.table_file.load_part.Goals as goal
 
+pub next_part-requires : goal.next_part-requires
+next_part-requires g c =
+    let (bytes, file, takes) = c.in-Ok.ensures.taken in
+    let (parts, started) = c.requires.start in
+    (parts, bytes, rw c.null_octets.ensures (takes parts started))
+
 pub returns-in-Ok-next_part-clause-ended : goal.returns-in-Ok-next_part-clause-ended
 returns-in-Ok-next_part-clause-ended g c =
     let (bytes, file, takes) = c.in-Ok.ensures.taken in
