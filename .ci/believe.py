@@ -3,9 +3,11 @@
 
 From the clauses of public functions, through the imports of their files, to each definition of specs/ that they reach.
 Prints a line for each spec file that has such definitions: their number and lines. With --write brings the numbers of
-docs/BELIEVE.md up to date; a file that has no row there gets one behind its crate's other rows, with its first comment as
-what it says. With --check compares these with the tables of that page instead, and ends with 1 where they differ, where a public clause rests on specs/Inner, or where the
-promise of docs/THEOREMS.md names a definition, a file, a function or clause, a test or an edit that isn't there.
+docs/BELIEVE.md up to date: a row for each file that the call rests on, and one for each crate whose files others rest on
+besides. A file of the call that has no row gets one behind its crate's other rows, with its first comment as what it says.
+With --check compares these with the tables of that page instead, and ends with 1 where they differ, where a public clause
+rests on specs/Inner, or where the promise of docs/THEOREMS.md names a definition, a file, a function or clause, a test or an
+edit that isn't there.
 """
 import os
 import re
@@ -15,6 +17,7 @@ TOP = os.path.join(os.path.dirname(os.path.abspath(__file__)), "..")
 CRATES = os.path.join(TOP, "crates")
 # Modules of qw_top that are public for the tests alone: what they promise is said again by the call.
 STAGES = {"files.rt", "notes.rt", "output.rt", "program.rt", "queries.rt", "stop.rt"}
+BESIDE = "Beside the call"
 WORD = re.compile(r"[^\s(){}\[\],;]+")
 IMPORT = re.compile(r"^\s*(?:ghost )?use (Rattle\.[^\s{]+?)(?:\.\{(.*)\}| as (\S+?));?$")
 
@@ -180,6 +183,15 @@ def rows(specs, found):
             yield specs[module].path, len(here), sum(len(d.lines) for d in here)
 
 
+def by_crate(lines):
+    """Of each crate how many files, definitions and lines there are."""
+    sums = {}
+    for path, definitions, length in lines:
+        files, before, lines_before = sums.get(path.split(os.sep)[0], (0, 0, 0))
+        sums[path.split(os.sep)[0]] = (files + 1, before + definitions, lines_before + length)
+    return [(crate, *counts) for crate, counts in sums.items()]
+
+
 def first_comment(path):
     """What a spec file says of itself, up to its first stop."""
     text = open(os.path.join(CRATES, path), encoding="utf-8").read()
@@ -188,12 +200,16 @@ def first_comment(path):
 
 
 def written(page, told):
-    """The page of what must be believed, with these rows; those that stand there keep their places and words."""
+    """The page of what must be believed, with these rows; those of the call that stand there keep their places and words."""
     for part, lines in told.items():
         head, mark, rest = page.partition(f"## {part}\n")
         section, end, tail = rest.partition("\n## ")
         counts = f"{len(lines)} files, {sum(n for _, n, _ in lines)} definitions, {sum(n for _, _, n in lines)} lines"
         section = re.sub(r"\d+ files, \d+ definitions, \d+ lines", counts, section, count=1)
+        if part == BESIDE:
+            table = "\n".join(f"| `{crate}` | {files} | {d} | {n} |" for crate, files, d, n in by_crate(lines))
+            page = head + mark + re.sub(r"(?:^\| `.*\|$\n?)+", table.replace("\\", r"\\") + "\n", section, count=1, flags=re.M) + end + tail
+            continue
         row = re.compile(r"^\| `([^`]+)` \| \d+ \| \d+ \| (.*) \|$")
         sizes, made, places = {p: (d, n) for p, d, n in lines}, [], []
         for line in section.split("\n"):
@@ -258,7 +274,7 @@ def main():
 
     call = closure(specs, values, roots("qw_top", {"qwasm"}))
     every = closure(specs, values, [r for c in crates for r in roots(c)]) | call
-    told = {"The call": list(rows(specs, call)), "Beside the call": list(rows(specs, every - call))}
+    told = {"The call": list(rows(specs, call)), BESIDE: list(rows(specs, every - call))}
     checks = "--check" in sys.argv
     place = os.path.join(TOP, "docs", "BELIEVE.md")
     if "--write" in sys.argv:
@@ -275,6 +291,10 @@ def main():
     bad = [f"{p}: a public clause rests on it" for part in told.values() for p, _, _ in part if "/Inner/" in p]
     for part, lines in told.items():
         section = page.partition(f"## {part}\n")[2].partition("\n## ")[0]
+        if part == BESIDE:
+            said = {(c, int(f), int(d), int(l)) for c, f, d, l in re.findall(r"^\| `([^`]+)` \| (\d+) \| (\d+) \| (\d+) \|$", section, flags=re.M)}
+            bad += [f"{part}: docs/BELIEVE.md has another row for {c}" for c in sorted({row[0] for row in said ^ set(by_crate(lines))})]
+            continue
         said = {(p, int(d), int(l)) for p, d, l in re.findall(r"^\| `([^`]+)` \| (\d+) \| (\d+) \|", section, flags=re.M)}
         bad += [f"{part}: {p} has {d} definitions in {l} lines, and docs/BELIEVE.md doesn't say so" for p, d, l in sorted(set(lines) - said)]
         bad += [f"{part}: docs/BELIEVE.md says {d} definitions in {l} lines of {p}" for p, d, l in sorted(said - set(lines))]

@@ -1,8 +1,8 @@
 #!/usr/bin/env python3
 """The table of files on each crate's page, crates/*/README.md, made of what each file says of itself.
 
-A file's row has the first sentence of its first comment: `//!` in code, or `//` at its top; where there is none the first `///`, with the
-name of what it stands at; `--` in definitions and proofs. Lemmas and inner definitions, which a reader of the crate need not know, have one row
+A file's row has the first sentence of its first comment, up to a colon or semicolon and without references: `//!` in code, or `//` at its top;
+where there is none the first `///`, with the name of what it stands at; `--` in definitions and proofs. Lemmas and inner definitions, which a reader of the crate need not know, have one row
 a folder, but each file must say what it holds. The table stands between two marks. Without words this writes the tables, and makes a page where
 a crate has none; with --check it compares, and ends with 1 where a table differs or a file has no such comment.
 """
@@ -14,9 +14,11 @@ TOP = os.path.join(os.path.dirname(os.path.abspath(__file__)), "..")
 CRATES = os.path.join(TOP, "crates")
 FIRST, LAST = "<!-- the files, by .ci/pages.py -->", "<!-- end of the files -->"
 # Folders whose files have one row together.
-TOLD_TOGETHER = {"specs/Inner/": "Definitions that only the crate's own contracts name", "proofs/": "Lemmas"}
+TOLD_TOGETHER = {"specs/Inner/": "definitions for the crate's own contracts alone", "proofs/": "lemmas"}
 # Files that only list others.
 LISTS = {"lib.rt", "Lib.antt", "Inner.antt"}
+# References, which a reader finds in the file.
+REFERENCE = re.compile(r" \((?:ISO/IEC|Neumann|Fowler|WebAssembly|RFC|docs/)[^()]*\)")
 ITEM = re.compile(r"\s*(?:#\[.*\]\s*)*pub(?:\(crate\))? (?:const )?(?:struct|enum|trait|fn|type) (\w+)")
 
 
@@ -45,6 +47,16 @@ def sentence(text):
     return text
 
 
+def short(said):
+    """A sentence without its references, up to the first colon or semicolon that no bracket, quote or list of few words encloses."""
+    said = REFERENCE.sub("", said)
+    for stop in re.finditer(r"[:;] ", said):
+        before = said[: stop.start()]
+        if before.count("(") == before.count(")") and before.count("`") % 2 == 0 and len(re.sub("`[^`]*`", "x", before).split()) > 2:
+            return before
+    return said
+
+
 def block(lines, mark):
     """The first paragraph that is written in such comments, and the line after the block."""
     for index, line in enumerate(lines):
@@ -65,12 +77,13 @@ def said_of(path):
         said, _ = block(lines, "//!")
     if said is None and lines[0].startswith("// "):
         said, _ = block(lines, "//")
+    name = ""
     if said is None and path.endswith(".rt"):
         said, after = block(lines, "///")
         while said and not (item := ITEM.match("\n".join(after))):
             said, after = block(after, "///")
-        said = said and f"`{item.group(1)}`: {said[:1].lower()}{said[1:]}"
-    return said and sentence(said).replace("|", "\\|")
+        name, said = (f"`{item.group(1)}`: ", said[:1].lower() + said[1:]) if said else ("", said)
+    return said and name + short(sentence(said)).replace("|", "\\|")
 
 
 def table_of(crate):
@@ -84,7 +97,7 @@ def table_of(crate):
             together[folder] = together.get(folder, 0) + 1
         else:
             rows.append(f"| `{path}` | {said or ''} |")
-    rows += [f"| `{folder}` | {TOLD_TOGETHER[folder]}: {count} file{'s' if count > 1 else ''}, of which each says in its first line what it holds |" for folder, count in together.items()]
+    rows += [f"| `{folder}` | {count} file{'s' if count > 1 else ''} of {TOLD_TOGETHER[folder]} |" for folder, count in together.items()]
     return "\n".join([FIRST, *rows, LAST]), silent
 
 
