@@ -3,8 +3,8 @@
 
 Ends with 1 where one of them names a crate that isn't there; where it names in backticks a path, a definition as `File.name`, an item of
 code as `path::item`, or a name with an underscore, and the tree has none such; where a file of src/ or specs/ has no row on its crate's
-page, a row names no file, or a crate has no line in docs/ARCHITECTURE.md and docs/PROVED.md; where docs/THEOREMS.md or docs/RUNS.md cites no heading of
-cases in qw_run_cases, or one that isn't there; and where docs/GATE.md or README.md states other counts than
+page, a row names no file, or a crate has no line in docs/ARCHITECTURE.md and docs/PROVED.md; where docs/THEOREMS.md or docs/RUNS.md cites no heading
+of cases in qw_run_cases, or one that isn't there, or neither cites one that is; and where docs/GATE.md or README.md states other counts than
 the tree has. docs/PLANTED.md is a record of what was tried once, so of it only crates and paths are looked up.
 """
 import os
@@ -117,13 +117,15 @@ def rows(there, crate):
             yield f"{page} has a row for {file}, which isn't there"
 
 
-def cases(page):
-    """Headings of cases of whole calls that a document cites and that aren't there, or citations that name none."""
+def cases(pages):
+    """Headings of cases of whole calls that documents cite and that aren't there, citations that name none, and headings that none cites."""
     headings = set(re.findall(r"^\n# (.+?)(?:: .*)?$", read("crates/qw_run_cases/stdin"), flags=re.M))
-    for cell in re.findall(r"`qw_run_cases/stdin`(?: \(([^)]*)\))?", read(page)):
-        for heading in cell.split("; "):
-            if heading not in headings:
-                yield f"{page} cites cases under {heading or 'no heading'}, which isn't one of qw_run_cases"
+    cells = [cell for page in pages for cell in re.findall(r"`qw_run_cases/stdin`(?: \(([^)]*)\))?", read(page))]
+    cited = {heading for cell in cells for heading in cell.split("; ")}
+    for heading in sorted(cited - headings):
+        yield f"{' or '.join(pages)} cites cases under {heading or 'no heading'}, which isn't one of qw_run_cases"
+    for heading in sorted(headings - cited):
+        yield f"{' and '.join(pages)} cite no cases under {heading}"
 
 
 def counts(there):
@@ -150,7 +152,7 @@ def main():
     documents = sorted(p for p in there.paths if re.fullmatch(r"docs/\w+\.md|(?:README|CONTRIBUTING)\.md|crates/\w+/README\.md", p))
     bad = [line for page in documents for line in names(there, page)]
     bad += [line for crate in sorted(there.crates) for line in rows(there, crate)]
-    bad += [line for page in ("docs/THEOREMS.md", "docs/RUNS.md") for line in cases(page)]
+    bad += cases(("docs/THEOREMS.md", "docs/RUNS.md"))
     for page in ("docs/ARCHITECTURE.md", "docs/PROVED.md"):
         told = "\n".join(line.split(" | ")[0] for line in read(page).split("\n") if line.startswith("| `"))
         bad += [f"{page} has no line for {crate}" for crate in sorted(there.crates) if f"`{crate}`" not in told]
