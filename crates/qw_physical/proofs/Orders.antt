@@ -10,7 +10,7 @@ use Rattle.qw_meaning.proofs.FlowLemmas.{flat_map_twice}
 use Rattle.qw_algebra.proofs.Flows.{same_flow}
 use Rattle.qw_algebra.proofs.Lists.{all_more, all_of_any, flat_map_same}
 use Rattle.qw_feed.specs.Feeds.{flow_over}
-use Rattle.qw_feed.proofs.PermutedRows.{rows-permuted}
+use Rattle.qw_rewrite.proofs.PermutedRows.{rows-permuted}
 
 abbrev pub Alike : (f g : Flow (List Val)) → Type 0
 Alike f g = IsPermutation f.rows g.rows × IsPermutation f.codes g.codes

@@ -10,6 +10,7 @@
 #![tactic(auto)]
 
 pub mod columns;
+pub mod order_laws;
 pub mod place_laws;
 mod probe;
 pub mod rewrite;
