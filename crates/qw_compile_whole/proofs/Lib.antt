@@ -75,6 +75,7 @@ mod WholeBehind
 mod WholeCompiled
 mod WholeFinished
 mod WholeKept
+mod WholeLayouts
 mod WholeOnce
 pub mod Widened
 pub mod FieldCounts

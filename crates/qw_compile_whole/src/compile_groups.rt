@@ -11,6 +11,7 @@ ghost use Rattle.qw_grouped.specs.Whole as asked;
 ghost use Rattle.qw_promise.specs.Compiled.{IsCompiled};
 ghost use Rattle.qw_emit.specs.Alike.{AreAlike};
 ghost use Rattle.qw_compile.specs.declared.compile.CompileFault.TheVariants as faults;
+ghost use Rattle.qw_whole.specs.Layouts.{IsLayoutOf};
 ghost use Rattle.qw_whole.specs.WholePromises.{promise_of_whole};
 ghost use Rattle.qw_compile_whole.specs.GroupedDistinctLimits.{IsShortGroups};
 ghost use Rattle.qw_compile_whole.specs.WholeTexts.{texts_of_grouped};
@@ -41,6 +42,7 @@ pub(crate) fn compile_groups(
     requires alike { AreAlike (entries_of (grouped_of query.now).sources) }
     ensures compiled { IfOk result (λ compiled. IsCompiled (promise_of_whole (record { body = asked.grouped (grouped_of query.now); distinct = distinct })) compiled.layout compiled.module) }
     ensures texts { IfOk result (λ compiled. compiled.layout.literals ≡ concat (texts_of_grouped query.now)) }
+    ensures layout { IfOk result (λ compiled. IsLayoutOf (record { body = asked.grouped (grouped_of query.now); distinct = distinct }) compiled.layout) }
     ensures short { IsShortGroups distinct query.now → IfErr result (λ fault. fault ≡ faults.NoMemory) }
 {
     // That rows which aren't distinct are the same row is what the bounds on hash tables rest on.

@@ -12,6 +12,7 @@ ghost use Rattle.qw_promise.specs.Compiled.{IsCompiled};
 ghost use Rattle.qw_emit.specs.Alike.{AreAlike};
 ghost use Rattle.qw_compile.specs.WrittenTexts.{texts_of_query};
 ghost use Rattle.qw_compile.specs.declared.compile.CompileFault.TheVariants as faults;
+ghost use Rattle.qw_whole.specs.Layouts.{IsLayoutOf};
 ghost use Rattle.qw_whole.specs.WholePromises.{promise_of_whole};
 ghost use Rattle.qw_compile_whole.specs.DistinctLimits.{IsShortPlain};
 
@@ -38,6 +39,7 @@ pub(crate) fn compile_plain(
     requires alike { AreAlike (entries_of (query_of query.now).sources) }
     ensures compiled { IfOk result (λ compiled. IsCompiled (promise_of_whole (record { body = asked.plain (query_of query.now); distinct = distinct })) compiled.layout compiled.module) }
     ensures texts { IfOk result (λ compiled. compiled.layout.literals ≡ concat (texts_of_query query.now)) }
+    ensures layout { IfOk result (λ compiled. IsLayoutOf (record { body = asked.plain (query_of query.now); distinct = distinct }) compiled.layout) }
     ensures short { IsShortPlain distinct query.now → IfErr result (λ fault. fault ≡ faults.NoMemory) }
 {
     if distinct {

@@ -11,6 +11,7 @@ ghost use Rattle.qw_grouped.specs.WholeQuery.{body_of, whole_of};
 ghost use Rattle.qw_promise.specs.Compiled.{IsCompiled};
 ghost use Rattle.qw_emit.specs.Alike.{AreAlike};
 ghost use Rattle.qw_compile.specs.declared.compile.CompileFault.TheVariants as faults;
+ghost use Rattle.qw_whole.specs.Layouts.{IsLayoutOf};
 ghost use Rattle.qw_whole.specs.WholePromises.{promise_of_whole};
 ghost use Rattle.qw_compile_whole.specs.ShortQueries.{IsShortWhole};
 ghost use Rattle.qw_compile_whole.specs.WholeTexts.{texts_of_whole};
@@ -23,7 +24,8 @@ use std::alloc::Global;
 
 /// The module that runs a query, and its layout, whose literals are the query's text literals: of one that isn't grouped those of each ON, of WHERE and of
 /// the select list, in written order; of a grouped one those of the arguments of its set functions behind those of WHERE, and then those of HAVING and of
-/// the select list. Its columns are those of the entries of FROM that are read.
+/// the select list. Its columns are those that the query names, each once, in the order in which they are first named, and behind them the first one of each entry of
+/// FROM of which it names none.
 ///
 /// # Errors
 ///
@@ -36,6 +38,7 @@ pub fn compile_whole(alloc: Global, query: &WholeQuery) -> Result<Compiled, Comp
     requires alike { AreAlike (entries_of (sources_in (body_of query.now.body))) }
     ensures compiled { IfOk result (λ compiled. IsCompiled (promise_of_whole (whole_of query.now)) compiled.layout compiled.module) }
     ensures texts { IfOk result (λ compiled. compiled.layout.literals ≡ concat (texts_of_whole query.now)) }
+    ensures layout { IfOk result (λ compiled. IsLayoutOf (whole_of query.now) compiled.layout) }
     ensures short { IsShortWhole query.now → IfErr result (λ fault. fault ≡ faults.NoMemory) }
 {
     match &query.body {

@@ -3,7 +3,7 @@ use Rattle.std.specs.Prelude.{List, [], ◌∷◌, ℕ, true, false, codes}
 use Rattle.qw_types.specs.declared.schema.Column.{Column}
 use Rattle.qw_types.specs.declared.schema.Table.{Table}
 use Rattle.qw_types.specs.declared.value.Ty.{Ty}
-use Rattle.qw_types.specs.declared.value.Ty.TheVariants.{Integer}
+use Rattle.qw_types.specs.declared.value.Ty.TheVariants.{Integer, Varchar}
 
 -- a column of a type that may be null
 abbrev pub may_be_null : Ty → Column
@@ -32,3 +32,15 @@ wide_part = 65 ∷ 10 ∷ 56 ∷ 44 ∷ 57 ∷ 10 ∷ []
 -- `8` alone
 abbrev pub headless_part : List ℕ
 headless_part = 56 ∷ 10 ∷ []
+
+-- a table of two columns, A INTEGER NOT NULL and B VARCHAR(3)
+abbrev pub two_columns : Table
+two_columns = record { name = codes "T"; columns = never_null Integer ∷ record { name = codes "B"; ty = Varchar 3; not_null = false } ∷ [] }
+
+-- `A,B`, an empty line, `1,"x` and `y"`
+abbrev pub two_line_part : List ℕ
+two_line_part = codes "A,B\n\n1,\"x\ny\"\n"
+
+-- and `z,` behind them
+abbrev pub faulty_part : List ℕ
+faulty_part = codes "A,B\n\n1,\"x\ny\"\nz,\n"

@@ -6,11 +6,13 @@
 //! - [`loaded::Loaded`]: rows in memory, their values by row and column.
 //! - [`loaded_column::LoadedColumn`]: one column of them by itself, so that columns can be freed one after another.
 //! - [`cell::Cell`]: a value, its text lent; [`cell::CellFault`]: why a field stands for none.
+//! - [`field_laws`]: worked cases of fields and records.
 //! - [`column_cells::ColumnCells`]: all values of a column, lent as they are kept.
 #![tactic(auto)]
 
 pub mod cell;
 pub mod column_cells;
+pub mod field_laws;
 pub mod loaded;
 pub mod loaded_column;
 pub mod loader;

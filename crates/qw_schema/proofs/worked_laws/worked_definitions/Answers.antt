@@ -1,0 +1,15 @@
+use Rattle.std.proofs.Common.{[], ◌∷◌, refl}
+use Rattle.qw_ast.specs.SchemaGrammar.{exceeds, statements}
+use Rattle.qw_schema.specs.Inner.Parser.{further_within, list_at, regular_at, terminal_at, token_at}
+use Rattle.qw_schema.specs.Inner.Tables.{column_at, create_table_at, decimal_at, identifier_at, nullability_at, number_at, scale_at, table_at, type_at, type_word_at, varchar_at}
+use Rattle.qw_schema.specs.Worked.{greatest_table, greatest_tokens, item_table, item_tokens, two_tables, two_tokens}
+use Rattle.qw_schema.proofs.SchemaLemmas.{judged_tables}
+use Rattle.qw_schema.proofs.worked_laws.worked_definitions.Goals as goal
+
+pub returns : goal.returns
+unfolding exceeds statements type_word_at identifier_at number_at scale_at decimal_at varchar_at type_at nullability_at column_at table_at create_table_at terminal_at token_at further_within list_at regular_at
+returns c = record {
+  each_type = judged_tables 1 (statements item_tokens) (item_table ∷ []) refl;
+  two = judged_tables 1 (statements two_tokens) two_tables refl;
+  greatest = judged_tables 1 (statements greatest_tokens) (greatest_table ∷ []) refl;
+}
