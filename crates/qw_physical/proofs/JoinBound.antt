@@ -25,7 +25,7 @@ use Rattle.qw_algebra.specs.Node.{Node, join, node_flow}
 use Rattle.qw_algebra.proofs.Lists.{all_append, all_more, all_of_any}
 use Rattle.qw_pipe.specs.General.{general_hashing}
 use Rattle.qw_pipe.specs.Pipes.{Lookup}
-use Rattle.qw_pipe.specs.Units.{equalities, is_passed, key_kept, key_sought, meets, operand_among, operand_of, table_units, value_or_null}
+use Rattle.qw_pipe.specs.Units.{entered_keys, equalities, is_entered, is_passed, key_kept, key_sought, meets, operand_among, operand_of, table_units, value_or_null}
 use Rattle.qw_rewrite.specs.Probe.{is_eligible}
 use Rattle.qw_rewrite.specs.Probed.{all_meet, at_keys, beside_keys, found, is_key, probed_by}
 use Rattle.qw_rewrite.proofs.Names.{and_left, and_right}
@@ -111,6 +111,14 @@ texts_same (Text t ∷ values) = ap (λ n. length t + n) (texts_same values)
 
 abbrev folded : List Val → ℕ
 folded key = length (flat_map value_octets key)
+
+-- a row is entered where no value of its key is null
+values_entered : (key : List Val) → have_values key ≡ is_entered key
+values_entered [] = refl
+values_entered (Null ∷ key) = refl
+values_entered (Num v ∷ key) = values_entered key
+values_entered (Date d ∷ key) = values_entered key
+values_entered (Text t ∷ key) = values_entered key
 
 -- a hash folds all octets of texts
 folded_texts : (values : List Val) → text_octets values ≤ folded values
@@ -334,16 +342,20 @@ module _ (same_rows : (row other : List Val) → is_same_row row other ≡ true 
       ∙ front_taken (length (keys_kept look)) parts.front parts.back (values_long (keys_kept look) (at_row r) parts.front parts.front_is)
       ∙ sym (key_is (is_of look.entries) (equalities look) (at_row r) parts.front parts.front_is)
 
+  -- of a row that is entered
   abbrev slot_units : (key r : List Val) → ℕ
-  slot_units key r = if nat_eq (slot (key_kept look r)) (slot key) then 1 + text_octets key else 0
+  slot_units key r = if is_entered (key_kept look r) then (if nat_eq (slot (key_kept look r)) (slot key) then 1 + text_octets key else 0) else 0
 
   slot_bound : (key r : List Val) → total (λ (e : List Val). if keyed (length (keys_sought look)) e == slot key then 1 + text_octets key else 0) (sink_fed building r).rows ≤ slot_units key r
   slot_bound key r =
       entry_total (λ (e : List Val). if keyed (length (keys_sought look)) e == slot key then 1 + text_octets key else 0) r (slot_units key r)
       (λ values er has.
       let same : take (length (keys_sought look)) values ≡ key_kept look r = ap (λ (n : ℕ). take n values) same_length ∙ entry_key r values er in
+      let present : is_entered (key_kept look r) ≡ true =
+      sym (values_entered (key_kept look r)) ∙ ap have_values (sym (entry_key r values er)) ∙ has in
       let is : (if slot (take (length (keys_sought look)) values) == slot key then 1 + text_octets key else 0) ≡ slot_units key r =
-      ap (λ (vs : List Val). if slot vs == slot key then 1 + text_octets key else 0) same in
+      ap (λ (vs : List Val). if slot vs == slot key then 1 + text_octets key else 0) same
+      ∙ ap (λ (b : Bool). if b then (if slot (key_kept look r) == slot key then 1 + text_octets key else 0) else 0) (sym present) in
       omega (arith, is))
 
   -- the cost of a row as an entry
@@ -549,37 +561,42 @@ module _ (same_rows : (row other : List Val) → is_same_row row other ≡ true 
 
   -- ---- within the table's units
 
+  abbrev in_slot_of : (key other : List Val) → ℕ
+  in_slot_of key other = if nat_eq (slot other) (slot key) then 1 + value.text_octets key else 0
+
+  abbrev entries : ℕ
+  entries = length (entered_keys look R)
+
   table_is : table_units general_hashing look L R
-      ≡ length R + (total (λ r. folded (key_kept look r)) R + total (λ l. folded (key_sought look l)) L) + 1024
+      ≡ entries + (total (λ r. folded (key_kept look r)) R + total (λ l. folded (key_sought look l)) L) + 1024
       + (total (λ r. units_of_items (keys_kept look) (at_row r)) R + total (λ l. units_of_items (keys_sought look) (at_row l)) L)
       + total (λ l. total (slot_units (key_sought look l)) R) L + total (λ l. total (on_units l) R) L + (if outer then length L else 0)
   table_is =
-      ap₂ (λ (a b : ℕ). length R + (a + b) + 1024
+      ap₂ (λ (a b : ℕ). entries + (a + b) + 1024
       + (sum_by (λ (row : List Val). units_of_items (keys_kept look) (at_row row)) R + sum_by (λ (row : List Val). units_of_items (keys_sought look) (at_row row)) L)
-      + sum_by (λ (key : List Val). sum_by (λ (other : List Val). if nat_eq (slot other) (slot key) then 1 + value.text_octets key else 0) (map (key_kept look) R)) (map (key_sought look) L)
+      + sum_by (λ (key : List Val). sum_by (in_slot_of key) (entered_keys look R)) (map (key_sought look) L)
       + sum_by (λ (row : List Val). if meets look row then units_of_all on (at_row row) else 0) (flat_map (λ row. map (merged row) R) L) + (if outer then length L else 0))
       (sum_is folded (map (key_kept look) R) ∙ total_map folded (key_kept look) R) (sum_is folded (map (key_sought look) L) ∙ total_map folded (key_sought look) L)
-      ∙ ap₂ (λ (a b : ℕ). length R + (total (λ r. folded (key_kept look r)) R + total (λ l. folded (key_sought look l)) L) + 1024 + (a + b)
-      + sum_by (λ (key : List Val). sum_by (λ (other : List Val). if nat_eq (slot other) (slot key) then 1 + value.text_octets key else 0) (map (key_kept look) R)) (map (key_sought look) L)
+      ∙ ap₂ (λ (a b : ℕ). entries + (total (λ r. folded (key_kept look r)) R + total (λ l. folded (key_sought look l)) L) + 1024 + (a + b)
+      + sum_by (λ (key : List Val). sum_by (in_slot_of key) (entered_keys look R)) (map (key_sought look) L)
       + sum_by (λ (row : List Val). if meets look row then units_of_all on (at_row row) else 0) (flat_map (λ row. map (merged row) R) L) + (if outer then length L else 0))
       (sum_is (λ (row : List Val). units_of_items (keys_kept look) (at_row row)) R) (sum_is (λ (row : List Val). units_of_items (keys_sought look) (at_row row)) L)
-      ∙ ap₂ (λ (a b : ℕ). length R + (total (λ r. folded (key_kept look r)) R + total (λ l. folded (key_sought look l)) L) + 1024
+      ∙ ap₂ (λ (a b : ℕ). entries + (total (λ r. folded (key_kept look r)) R + total (λ l. folded (key_sought look l)) L) + 1024
       + (total (λ r. units_of_items (keys_kept look) (at_row r)) R + total (λ l. units_of_items (keys_sought look) (at_row l)) L) + a + b + (if outer then length L else 0)) slots pairs
     where
-      of_key : (key : List Val) → sum_by (λ (other : List Val). if nat_eq (slot other) (slot key) then 1 + value.text_octets key else 0) (map (key_kept look) R) ≡ total (slot_units key) R
+      of_key : (key : List Val) → sum_by (in_slot_of key) (entered_keys look R) ≡ total (slot_units key) R
       of_key key =
-          sum_is (λ (other : List Val). if nat_eq (slot other) (slot key) then 1 + value.text_octets key else 0) (map (key_kept look) R)
-          ∙ total_map (λ (other : List Val). if nat_eq (slot other) (slot key) then 1 + value.text_octets key else 0) (key_kept look) R
-          ∙ total_same (λ r. if nat_eq (slot (key_kept look r)) (slot key) then 1 + value.text_octets key else 0) (slot_units key) R
-          (λ r. ap (λ (n : ℕ). if nat_eq (slot (key_kept look r)) (slot key) then 1 + n else 0) (texts_same key))
+          sum_is (in_slot_of key) (entered_keys look R)
+          ∙ total_filter (in_slot_of key) is_entered (map (key_kept look) R)
+          ∙ total_map (λ (other : List Val). if is_entered other then in_slot_of key other else 0) (key_kept look) R
+          ∙ total_same (λ r. if is_entered (key_kept look r) then in_slot_of key (key_kept look r) else 0) (slot_units key) R
+          (λ r. ap (λ (n : ℕ). if is_entered (key_kept look r) then (if nat_eq (slot (key_kept look r)) (slot key) then 1 + n else 0) else 0) (texts_same key))
 
-      slots : sum_by (λ (key : List Val). sum_by (λ (other : List Val). if nat_eq (slot other) (slot key) then 1 + value.text_octets key else 0) (map (key_kept look) R)) (map (key_sought look) L)
-          ≡ total (λ l. total (slot_units (key_sought look l)) R) L
+      slots : sum_by (λ (key : List Val). sum_by (in_slot_of key) (entered_keys look R)) (map (key_sought look) L) ≡ total (λ l. total (slot_units (key_sought look l)) R) L
       slots =
-          sum_is (λ (key : List Val). sum_by (λ (other : List Val). if nat_eq (slot other) (slot key) then 1 + value.text_octets key else 0) (map (key_kept look) R)) (map (key_sought look) L)
-          ∙ total_map (λ (key : List Val). sum_by (λ (other : List Val). if nat_eq (slot other) (slot key) then 1 + value.text_octets key else 0) (map (key_kept look) R)) (key_sought look) L
-          ∙ total_same (λ l. sum_by (λ (other : List Val). if nat_eq (slot other) (slot (key_sought look l)) then 1 + value.text_octets (key_sought look l) else 0) (map (key_kept look) R))
-          (λ l. total (slot_units (key_sought look l)) R) L (λ l. of_key (key_sought look l))
+          sum_is (λ (key : List Val). sum_by (in_slot_of key) (entered_keys look R)) (map (key_sought look) L)
+          ∙ total_map (λ (key : List Val). sum_by (in_slot_of key) (entered_keys look R)) (key_sought look) L
+          ∙ total_same (λ l. sum_by (in_slot_of (key_sought look l)) (entered_keys look R)) (λ l. total (slot_units (key_sought look l)) R) L (λ l. of_key (key_sought look l))
 
       pairs : sum_by (λ (row : List Val). if meets look row then units_of_all on (at_row row) else 0) (flat_map (λ row. map (merged row) R) L) ≡ total (λ l. total (on_units l) R) L
       pairs =
