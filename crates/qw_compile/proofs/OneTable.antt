@@ -8,7 +8,7 @@ use Rattle.qw_linear.specs.Memory.{page}
 use Rattle.qw_scalar.specs.Evaluation.{at_row}
 use Rattle.qw_scalar.specs.Expression.{Condition, Expression}
 use Rattle.qw_scalar.specs.Units.{units_of, units_of_all, units_of_items}
-use Rattle.qw_meaning.specs.Flow.{Flow, each, kept}
+use Rattle.qw_meaning.specs.Flow.{Flow, each, kept, selected}
 use Rattle.qw_meaning.specs.From.{entry_flow, from_sources}
 use Rattle.qw_meaning.specs.Outcome.{flow}
 use Rattle.qw_meaning.specs.Select.{AreOfEntries, Entry, IsSpecification, Specification, alone}
@@ -64,11 +64,13 @@ pub units_at_scan : (tables : List (List (List Val))) (entry : Entry) (conjuncts
     + sum_by (λ (row : List Val). units_of_items items (at_row row)) (each (kept conjuncts) (from_sources (alone entry ∷ []) tables)).rows)
 units_at_scan tables entry conjuncts items quiet named =
     let all : Flow (List Val) = from_sources (alone entry ∷ []) tables in
-    let whole : units (over entry conjuncts items) tables ≡ pipe.units_of general_hashing tables (plan items [] conjuncts entry.table) =
-    ap₂ (λ (stay go : List Condition). pipe.units_of general_hashing tables (plan items stay go entry.table)) (none_stay conjuncts quiet named)
+    let whole : units (over entry conjuncts items) tables ≡ pipe.units_of general_hashing tables (plan items [] conjuncts entry.table) + length (node_flow tables (plan items [] conjuncts entry.table)).rows =
+    ap₂ (λ (stay go : List Condition). pipe.units_of general_hashing tables (plan items stay go entry.table) + length (node_flow tables (plan items stay go entry.table)).rows) (none_stay conjuncts quiet named)
     (append-nil (moved true conjuncts) ∙ all_moved conjuncts quiet named) in
     let none : tested_units [] (each (kept conjuncts) all).rows ≡ 0 = none_sum (λ (row : List Val). units_of_all [] (at_row row)) (each (kept conjuncts) all).rows (λ row. refl) in
-    let made : made_units items (each (kept []) (each (kept conjuncts) all)) ≡ made_units items (each (kept conjuncts) all) = ap (made_units items) (each_none (each (kept conjuncts) all)) in
+    let made : made_units items (each (kept []) (each (kept conjuncts) all)).rows + length (each (selected items) (each (kept []) (each (kept conjuncts) all))).rows
+    ≡ made_units items (each (kept conjuncts) all).rows + length (each (selected items) (each (kept conjuncts) all)).rows =
+    ap (λ (f : Flow (List Val)). made_units items f.rows + length (each (selected items) f).rows) (each_none (each (kept conjuncts) all)) in
     omega (arith, whole, none, made)
 
 -- ---- queries that compare no texts

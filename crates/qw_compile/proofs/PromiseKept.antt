@@ -43,7 +43,7 @@ use Rattle.qw_operator.proofs.Stood.{Stood}
 use Rattle.qw_emit.proofs.Answered.{IsTold}
 use Rattle.qw_compile.specs.QueryColumns.{AreColumnsOf}
 use Rattle.qw_compile.specs.QueryPasses.{ArePipelinesOf}
-use Rattle.qw_compile.specs.PlannedQueries.{greatest, page_bound, placed, stored, units}
+use Rattle.qw_compile.specs.PlannedQueries.{greatest, page_bound, placed, plan_units, stored, units}
 use Rattle.qw_compile.proofs.Greatest.{greatest_small}
 use Rattle.qw_compile.proofs.KeptBounds.{greatest_few, stored_few}
 use Rattle.qw_compile.proofs.LocalsPlaced.{literal_count, literals_known}
@@ -175,7 +175,7 @@ module _ (row_is : (row other : List Val) → is_same_row row other ≡ true →
     pub plan : IsPlanned (query_of parts) tables kept of.node
     plan = planned parts kept columns made are of tables loaded
 
-    pub cost_within : (front back : List Pipeline) (more : List (List (List Val))) → all_spelled kept 0 (pipelines of.node) ≡ front ++ back → AreBuilt tables [] front more → costs tables [] (front ++ back) more ≤ units (query_of parts) tables
+    pub cost_within : (front back : List Pipeline) (more : List (List (List Val))) → all_spelled kept 0 (pipelines of.node) ≡ front ++ back → AreBuilt tables [] front more → costs tables [] (front ++ back) more ≤ plan_units (query_of parts) tables
     cost_within front back more is built =
         costs_bounded row_is value_is kept tables query front back more are.specification loaded of.sized are.reads plan.scaled (sym spelled_are ∙ is) built
 
@@ -208,7 +208,7 @@ module _ (row_is : (row other : List Val) → is_same_row row other ≡ true →
         subst (λ (k : ℕ). IsBounded T (literal_count texts words) columns texts words at (table_of (entries_of query.sources)) cut.building cut.last items (IsTold (outcome query tables))
         (page - greatest query) (2 + 2 * k + stored query tables / (page - greatest query)) (1 + units query tables) tables) many
         (query_bounded query tables kept of.node (plan tables loaded) cut.building cut.last cut.same cut.same_last typed (are_distinct kept are.kept_once) scans last_scans columns are.each T at texts words all_built items last_is
-        can can_last (units query tables) (cost_within tables loaded) u (stored query tables) (some_left (greatest query) (greatest_small query are.specification)) (page_less (greatest query)) stored_within fit fit_last)
+        can can_last (units query tables) (λ front back more is built. let less = cost_within tables loaded front back more is built in omega (arith, less)) u (stored query tables) (some_left (greatest query) (greatest_small query are.specification)) (page_less (greatest query)) stored_within fit fit_last)
 
     pub rows_kept : (stoods : List Stood) → AreStood tables [] cut.building stoods → (fed_over tables stoods cut.last).codes ≡ [] → IsSameOutcome (outcome (query_of parts) tables) (Rows (fed_over tables stoods cut.last).rows)
     rows_kept = same_rows query tables kept of.node (plan tables loaded) cut.building cut.last cut.same cut.same_last

@@ -25,10 +25,14 @@ placed query = keyed true (sifted true [] (written query))
 
 -- ---- instructions
 
--- The units of a run are those of the plan: the rows of each scan and of the result, what its joins' tables take, and the octets of the texts
--- that are compared, the greatest comparison of a step at each row or pair that reaches it.
+-- What the plan takes: the rows of each scan, what its joins' tables take, and the octets of the texts that are compared, the greatest comparison of
+-- a step at each row or pair that reaches it.
+abbrev pub plan_units : Specification → List (List (List Val)) → ℕ
+plan_units query tables = units_of general_hashing tables (placed query)
+
+-- The units of a run are those of the plan and the rows of the result.
 abbrev pub units : Specification → List (List (List Val)) → ℕ
-units query tables = units_of general_hashing tables (placed query)
+units query tables = plan_units query tables + length (node_flow tables (placed query)).rows
 
 -- ---- pages
 

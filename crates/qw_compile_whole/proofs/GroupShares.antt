@@ -11,7 +11,7 @@ use Rattle.qw_layout.specs.Hash.{slot, value_octets}
 use Rattle.qw_scalar.specs.Conjuncts.{passes}
 use Rattle.qw_scalar.specs.Evaluation.{at_row}
 use Rattle.qw_scalar.specs.Units.{units_of_all, units_of_items}
-use Rattle.qw_meaning.specs.Flow.{each, kept, rows_given, selected, values_of}
+use Rattle.qw_meaning.specs.Flow.{each, kept, rows_given, values_of}
 use Rattle.qw_grouped.specs.Grouped.{Grouped, kinds_of}
 use Rattle.qw_grouped.specs.Groups.{Group, function_values, group_row, groups, key_of, keys, members}
 use Rattle.qw_grouped.specs.declared.set_function.SetFunctionKind.{SetFunctionKind}
@@ -99,19 +99,18 @@ module _ (query : Grouped) (rows : List (List Val)) where
 
   made_one : (row : List Val) (r : Result Bool Code) → where_passed r (cost [] [] (select query.items) row)
       ≤ sum_by (λ (x : List Val). units_of_items query.items (at_row x)) (rows_given (r >>= (λ (passed : Bool). let q : Result (List (List Val)) Code = Ok (if passed then row ∷ [] else []) in q)) ++ [])
-      + length (flat_map (λ (x : List Val). rows_given (selected query.items x)) (rows_given (r >>= (λ (passed : Bool). let q : Result (List (List Val)) Code = Ok (if passed then row ∷ [] else []) in q)) ++ []))
   made_one row (Ok true) =
       one (units_of_items query.items (at_row row)) (by_values (values_of query.items (at_row row)) (λ (vs : List Val). text_octets (sink_key (select query.items) vs))) (sum_by (λ (x : List Val). units_of_items query.items (at_row x)) (row ∷ []))
-      (length (flat_map (λ (x : List Val). rows_given (selected query.items x)) (row ∷ []))) (values_none (values_of query.items (at_row row))) (sum_by-cons (λ (x : List Val). units_of_items query.items (at_row x)) row [])
+      (values_none (values_of query.items (at_row row))) (sum_by-cons (λ (x : List Val). units_of_items query.items (at_row x)) row [])
     where
-      one : (u b t k : ℕ) → b ≡ 0 → t ≡ u + 0 → u + b ≤ t + k
-      one u b t k e f = omega (arith, e, f)
+      one : (u b t : ℕ) → b ≡ 0 → t ≡ u + 0 → u + b ≤ t
+      one u b t e f = omega (arith, e, f)
   made_one row (Ok false) = omega arith
   made_one row (Err code) = omega arith
 
   behind_cost : (row : List Val) → cost [] (filter query.having ∷ []) (select query.items) row ≤ behind_units query (row ∷ [])
   behind_cost row =
-      summed (tested_units query.having (row ∷ [])) (units_of_all query.having (at_row row)) (made_units query.items (each (kept query.having) (unraised (row ∷ [])))) (where_passed (passes query.having (at_row row)) (cost [] [] (select query.items) row))
+      summed (tested_units query.having (row ∷ [])) (units_of_all query.having (at_row row)) (made_units query.items (each (kept query.having) (unraised (row ∷ []))).rows) (where_passed (passes query.having (at_row row)) (cost [] [] (select query.items) row))
       (sum_by-cons (λ (x : List Val). units_of_all query.having (at_row x)) row []) (made_one row (passes query.having (at_row row)))
     where
       summed : (t u m w : ℕ) → t ≡ u + 0 → w ≤ m → u + w ≤ t + m

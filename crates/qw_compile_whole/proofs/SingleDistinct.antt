@@ -14,11 +14,12 @@ use Rattle.qw_grouped.specs.Grouped.{Grouped, IsGrouped, front}
 use Rattle.qw_grouped.specs.Groups.{behind_front, once}
 use Rattle.qw_grouped.specs.Whole.{Whole, grouped}
 use Rattle.qw_promise.specs.Compiled.{IsCompiled}
+use Rattle.qw_pipe.specs.General.{general_hashing}
 use Rattle.qw_pipe.specs.Octets.{greatest_entry}
 use Rattle.qw_compile.specs.PlannedQueries.{kept_by, placed}
 use Rattle.qw_compile.proofs.Greatest.{greatest_small}
-use Rattle.qw_whole.specs.GroupTables.{distinct_octets, distinct_size, group_size}
-use Rattle.qw_whole.specs.WholePromises.{body_rows, pages_for, planned_rows, promise_of_whole, taken, taken_by_body, whole_pages}
+use Rattle.qw_whole.specs.GroupTables.{distinct_octets, distinct_size, distinct_units, group_size}
+use Rattle.qw_whole.specs.WholePromises.{body_rows, body_units, pages_for, planned_rows, promise_of_whole, taken, taken_by_body, whole_pages, whole_units}
 use Rattle.qw_whole.proofs.EntrySizes.{group_small}
 use Rattle.qw_compile_whole.proofs.CompiledMore.{compiled_more}
 use Rattle.qw_compile_whole.proofs.OneDistinct.{one_distinct}
@@ -66,11 +67,20 @@ module _ (query : Grouped) (whole : IsGrouped query) (alone : length query.colum
       lower : (s g d : ℕ) → page - max s (max d g) ≤ page - max s g
       lower s g d = omega arith
 
+  -- ---- the instructions
+  units_more : (tables : List (List (List Val))) → whole_units (record { body = grouped query; distinct = false }) tables ≤ whole_units (record { body = grouped query; distinct = true }) tables
+  units_more tables =
+      more (body_units (grouped query) tables) (distinct_units general_hashing (body_rows (grouped query) tables)) (length (body_rows (grouped query) tables)) (length (once (body_rows (grouped query) tables)))
+      (ap (λ (rs : List (List Val)). length rs) (one_distinct query (planned_rows (front query) tables) alone))
+    where
+      more : (b d r s : ℕ) → s ≡ r → b + r ≤ (b + d) + s
+      more b d r s same = omega (arith, same)
+
   pub single_distinct : (layout : Layout) (m : Module) → IsCompiled (promise_of_whole (record { body = grouped query; distinct = false })) layout m → IsCompiled (promise_of_whole (record { body = grouped query; distinct = true })) layout m
   single_distinct layout m h =
       compiled_more (promise_of_whole plainly) (promise_of_whole once_asked) layout m refl refl
       (λ tables of. same_ended query (flow (front query) tables) (flow (front query) tables).codes refl alone)
-      (λ tables of. omega arith)
+      (λ tables of. units_more tables)
       (λ tables of. pages_more tables) h
 
   -- with DISTINCT or without

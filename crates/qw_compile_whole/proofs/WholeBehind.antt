@@ -158,16 +158,16 @@ module _ (query : Specification) (some : 1 ≤ length query.items) where
         let shown : List Expression = map expression_of_column (distinct_columns 0 query.items) in
         let seen : Flow (List Val) = all_groups (distinct_grouping query) rows in
         told (table_units h (group_keys n rows) (map (key_of n) rows)) (sum_by (chosen_units n []) rows) (length (groups n rows) * read_units []) (tested_units [] seen.rows) (sum_by (λ (row : List Val). units_of_items shown (at_row row)) (each (kept []) seen).rows)
-        (length (behind_front (distinct_grouping query) (record { rows = rows; codes = [] })).rows) (table_units h (once rows) rows) (length (once rows))
+        (table_units h (once rows) rows)
         (ap₂ (λ (es ks : List (List Val)). table_units h es ks) (keys_are n rows some_column ∙ keys_once) (ap (λ (m : ℕ). map (key_of m) rows) many ∙ whole_keys (length query.items) rows long))
         (sum_none (chosen_units n []) rows (λ x. refl)) (none_times (length (groups n rows))) (sum_none (λ (row : List Val). units_of_all [] (at_row row)) seen.rows (λ x. refl))
-        (sum_none (λ (row : List Val). units_of_items shown (at_row row)) (each (kept []) seen).rows (λ x. columns_none (distinct_columns 0 query.items) (at_row x))) (ap (λ (f : Flow (List Val)). length f.rows) behind_once)
+        (sum_none (λ (row : List Val). units_of_items shown (at_row row)) (each (kept []) seen).rows (λ x. columns_none (distinct_columns 0 query.items) (at_row x)))
       where
         none_times : (k : ℕ) → k * 0 ≡ 0
         none_times k = omega arith
 
-        told : (t c r d s m u l : ℕ) → t ≡ u → c ≡ 0 → r ≡ 0 → d ≡ 0 → s ≡ 0 → m ≡ l → t + c + r + d + (s + m) ≡ u + l
-        told t c r d s m u l e f g i j k = omega (arith, e, f, g, i, j, k)
+        told : (t c r d s u : ℕ) → t ≡ u → c ≡ 0 → r ≡ 0 → d ≡ 0 → s ≡ 0 → t + c + r + d + s ≡ u
+        told t c r d s u e f g i j = omega (arith, e, f, g, i, j)
 
     pub octets_once : group_octets (distinct_grouping query) rows ≡ distinct_octets (length query.items) rows
     octets_once =

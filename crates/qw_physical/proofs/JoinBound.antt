@@ -1,6 +1,6 @@
 -- What the rows of a join's left side cost where they look up the entries that the rows of its right side left in a table, in whatever order; and that
 -- this is within the units of the table. A row that an outer probe has go on by itself has no partner in the plan, where it is completed.
-use Rattle.std.proofs.Common.{◌≡◌, ◌∙◌, ℕ, ◌+◌, ◌≤◌, ◌==◌, nat_eq, max, Bool, true, false, not, ◌&&◌, ◌||◌, if◌then◌else◌, List, [], ◌∷◌, ◌++◌, drop, length, map, sum_by, take, Result, Ok, Err, refl, sym, ap, ap₂, subst, arith, length-append}
+use Rattle.std.proofs.Common.{◌≡◌, ◌∙◌, ℕ, zero, suc, ◌+◌, ◌≤◌, ◌==◌, nat_eq, max, Bool, true, false, not, ◌&&◌, ◌||◌, if◌then◌else◌, List, [], ◌∷◌, ◌++◌, drop, length, map, sum_by, take, Result, Ok, Err, refl, sym, ap, ap₂, subst, arith, length-append}
 use Rattle.std.specs.List.{AllByRecursion, filter as filter_list, flat_map, list_any}
 use Rattle.std.specs.declared.cmp.Ordering.TheVariants as ordering
 use Rattle.std.proofs.lemmas.List.{length-map}
@@ -25,7 +25,7 @@ use Rattle.qw_algebra.specs.Node.{Node, join, node_flow}
 use Rattle.qw_algebra.proofs.Lists.{all_append, all_more, all_of_any}
 use Rattle.qw_pipe.specs.General.{general_hashing}
 use Rattle.qw_pipe.specs.Pipes.{Lookup}
-use Rattle.qw_pipe.specs.Units.{equalities, is_passed, key_kept, key_sought, meets, operand_among, operand_of, table_units, value_or_null}
+use Rattle.qw_pipe.specs.Units.{entered_keys, equalities, is_entered, is_keyless, is_passed, key_kept, key_sought, meets, operand_among, operand_of, table_units, value_or_null}
 use Rattle.qw_rewrite.specs.Probe.{is_eligible}
 use Rattle.qw_rewrite.specs.Probed.{all_meet, at_keys, beside_keys, found, is_key, probed_by}
 use Rattle.qw_rewrite.proofs.Names.{and_left, and_right}
@@ -112,13 +112,27 @@ texts_same (Text t ∷ values) = ap (λ n. length t + n) (texts_same values)
 abbrev folded : List Val → ℕ
 folded key = length (flat_map value_octets key)
 
--- a hash folds all octets of texts
-folded_texts : (values : List Val) → text_octets values ≤ folded values
+-- a row is entered where no value of its key is null
+values_entered : (key : List Val) → have_values key ≡ is_entered key
+values_entered [] = refl
+values_entered (Null ∷ key) = refl
+values_entered (Num v ∷ key) = values_entered key
+values_entered (Date d ∷ key) = values_entered key
+values_entered (Text t ∷ key) = values_entered key
+
+-- a hash folds all octets of texts, and one more of each value
+folded_texts : (values : List Val) → text_octets values + length values ≤ folded values
 folded_texts [] = omega arith
 folded_texts (Null ∷ values) = let rest = folded_texts values in let all = length-append (value_octets Null) (flat_map value_octets values) in omega (arith, rest, all)
 folded_texts (Num v ∷ values) = let rest = folded_texts values in let all = length-append (value_octets (Num v)) (flat_map value_octets values) in omega (arith, rest, all)
 folded_texts (Date d ∷ values) = let rest = folded_texts values in let all = length-append (value_octets (Date d)) (flat_map value_octets values) in omega (arith, rest, all)
 folded_texts (Text t ∷ values) = let rest = folded_texts values in let all = length-append (value_octets (Text t)) (flat_map value_octets values) in omega (arith, rest, all)
+
+-- which pays for the turn of a row by itself, where its key has a value
+turn_paid : (outer : Bool) (fields t f : ℕ) → t + fields ≤ f → t + (if outer then 1 else 0) ≤ f + (if outer && nat_eq fields 0 then 1 else 0)
+turn_paid false fields t f h = omega (arith, h)
+turn_paid true zero t f h = omega (arith, h)
+turn_paid true (suc fields) t f h = omega (arith, h)
 
 -- ---- columns that are kept
 
@@ -164,10 +178,10 @@ err_case : (counted : Bool) (u f s o w t : ℕ) → count counted u + 0 ≤ coun
 err_case true u f s o w t = omega arith
 err_case false u f s o w t = omega arith
 
-ok_case : (counted : Bool) (u t s m a f q o w r : ℕ) → t ≤ f → s ≤ q → m + a ≤ (count counted w + count counted o) + r
+ok_case : (counted : Bool) (u t s m a f q o w r e : ℕ) → t + e ≤ f + o → s ≤ q → m + a ≤ (count counted w + count counted e) + r
     → count counted u + ((count counted (t + s) + m) + a) ≤ count counted (u + f + q + o) + (count counted w + r)
-ok_case true u t s m a f q o w r ht hs hm = omega (arith, ht, hs, hm)
-ok_case false u t s m a f q o w r ht hs hm = omega (arith, ht, hs, hm)
+ok_case true u t s m a f q o w r e ht hs hm = omega (arith, ht, hs, hm)
+ok_case false u t s m a f q o w r e ht hs hm = omega (arith, ht, hs, hm)
 
 -- what is met, and the row itself where it goes on alone, since nothing is met then
 alone_case : (counted o a : Bool) (m w f n r : ℕ) → m ≤ count counted w + f → f ≤ r → (a ≡ true → (f ≡ 0) × (n ≤ r))
@@ -334,16 +348,20 @@ module _ (same_rows : (row other : List Val) → is_same_row row other ≡ true 
       ∙ front_taken (length (keys_kept look)) parts.front parts.back (values_long (keys_kept look) (at_row r) parts.front parts.front_is)
       ∙ sym (key_is (is_of look.entries) (equalities look) (at_row r) parts.front parts.front_is)
 
+  -- of a row that is entered
   abbrev slot_units : (key r : List Val) → ℕ
-  slot_units key r = if nat_eq (slot (key_kept look r)) (slot key) then 1 + text_octets key else 0
+  slot_units key r = if is_entered (key_kept look r) then (if nat_eq (slot (key_kept look r)) (slot key) then 1 + text_octets key else 0) else 0
 
   slot_bound : (key r : List Val) → total (λ (e : List Val). if keyed (length (keys_sought look)) e == slot key then 1 + text_octets key else 0) (sink_fed building r).rows ≤ slot_units key r
   slot_bound key r =
       entry_total (λ (e : List Val). if keyed (length (keys_sought look)) e == slot key then 1 + text_octets key else 0) r (slot_units key r)
       (λ values er has.
       let same : take (length (keys_sought look)) values ≡ key_kept look r = ap (λ (n : ℕ). take n values) same_length ∙ entry_key r values er in
+      let present : is_entered (key_kept look r) ≡ true =
+      sym (values_entered (key_kept look r)) ∙ ap have_values (sym (entry_key r values er)) ∙ has in
       let is : (if slot (take (length (keys_sought look)) values) == slot key then 1 + text_octets key else 0) ≡ slot_units key r =
-      ap (λ (vs : List Val). if slot vs == slot key then 1 + text_octets key else 0) same in
+      ap (λ (vs : List Val). if slot vs == slot key then 1 + text_octets key else 0) same
+      ∙ ap (λ (b : Bool). if b then (if slot (key_kept look r) == slot key then 1 + text_octets key else 0) else 0) (sym present) in
       omega (arith, is))
 
   -- the cost of a row as an entry
@@ -367,9 +385,9 @@ module _ (same_rows : (row other : List Val) → is_same_row row other ≡ true 
   abbrev R : List (List Val)
   R = (node_flow tables right).rows
 
-  -- of an outer lookup one more
+  -- of an outer lookup without a key one more
   abbrev outer_units : ℕ
-  outer_units = if outer then 1 else 0
+  outer_units = if outer && is_keyless look then 1 else 0
 
   abbrev left_units : List Val → ℕ
   left_units l = units_of_items (keys_sought look) (at_row l) + folded (key_sought look l) + total (slot_units (key_sought look l)) R + outer_units
@@ -512,13 +530,16 @@ module _ (same_rows : (row other : List Val) → is_same_row row other ≡ true 
             (λ r rights. entry_total (matched counted after probing l key) r (pair_bound counted after l r)
             (λ values er has. matched_bound counted after respects l r key values lefts rights e er has)) ground.rights)) in
             let pairs = pairs_total l in
+            let fields : length key ≡ length (equalities look) =
+            values_long (keys_sought look) (at_row l) key e ∙ length-map (equalities look) (operand_of (λ i. not (is_of look.entries i))) in
+            let folds : text_octets key + length (equalities look) ≤ folded key = subst (λ (n : ℕ). text_octets key + n ≤ folded key) fields (folded_texts key) in
             let itself = alone_case counted outer (is_alone probing l key entries) (total (matched counted after probing l key) entries) (total (on_units l) R) (total after (partners l).rows) (after l)
             (total after (made_of outer l).rows) (omega (arith, met, pairs)) (made_more l outer) (alone_made l key lefts e) in
             subst (λ (k : List Val). count counted (units_of_items (keys_sought look) (at_row l)) + keyed_charge counted after probing entries l key
             ≤ count counted (units_of_items (keys_sought look) (at_row l) + folded k + total (slot_units k) R + outer_units) + (count counted (total (on_units l) R) + total after (made_of outer l).rows)) (sym sought)
             (ok_case counted (units_of_items (keys_sought look) (at_row l)) (text_octets key) (total (λ (v : List Val). 1 + text_octets key) (in_slot (keyed (length (keys_sought look))) (slot key) entries))
             (total (matched counted after probing l key) entries) (alone_charge counted after probing entries l key) (folded key) (total (slot_units key) R) outer_units (total (on_units l) R)
-            (total after (made_of outer l).rows) (folded_texts key) slots itself)
+            (total after (made_of outer l).rows) (if outer then 1 else 0) (turn_paid outer (length (equalities look)) (text_octets key) (folded key) folds) slots itself)
 
     -- ---- all rows
 
@@ -549,37 +570,42 @@ module _ (same_rows : (row other : List Val) → is_same_row row other ≡ true 
 
   -- ---- within the table's units
 
-  table_is : table_units general_hashing look L R
-      ≡ length R + (total (λ r. folded (key_kept look r)) R + total (λ l. folded (key_sought look l)) L) + 1024
-      + (total (λ r. units_of_items (keys_kept look) (at_row r)) R + total (λ l. units_of_items (keys_sought look) (at_row l)) L)
-      + total (λ l. total (slot_units (key_sought look l)) R) L + total (λ l. total (on_units l) R) L + (if outer then length L else 0)
-  table_is =
-      ap₂ (λ (a b : ℕ). length R + (a + b) + 1024
-      + (sum_by (λ (row : List Val). units_of_items (keys_kept look) (at_row row)) R + sum_by (λ (row : List Val). units_of_items (keys_sought look) (at_row row)) L)
-      + sum_by (λ (key : List Val). sum_by (λ (other : List Val). if nat_eq (slot other) (slot key) then 1 + value.text_octets key else 0) (map (key_kept look) R)) (map (key_sought look) L)
-      + sum_by (λ (row : List Val). if meets look row then units_of_all on (at_row row) else 0) (flat_map (λ row. map (merged row) R) L) + (if outer then length L else 0))
-      (sum_is folded (map (key_kept look) R) ∙ total_map folded (key_kept look) R) (sum_is folded (map (key_sought look) L) ∙ total_map folded (key_sought look) L)
-      ∙ ap₂ (λ (a b : ℕ). length R + (total (λ r. folded (key_kept look r)) R + total (λ l. folded (key_sought look l)) L) + 1024 + (a + b)
-      + sum_by (λ (key : List Val). sum_by (λ (other : List Val). if nat_eq (slot other) (slot key) then 1 + value.text_octets key else 0) (map (key_kept look) R)) (map (key_sought look) L)
-      + sum_by (λ (row : List Val). if meets look row then units_of_all on (at_row row) else 0) (flat_map (λ row. map (merged row) R) L) + (if outer then length L else 0))
-      (sum_is (λ (row : List Val). units_of_items (keys_kept look) (at_row row)) R) (sum_is (λ (row : List Val). units_of_items (keys_sought look) (at_row row)) L)
-      ∙ ap₂ (λ (a b : ℕ). length R + (total (λ r. folded (key_kept look r)) R + total (λ l. folded (key_sought look l)) L) + 1024
-      + (total (λ r. units_of_items (keys_kept look) (at_row r)) R + total (λ l. units_of_items (keys_sought look) (at_row l)) L) + a + b + (if outer then length L else 0)) slots pairs
-    where
-      of_key : (key : List Val) → sum_by (λ (other : List Val). if nat_eq (slot other) (slot key) then 1 + value.text_octets key else 0) (map (key_kept look) R) ≡ total (slot_units key) R
-      of_key key =
-          sum_is (λ (other : List Val). if nat_eq (slot other) (slot key) then 1 + value.text_octets key else 0) (map (key_kept look) R)
-          ∙ total_map (λ (other : List Val). if nat_eq (slot other) (slot key) then 1 + value.text_octets key else 0) (key_kept look) R
-          ∙ total_same (λ r. if nat_eq (slot (key_kept look r)) (slot key) then 1 + value.text_octets key else 0) (slot_units key) R
-          (λ r. ap (λ (n : ℕ). if nat_eq (slot (key_kept look r)) (slot key) then 1 + n else 0) (texts_same key))
+  abbrev in_slot_of : (key other : List Val) → ℕ
+  in_slot_of key other = if nat_eq (slot other) (slot key) then 1 + value.text_octets key else 0
 
-      slots : sum_by (λ (key : List Val). sum_by (λ (other : List Val). if nat_eq (slot other) (slot key) then 1 + value.text_octets key else 0) (map (key_kept look) R)) (map (key_sought look) L)
-          ≡ total (λ l. total (slot_units (key_sought look l)) R) L
+  abbrev entries : ℕ
+  entries = length (entered_keys look R)
+
+  table_is : table_units general_hashing look L R
+      ≡ entries + (total (λ r. folded (key_kept look r)) R + total (λ l. folded (key_sought look l)) L) + 1024
+      + (total (λ r. units_of_items (keys_kept look) (at_row r)) R + total (λ l. units_of_items (keys_sought look) (at_row l)) L)
+      + total (λ l. total (slot_units (key_sought look l)) R) L + total (λ l. total (on_units l) R) L + (if outer && is_keyless look then length L else 0)
+  table_is =
+      ap₂ (λ (a b : ℕ). entries + (a + b) + 1024
+      + (sum_by (λ (row : List Val). units_of_items (keys_kept look) (at_row row)) R + sum_by (λ (row : List Val). units_of_items (keys_sought look) (at_row row)) L)
+      + sum_by (λ (key : List Val). sum_by (in_slot_of key) (entered_keys look R)) (map (key_sought look) L)
+      + sum_by (λ (row : List Val). if meets look row then units_of_all on (at_row row) else 0) (flat_map (λ row. map (merged row) R) L) + (if outer && is_keyless look then length L else 0))
+      (sum_is folded (map (key_kept look) R) ∙ total_map folded (key_kept look) R) (sum_is folded (map (key_sought look) L) ∙ total_map folded (key_sought look) L)
+      ∙ ap₂ (λ (a b : ℕ). entries + (total (λ r. folded (key_kept look r)) R + total (λ l. folded (key_sought look l)) L) + 1024 + (a + b)
+      + sum_by (λ (key : List Val). sum_by (in_slot_of key) (entered_keys look R)) (map (key_sought look) L)
+      + sum_by (λ (row : List Val). if meets look row then units_of_all on (at_row row) else 0) (flat_map (λ row. map (merged row) R) L) + (if outer && is_keyless look then length L else 0))
+      (sum_is (λ (row : List Val). units_of_items (keys_kept look) (at_row row)) R) (sum_is (λ (row : List Val). units_of_items (keys_sought look) (at_row row)) L)
+      ∙ ap₂ (λ (a b : ℕ). entries + (total (λ r. folded (key_kept look r)) R + total (λ l. folded (key_sought look l)) L) + 1024
+      + (total (λ r. units_of_items (keys_kept look) (at_row r)) R + total (λ l. units_of_items (keys_sought look) (at_row l)) L) + a + b + (if outer && is_keyless look then length L else 0)) slots pairs
+    where
+      of_key : (key : List Val) → sum_by (in_slot_of key) (entered_keys look R) ≡ total (slot_units key) R
+      of_key key =
+          sum_is (in_slot_of key) (entered_keys look R)
+          ∙ total_filter (in_slot_of key) is_entered (map (key_kept look) R)
+          ∙ total_map (λ (other : List Val). if is_entered other then in_slot_of key other else 0) (key_kept look) R
+          ∙ total_same (λ r. if is_entered (key_kept look r) then in_slot_of key (key_kept look r) else 0) (slot_units key) R
+          (λ r. ap (λ (n : ℕ). if is_entered (key_kept look r) then (if nat_eq (slot (key_kept look r)) (slot key) then 1 + n else 0) else 0) (texts_same key))
+
+      slots : sum_by (λ (key : List Val). sum_by (in_slot_of key) (entered_keys look R)) (map (key_sought look) L) ≡ total (λ l. total (slot_units (key_sought look l)) R) L
       slots =
-          sum_is (λ (key : List Val). sum_by (λ (other : List Val). if nat_eq (slot other) (slot key) then 1 + value.text_octets key else 0) (map (key_kept look) R)) (map (key_sought look) L)
-          ∙ total_map (λ (key : List Val). sum_by (λ (other : List Val). if nat_eq (slot other) (slot key) then 1 + value.text_octets key else 0) (map (key_kept look) R)) (key_sought look) L
-          ∙ total_same (λ l. sum_by (λ (other : List Val). if nat_eq (slot other) (slot (key_sought look l)) then 1 + value.text_octets (key_sought look l) else 0) (map (key_kept look) R))
-          (λ l. total (slot_units (key_sought look l)) R) L (λ l. of_key (key_sought look l))
+          sum_is (λ (key : List Val). sum_by (in_slot_of key) (entered_keys look R)) (map (key_sought look) L)
+          ∙ total_map (λ (key : List Val). sum_by (in_slot_of key) (entered_keys look R)) (key_sought look) L
+          ∙ total_same (λ l. sum_by (in_slot_of (key_sought look l)) (entered_keys look R)) (λ l. total (slot_units (key_sought look l)) R) L (λ l. of_key (key_sought look l))
 
       pairs : sum_by (λ (row : List Val). if meets look row then units_of_all on (at_row row) else 0) (flat_map (λ row. map (merged row) R) L) ≡ total (λ l. total (on_units l) R) L
       pairs =
@@ -595,7 +621,7 @@ module _ (same_rows : (row other : List Val) → is_same_row row other ≡ true 
       let first = total_plus (λ l. units_of_items (keys_sought look) (at_row l) + folded (key_sought look l) + total (slot_units (key_sought look l)) R) (λ l. outer_units) L in
       let second = total_plus (λ l. units_of_items (keys_sought look) (at_row l) + folded (key_sought look l)) (λ l. total (slot_units (key_sought look l)) R) L in
       let third = total_plus (λ l. units_of_items (keys_sought look) (at_row l)) (λ l. folded (key_sought look l)) L in
-      let alone = all_outer outer in
+      let alone = all_outer (outer && is_keyless look) in
       omega (arith, entry, parts, first, second, third, alone, table_is)
     where
       all_outer : (o : Bool) → total (λ (l : List Val). if o then 1 else 0) L ≡ (if o then length L else 0)

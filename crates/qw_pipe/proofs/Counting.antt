@@ -1,14 +1,12 @@
 -- The units of a plan's pipelines are the plan's.
 use Rattle.std.proofs.Common.{◌≡◌, ◌∙◌, ℕ, ◌+◌, List, [], ◌∷◌, ◌++◌, length, get_or, sum_by, refl, ap, ap₂, arith, length-append}
-use Rattle.std.specs.List.{flat_map}
 use Rattle.qw_types.specs.Contents.{rows_of}
 use Rattle.qw_types.specs.declared.value.Val.{Val}
 use Rattle.qw_scalar.specs.Evaluation.{at_row}
 use Rattle.qw_scalar.specs.Expression.{Condition, Expression}
 use Rattle.qw_scalar.specs.Units.{units_of_all, units_of_items}
-use Rattle.qw_meaning.specs.Flow.{Flow, each, kept, rows_given, selected}
+use Rattle.qw_meaning.specs.Flow.{Flow, each, kept}
 use Rattle.qw_meaning.specs.From.{entry_flow, from_sources}
-use Rattle.qw_meaning.specs.Outcome.{flow}
 use Rattle.qw_meaning.specs.Select.{Entry, alone}
 use Rattle.qw_algebra.specs.Node.{Node, scan, filter, join, project, node_flow}
 use Rattle.qw_algebra.specs.Written.{written}
@@ -86,10 +84,10 @@ module _ (h : Hashing) (tables : List (List (List Val))) where
       let built : List (List (List Val)) = (after_pipelines tables start (split next below).builds).built in
       let f : Flow (List Val) = pipeline_flow tables built (split next below).last in
       one_step (pipelines_units h tables start (split next below).builds) (pipeline_units h tables built (split next below).last)
-      (pipeline_units h tables built (then_step (split next below).last (make items))) (made_units items f)
-      (units_of h tables below) (made_units items (node_flow tables below))
+      (pipeline_units h tables built (then_step (split next below).last (make items))) (made_units items f.rows)
+      (units_of h tables below) (made_units items (node_flow tables below).rows)
       (then_units built (split next below).last (make items)) (same_units below next start long)
-      (ap (λ rows. sum_by (λ (row : List Val). units_of_items items (at_row row)) rows + length (flat_map (λ row. rows_given (selected items row)) rows)) (rows_there below next start long))
+      (ap (made_units items) (rows_there below next start long))
 
   pub pipelines_units_are : (node : Node) → pipelines_units h tables (record { built = []; codes = [] }) (pipelines node) ≡ units_of h tables node
   pipelines_units_are node =
@@ -99,7 +97,7 @@ module _ (h : Hashing) (tables : List (List (List Val))) where
 -- of a query over one table
 pub one_table : (h : Hashing) (tables : List (List (List Val))) (entry : Entry) (conjuncts : List Condition) (items : List Expression) →
     units_of h tables (written (record { sources = alone entry ∷ []; conjuncts = conjuncts; items = items }))
-    ≡ length (rows_of tables entry.table) + length (flow (record { sources = alone entry ∷ []; conjuncts = conjuncts; items = items }) tables).rows
+    ≡ length (rows_of tables entry.table)
     + (sum_by (λ (row : List Val). units_of_all conjuncts (at_row row)) (from_sources (alone entry ∷ []) tables).rows
     + sum_by (λ (row : List Val). units_of_items items (at_row row)) (each (kept conjuncts) (from_sources (alone entry ∷ []) tables)).rows)
 one_table h tables entry conjuncts items = omega arith

@@ -1,5 +1,5 @@
--- Hash tables of the worked cases, of 1,024 slots and with nine octets folded of each value of a key; and a condition.
-use Rattle.std.specs.Prelude.{ℕ, ◌*◌, pos, unsigned_abs, List, [], ◌∷◌, length}
+-- Hash tables of the worked cases, of 1,024 slots or of slots by the entries, and with nine octets folded of each value of a key; and a condition.
+use Rattle.std.specs.Prelude.{ℕ, ◌*◌, ◌%◌, pos, unsigned_abs, List, [], ◌∷◌, length}
 use Rattle.qw_types.specs.declared.value.Ty.TheVariants.{Integer}
 use Rattle.qw_types.specs.declared.value.Val.{Val}
 use Rattle.qw_types.specs.declared.value.Val.TheVariants.{Null, Num, Date, Text}
@@ -22,6 +22,10 @@ slot_of_number (Text t ∷ key) = 0
 
 abbrev pub by_number : Hashing
 by_number = record { slots = λ entries. 1024; slot = λ entries key. slot_of_number key; folded = λ key. 9 * length key }
+
+-- a directory of twice as many slots as there are entries, and a key in that of the rest of its number
+abbrev pub by_entries : Hashing
+by_entries = record { slots = λ entries. 2 * entries; slot = λ entries key. slot_of_number key % (2 * entries); folded = λ key. 9 * length key }
 
 -- ID + 999999999999999999 > 0, of entry 1
 abbrev pub past_range : Condition

@@ -9,7 +9,7 @@ ghost use Rattle.qw_scalar.specs.Expression.{Condition, Expression};
 ghost use Rattle.qw_scalar.specs.Units.{units_of_all, units_of_items};
 ghost use Rattle.qw_meaning.specs.Flow.{each, kept};
 ghost use Rattle.qw_meaning.specs.From.{from_sources};
-ghost use Rattle.qw_meaning.specs.Outcome.{IsSameOutcome, ended, flow};
+ghost use Rattle.qw_meaning.specs.Outcome.{IsSameOutcome, ended};
 ghost use Rattle.qw_meaning.specs.Select.{Entry, alone};
 ghost use Rattle.qw_algebra.specs.Node.{Node, node_flow};
 ghost use Rattle.qw_algebra.specs.Written.{written};
@@ -41,12 +41,12 @@ pub fn units_of_pipelines()
     ensures { (h : Hashing) (tables : List (List (List Val))) (node : Node) → pipelines_units h tables (record { built = []; codes = [] }) (pipelines node) ≡ units_of h tables node }
 {}
 
-/// The units of a query over one table, by its plan as written: the rows of the table and of the result, and of each comparison of texts that
+/// The units of a query over one table, by its plan as written, but for its result rows: the rows of the table, and of each comparison of texts that
 /// compares most its octets, WHERE's at each row of the table and the select list's at each row that WHERE leaves.
 pub fn units_of_one_table()
     ensures { (h : Hashing) (tables : List (List (List Val))) (entry : Entry) (conjuncts : List Condition) (items : List Expression) →
         units_of h tables (written (record { sources = alone entry ∷ []; conjuncts = conjuncts; items = items }))
-        ≡ length (rows_of tables entry.table) + length (flow (record { sources = alone entry ∷ []; conjuncts = conjuncts; items = items }) tables).rows
+        ≡ length (rows_of tables entry.table)
         + (sum_by (λ (row : List Val). units_of_all conjuncts (at_row row)) (from_sources (alone entry ∷ []) tables).rows
         + sum_by (λ (row : List Val). units_of_items items (at_row row)) (each (kept conjuncts) (from_sources (alone entry ∷ []) tables)).rows) }
 {}

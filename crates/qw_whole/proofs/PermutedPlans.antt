@@ -1,5 +1,5 @@
 -- A plan over tables whose rows stand in another order comes to the same rows and exceptions in another order, within the same units and octets.
-use Rattle.std.proofs.Common.{◌≡◌, ◌∙◌, ℕ, ◌+◌, ◌*◌, nat_eq, if◌then◌else◌, not, Bool, true, false, List, [], ◌∷◌, ◌++◌, map, length, sum_by, refl, sym, ap, ap₂}
+use Rattle.std.proofs.Common.{◌≡◌, ◌∙◌, ℕ, ◌+◌, ◌*◌, nat_eq, if◌then◌else◌, not, ◌&&◌, Bool, true, false, List, [], ◌∷◌, ◌++◌, map, length, sum_by, refl, sym, ap, ap₂}
 use Rattle.std.specs.List.{flat_map}
 use Rattle.std.specs.List.Sorted.{IsPermutation}
 use Rattle.std.proofs.lemmas.List.Sorted.{IsPermutation-append, IsPermutation-map, IsPermutation-refl, IsPermutation-trans, length_permutation, sum_by-IsPermutation}
@@ -9,16 +9,17 @@ use Rattle.qw_types.specs.declared.code.Code.{Code}
 use Rattle.qw_types.specs.declared.value.Val.{Val}
 use Rattle.qw_scalar.specs.Evaluation.{at_row}
 use Rattle.qw_scalar.specs.Expression.{Condition}
-use Rattle.qw_scalar.specs.Units.{units_of_all, units_of_items}
+use Rattle.qw_scalar.specs.Units.{units_of_all}
 use Rattle.qw_meaning.specs.Flow.{Flow, kept, selected}
 use Rattle.qw_meaning.specs.From.{at_places, completed, completed_pairs, crossed, joined, merged, pairs}
 use Rattle.qw_algebra.specs.Columns.{entries_below, is_of}
 use Rattle.qw_algebra.specs.Node.{Node, scan, filter, join, project, node_flow}
+use Rattle.qw_grouped.proofs.FunctionLemmas.{filter_permuted}
 use Rattle.qw_grouped.proofs.Lists.{flat_map_permuted}
 use Rattle.qw_grouped.proofs.OrderLemmas.{Alike, each_alike}
 use Rattle.qw_pipe.specs.Octets as octets
 use Rattle.qw_pipe.specs.Pipes.{Lookup}
-use Rattle.qw_pipe.specs.Units.{Hashing, key_kept, key_sought, keyed_units, meets, operands_of, table_units, units_of}
+use Rattle.qw_pipe.specs.Units.{Hashing, entered_keys, is_entered, is_keyless, key_kept, key_sought, keyed_units, meets, operands_of, table_units, units_of}
 use Rattle.qw_whole.specs.AnyOrder.{ArePermuted}
 use Rattle.qw_whole.proofs.PermutedTables.{made_permuted, sum_permuted}
 
@@ -83,14 +84,17 @@ joined_alike true on left right other more p q = record {
 pub table_same : (h : Hashing) (lookup : Lookup) (seeking others kept_rows more : List (List Val)) → IsPermutation seeking others → IsPermutation kept_rows more
     → table_units h lookup seeking kept_rows ≡ table_units h lookup others more
 table_same h lookup seeking others kept_rows more p q =
-    let long : length kept_rows ≡ length more = sym (length_permutation kept_rows more q) in
     let sought : List Val → List Val = key_sought lookup in
     let keys : List Val → List Val = key_kept lookup in
     let ps : IsPermutation (map sought seeking) (map sought others) = IsPermutation-map sought seeking others p in
     let qs : IsPermutation (map keys kept_rows) (map keys more) = IsPermutation-map keys kept_rows more q in
+    let entered : List (List Val) = entered_keys lookup kept_rows in
+    let entered_more : List (List Val) = entered_keys lookup more in
+    let es : IsPermutation entered entered_more = filter_permuted is_entered (map keys kept_rows) (map keys more) qs in
+    let long : length entered ≡ length entered_more = sym (length_permutation entered entered_more es) in
     let met : ℕ → List (List Val) → List Val → ℕ = λ n ks key. sum_by (λ other. if nat_eq (h.slot n other) (h.slot n key) then 1 + text_octets key else 0) ks in
     let one : (is_side : ℕ → Bool) → (xs ys : List (List Val)) → IsPermutation xs ys → keyed_units is_side lookup xs ≡ keyed_units is_side lookup ys =
-    λ is_side xs ys h'. sym (sum_by-IsPermutation (λ (row : List Val). units_of_items (operands_of is_side lookup) (at_row row)) xs ys h') in
+    λ is_side xs ys h'. made_permuted (operands_of is_side lookup) xs ys h' in
     ap₂ (λ (a b : ℕ). a + b)
     (ap₂ (λ (a b : ℕ). a + b)
     (ap₂ (λ (a b : ℕ). a + b)
@@ -99,11 +103,11 @@ table_same h lookup seeking others kept_rows more p q =
     (ap₂ (λ (a b : ℕ). a + b) long (ap₂ (λ (a b : ℕ). a + b) (sym (sum_by-IsPermutation h.folded (map keys kept_rows) (map keys more) qs)) (sym (sum_by-IsPermutation h.folded (map sought seeking) (map sought others) ps))))
     (ap h.slots long))
     (ap₂ (λ (a b : ℕ). a + b) (one (is_of lookup.entries) kept_rows more q) (one (λ i. not (is_of lookup.entries i)) seeking others p)))
-    (sum_permuted (met (length kept_rows) (map keys kept_rows)) (met (length more) (map keys more)) (map sought seeking) (map sought others)
-    (λ key. ap (λ (n : ℕ). met n (map keys kept_rows) key) long
-    ∙ sym (sum_by-IsPermutation (λ other. if nat_eq (h.slot (length more) other) (h.slot (length more) key) then 1 + text_octets key else 0) (map keys kept_rows) (map keys more) qs)) ps))
+    (sum_permuted (met (length entered) entered) (met (length entered_more) entered_more) (map sought seeking) (map sought others)
+    (λ key. ap (λ (n : ℕ). met n entered key) long
+    ∙ sym (sum_by-IsPermutation (λ other. if nat_eq (h.slot (length entered_more) other) (h.slot (length entered_more) key) then 1 + text_octets key else 0) entered entered_more es)) ps))
     (sym (sum_by-IsPermutation (λ row. if meets lookup row then units_of_all lookup.on (at_row row) else 0) (beside seeking kept_rows) (beside others more) (beside_permuted seeking kept_rows others more p q))))
-    (ap (λ (n : ℕ). if lookup.outer then n else 0) (sym (length_permutation seeking others p)))
+    (ap (λ (n : ℕ). if lookup.outer && is_keyless lookup then n else 0) (sym (length_permutation seeking others p)))
 
 module _ (tables others : List (List (List Val))) (same : ArePermuted tables others) where
   pub node_alike : (node : Node) → Alike (node_flow tables node) (node_flow others node)
@@ -123,7 +127,7 @@ module _ (tables others : List (List (List Val))) (same : ArePermuted tables oth
       (table_same h (record { entries = entries_below right; outer = outer; on = on; keys = keys }) (node_flow tables left).rows (node_flow others left).rows (node_flow tables right).rows (node_flow others right).rows
       (node_alike left).rows (node_alike right).rows)
   units_same h (project below items) =
-      ap₂ (λ (a b : ℕ). a + b) (units_same h below) (made_permuted items (node_flow tables below) (node_flow others below) (node_alike below))
+      ap₂ (λ (a b : ℕ). a + b) (units_same h below) (made_permuted items (node_flow tables below).rows (node_flow others below).rows (node_alike below).rows)
 
   pub octets_same : (kept_columns : List ℕ → ℕ) (node : Node) → octets.table_octets kept_columns tables node ≡ octets.table_octets kept_columns others node
   octets_same k (scan entry table) = refl

@@ -9,7 +9,7 @@ use Rattle.qw_types.specs.declared.value.Val.{Val}
 use Rattle.qw_scalar.specs.Evaluation.{at_row}
 use Rattle.qw_scalar.specs.Expression.{Expression}
 use Rattle.qw_scalar.specs.Units.{units_of_all, units_of_items}
-use Rattle.qw_meaning.specs.Flow.{Flow, each, kept, selected}
+use Rattle.qw_meaning.specs.Flow.{each, kept}
 use Rattle.qw_grouped.specs.Grouped.{Grouped, kinds_of}
 use Rattle.qw_grouped.specs.Groups.{Group, groups, key_of, keys, members, once}
 use Rattle.qw_grouped.specs.declared.set_function.SetFunctionKind.{SetFunctionKind}
@@ -64,10 +64,8 @@ groups_many columns rows others h =
     ∙ sym (length_permutation (group_keys columns rows) (group_keys columns others) (keys_permuted columns rows others h))
     ∙ length-map (groups columns others) (λ (g : Group). g.key)
 
-pub made_permuted : (items : List Expression) (flow other : Flow (List Val)) → Alike flow other → made_units items flow ≡ made_units items other
-made_permuted items flow other h =
-    ap₂ (λ (a b : ℕ). a + b) (sym (sum_by-IsPermutation (λ (row : List Val). units_of_items items (at_row row)) flow.rows other.rows h.rows))
-    (sym (length_permutation (each (selected items) flow).rows (each (selected items) other).rows (each_alike (selected items) flow other h).rows))
+pub made_permuted : (items : List Expression) (rows others : List (List Val)) → IsPermutation rows others → made_units items rows ≡ made_units items others
+made_permuted items rows others h = sym (sum_by-IsPermutation (λ (row : List Val). units_of_items items (at_row row)) rows others h)
 
 pub groups_permuted : (h : Hashing) (query : Grouped) (rows others : List (List Val)) → IsPermutation rows others → group_units h query rows ≡ group_units h query others
 groups_permuted h query rows others p =
@@ -82,8 +80,8 @@ groups_permuted h query rows others p =
     (sym (sum_by-IsPermutation (chosen_units columns functions) rows others p)))
     (ap (λ (n : ℕ). n * read_units functions) (groups_many columns rows others p)))
     (sym (sum_by-IsPermutation (λ (row : List Val). units_of_all query.having (at_row row)) (all_groups query rows).rows (all_groups query others).rows alike.rows)))
-    (made_permuted query.items (each (kept query.having) (all_groups query rows)) (each (kept query.having) (all_groups query others))
-    (each_alike (kept query.having) (all_groups query rows) (all_groups query others) alike))
+    (made_permuted query.items (each (kept query.having) (all_groups query rows)).rows (each (kept query.having) (all_groups query others)).rows
+    (each_alike (kept query.having) (all_groups query rows) (all_groups query others) alike).rows)
 
 pub octets_permuted : (query : Grouped) (rows others : List (List Val)) → IsPermutation rows others → group_octets query rows ≡ group_octets query others
 octets_permuted query rows others p = ap (λ (n : ℕ). table_octets (group_size query) n) (groups_many (length query.columns) rows others p)
@@ -94,8 +92,7 @@ once_many : (rows others : List (List Val)) → IsPermutation rows others → le
 once_many rows others p = sym (length_permutation (once rows) (once others) (once_permuted rows others p))
 
 pub distinct_permuted : (h : Hashing) (rows others : List (List Val)) → IsPermutation rows others → distinct_units h rows ≡ distinct_units h others
-distinct_permuted h rows others p =
-    ap₂ (λ (a b : ℕ). a + b) (table_permuted h (once rows) (once others) rows others (once_permuted rows others p) p) (once_many rows others p)
+distinct_permuted h rows others p = table_permuted h (once rows) (once others) rows others (once_permuted rows others p) p
 
 pub distinct_octets_permuted : (items : ℕ) (rows others : List (List Val)) → IsPermutation rows others → distinct_octets items rows ≡ distinct_octets items others
 distinct_octets_permuted items rows others p = ap (λ (n : ℕ). table_octets (distinct_size items) n) (once_many rows others p)

@@ -1,6 +1,6 @@
 -- The units of a grouped query are those of its entries and slots, and the shares of rows and of groups.
 use native.Mathlib.Nat.{suc-mul}
-use Rattle.std.proofs.Common.{◌≡◌, ◌∙◌, ℕ, suc, ◌+◌, ◌*◌, List, [], ◌∷◌, ◌++◌, map, length, length-append, sum_by, ap, arith}
+use Rattle.std.proofs.Common.{◌≡◌, ◌∙◌, ℕ, suc, ◌+◌, ◌*◌, List, [], ◌∷◌, ◌++◌, map, length, sum_by, ap, arith}
 use Rattle.std.specs.List.{flat_map}
 use Rattle.std.proofs.lemmas.List.Concat.{flat_map-append}
 use Rattle.std.proofs.lemmas.List.Sums.{sum_by-append, sum_by-cons}
@@ -8,12 +8,12 @@ use Rattle.qw_types.specs.declared.value.Val.{Val}
 use Rattle.qw_scalar.specs.Evaluation.{at_row}
 use Rattle.qw_scalar.specs.Expression.{Expression}
 use Rattle.qw_scalar.specs.Units.{units_of_all, units_of_items}
-use Rattle.qw_meaning.specs.Flow.{each, kept, rows_given, selected}
+use Rattle.qw_meaning.specs.Flow.{each, kept, rows_given}
 use Rattle.qw_grouped.specs.Grouped.{Grouped, kinds_of}
 use Rattle.qw_grouped.specs.Groups.{Group, group_row, groups, key_of, once}
 use Rattle.qw_grouped.specs.declared.set_function.SetFunctionKind.{SetFunctionKind}
 use Rattle.qw_pipe.specs.Units.{Hashing, made_units, tested_units}
-use Rattle.qw_whole.specs.GroupTables.{all_groups, chosen_units, distinct_units, group_keys, group_units, read_units, unraised}
+use Rattle.qw_whole.specs.GroupTables.{all_groups, chosen_units, distinct_units, group_keys, group_units, read_units}
 use Rattle.qw_whole.specs.Shares.{behind_units, group_share, key_share, met_units, row_share}
 
 -- ---- rows
@@ -26,12 +26,8 @@ added key f g k (x ∷ xs) =
 
 -- ---- groups
 
-made_append : (items : List Expression) (xs ys : List (List Val)) → made_units items (unraised (xs ++ ys)) ≡ made_units items (unraised xs) + made_units items (unraised ys)
-made_append items xs ys =
-    let compared = sum_by-append (λ (row : List Val). units_of_items items (at_row row)) xs ys in
-    let many = ap (λ (l : List (List Val)). length l) (flat_map-append (λ row. rows_given (selected items row)) xs ys)
-    ∙ length-append (flat_map (λ row. rows_given (selected items row)) xs) (flat_map (λ row. rows_given (selected items row)) ys) in
-    omega (arith, compared, many)
+made_append : (items : List Expression) (xs ys : List (List Val)) → made_units items (xs ++ ys) ≡ made_units items xs + made_units items ys
+made_append items xs ys = sum_by-append (λ (row : List Val). units_of_items items (at_row row)) xs ys
 
 four : (t u v a b c d whole made : ℕ) → t ≡ u + v → whole ≡ made → made ≡ c + d → a ≡ u + c → b ≡ v + d → t + whole ≡ a + b
 four t u v a b c d whole made e f g h k = omega (arith, e, f, g, h, k)
@@ -40,10 +36,10 @@ behind_append : (query : Grouped) (xs ys : List (List Val)) → behind_units que
 behind_append query xs ys =
     let keeps : List Val → List (List Val) = λ row. rows_given (kept query.having row) in
     four (tested_units query.having (xs ++ ys)) (tested_units query.having xs) (tested_units query.having ys) (behind_units query xs) (behind_units query ys)
-    (made_units query.items (each (kept query.having) (unraised xs))) (made_units query.items (each (kept query.having) (unraised ys)))
-    (made_units query.items (each (kept query.having) (unraised (xs ++ ys)))) (made_units query.items (unraised (flat_map keeps xs ++ flat_map keeps ys)))
+    (made_units query.items (flat_map keeps xs)) (made_units query.items (flat_map keeps ys))
+    (made_units query.items (flat_map keeps (xs ++ ys))) (made_units query.items (flat_map keeps xs ++ flat_map keeps ys))
     (sum_by-append (λ (row : List Val). units_of_all query.having (at_row row)) xs ys)
-    (ap (λ (rows : List (List Val)). made_units query.items (unraised rows)) (flat_map-append keeps xs ys))
+    (ap (made_units query.items) (flat_map-append keeps xs ys))
     (made_append query.items (flat_map keeps xs) (flat_map keeps ys))
     (omega arith) (omega arith)
 
@@ -85,7 +81,7 @@ units_told h query rows =
     let made : Group → List (List Val) = λ g. rows_given (group_row columns functions g) in
     let all : List Group = groups columns rows in
     told (length entries) (sum_by h.folded ks) (h.slots (length entries)) (sum_by (met_units h entries) ks) (sum_by (chosen_units columns functions) rows)
-    (length all * read_units functions) (tested_units query.having (all_groups query rows).rows) (made_units query.items (each (kept query.having) (all_groups query rows)))
+    (length all * read_units functions) (tested_units query.having (all_groups query rows).rows) (made_units query.items (each (kept query.having) (all_groups query rows)).rows)
     (sum_by (row_share h query rows) rows) (sum_by (group_share query) all) (sum_by (λ g. behind_units query (made g)) all)
     (added (key_of columns) h.folded (met_units h entries) (chosen_units columns functions) rows)
     (reads (read_units functions) (λ g. behind_units query (made g)) all)
@@ -99,11 +95,11 @@ two_added f g (x ∷ xs) =
     let rest = two_added f g xs in
     omega (arith, rest, sum_by-cons (λ y. f y + g y) x xs, sum_by-cons f x xs, sum_by-cons g x xs)
 
-both_told : (e f s m all : ℕ) → all ≡ f + m → e + f + s + m + e ≡ e + s + all + e
+both_told : (e f s m all : ℕ) → all ≡ f + m → e + f + s + m ≡ e + s + all
 both_told e f s m all x = omega (arith, x)
 
 pub distinct_told : (h : Hashing) (rows : List (List Val))
-    → distinct_units h rows ≡ length (once rows) + h.slots (length (once rows)) + sum_by (key_share h (once rows)) rows + length (once rows)
+    → distinct_units h rows ≡ length (once rows) + h.slots (length (once rows)) + sum_by (key_share h (once rows)) rows
 distinct_told h rows =
     both_told (length (once rows)) (sum_by h.folded rows) (h.slots (length (once rows))) (sum_by (met_units h (once rows)) rows) (sum_by (key_share h (once rows)) rows)
     (two_added h.folded (met_units h (once rows)) rows)

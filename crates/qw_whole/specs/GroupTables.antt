@@ -86,23 +86,23 @@ abbrev pub rows_behind : Grouped → List (List Val) → List (List Val)
 rows_behind query rows = (behind_front query (unraised rows)).rows
 
 -- The table of the groups; what MIN and MAX compare at each row; what reading its values takes at each group; HAVING at each of the groups, and the
--- select list at each that it keeps, with the rows that are made. That each row is brought to the table counts as a row that is made before GROUP BY.
+-- select list at each that it keeps.
 abbrev pub group_units : Hashing → Grouped → List (List Val) → ℕ
 group_units h query rows =
     table_units h (group_keys (length query.columns) rows) (map (key_of (length query.columns)) rows)
     + sum_by (chosen_units (length query.columns) (kinds_of query.functions)) rows
     + length (groups (length query.columns) rows) * read_units (kinds_of query.functions)
     + tested_units query.having (all_groups query rows).rows
-    + made_units query.items (each (kept query.having) (all_groups query rows))
+    + made_units query.items (each (kept query.having) (all_groups query rows)).rows
 
 abbrev pub group_octets : Grouped → List (List Val) → ℕ
 group_octets query rows = table_octets (group_size query) (length (groups (length query.columns) rows))
 
 -- ---- DISTINCT
 
--- the table whose keys are the rows, and the rows that are made, each once
+-- the table whose keys are the rows
 abbrev pub distinct_units : Hashing → List (List Val) → ℕ
-distinct_units h rows = table_units h (once rows) rows + length (once rows)
+distinct_units h rows = table_units h (once rows) rows
 
 abbrev pub distinct_size : (items : ℕ) → ℕ
 distinct_size items = entry_size items 0 0

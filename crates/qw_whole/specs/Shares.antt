@@ -22,9 +22,9 @@ abbrev pub row_share : Hashing → Grouped → (rows : List (List Val)) → List
 row_share h query rows row =
     key_share h (group_keys (length query.columns) rows) (key_of (length query.columns) row) + chosen_units (length query.columns) (kinds_of query.functions) row
 
--- of rows of the grouped table what HAVING and the select list take, and the rows that are made
+-- of rows of the grouped table what HAVING and the select list take
 abbrev pub behind_units : Grouped → List (List Val) → ℕ
-behind_units query rows = tested_units query.having rows + made_units query.items (each (kept query.having) (unraised rows))
+behind_units query rows = tested_units query.having rows + made_units query.items (each (kept query.having) (unraised rows)).rows
 
 -- a group's
 abbrev pub group_share : Grouped → Group → ℕ

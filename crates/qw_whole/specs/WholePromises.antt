@@ -15,7 +15,7 @@ use Rattle.qw_pipe.specs.General.{general_hashing}
 use Rattle.qw_pipe.specs.Octets as joins
 use Rattle.qw_map.specs.Layout.{row_size}
 use Rattle.qw_promise.specs.Promise.{Promise}
-use Rattle.qw_compile.specs.PlannedQueries.{kept_by, placed, units}
+use Rattle.qw_compile.specs.PlannedQueries.{kept_by, placed, plan_units}
 use Rattle.qw_whole.specs.GroupTables.{distinct_octets, distinct_size, distinct_units, group_octets, group_size, group_units, rows_behind}
 
 -- the select list
@@ -39,13 +39,22 @@ body_rows (grouped query) tables = rows_behind query (planned_rows (front query)
 
 -- ---- instructions
 
+-- the rows of the result
+abbrev pub result_rows : Whole → (tables : List (List (List Val))) → List (List Val)
+result_rows query tables = if_distinct query.distinct (body_rows query.body tables)
+
+-- up to the rows that the select list makes
 abbrev pub body_units : Body → (tables : List (List (List Val))) → ℕ
-body_units (plain specification) tables = units specification tables
-body_units (grouped query) tables = units (front query) tables + group_units general_hashing query (planned_rows (front query) tables)
+body_units (plain specification) tables = plan_units specification tables
+body_units (grouped query) tables = plan_units (front query) tables + group_units general_hashing query (planned_rows (front query) tables)
+
+-- and with the table of distinct rows
+abbrev pub units_before : Whole → (tables : List (List (List Val))) → ℕ
+units_before query tables =
+    if query.distinct then body_units query.body tables + distinct_units general_hashing (body_rows query.body tables) else body_units query.body tables
 
 abbrev pub whole_units : Whole → (tables : List (List (List Val))) → ℕ
-whole_units query tables =
-    if query.distinct then body_units query.body tables + distinct_units general_hashing (body_rows query.body tables) else body_units query.body tables
+whole_units query tables = units_before query tables + length (result_rows query tables)
 
 -- ---- pages
 
@@ -87,7 +96,7 @@ abbrev pub pages_for : Taken → (rows cells : ℕ) → ℕ
 pages_for t rows cells = 2 + 2 * t.tables + (t.octets + rows * row_size cells) / (page - max (row_size cells) t.greatest)
 
 abbrev pub whole_pages : Whole → (tables : List (List (List Val))) → ℕ
-whole_pages query tables = pages_for (taken query tables) (length (if_distinct query.distinct (body_rows query.body tables))) (length (items_in query.body))
+whole_pages query tables = pages_for (taken query tables) (length (result_rows query tables)) (length (items_in query.body))
 
 -- ---- the promise
 

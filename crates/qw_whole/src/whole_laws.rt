@@ -44,11 +44,11 @@ pub fn rows_of_plans()
 {}
 
 /// The units of a grouped query behind the rows that reach GROUP BY are those of its entries and of the slots, and the shares of all rows, as they come,
-/// and of all groups, at the end; those of DISTINCT are the entries, the slots, the shares of all rows, and the result rows.
+/// and of all groups, at the end; those of DISTINCT are the entries, the slots, and the shares of all rows.
 pub fn shares_of_units()
     ensures groups { (h : Hashing) (query : Grouped) (rows : List (List Val)) →
         group_units h query rows ≡ length (group_keys (length query.columns) rows) + h.slots (length (group_keys (length query.columns) rows))
         + sum_by (row_share h query rows) rows + sum_by (group_share query) (groups (length query.columns) rows) }
     ensures distinct { (h : Hashing) (rows : List (List Val)) →
-        distinct_units h rows ≡ length (once rows) + h.slots (length (once rows)) + sum_by (key_share h (once rows)) rows + length (once rows) }
+        distinct_units h rows ≡ length (once rows) + h.slots (length (once rows)) + sum_by (key_share h (once rows)) rows }
 {}
