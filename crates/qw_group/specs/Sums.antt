@@ -31,18 +31,18 @@ pub record Fits (n : ℕ) (a : Statement) : Type 0 where
 -- remainder. Local n + 3 is the block's own.
 pub record Divides (n x : ℕ) (a : Statement) : Type 0 where
   pub runs : (pages fuel : ℕ) (s : LowState) (low high c : ℕ) → x < n → slice_get s.locals n ≡ Some (Number low) → slice_get s.locals (n + 1) ≡ Some (Number high) → low < 2 ^ 64 → high < 2 ^ 64 →
-      slice_get s.locals x ≡ Some (Number c) → 1 ≤ c → c < 2 ^ 63 → n + 3 < length s.locals → 128 < fuel →
-      Ends (size a * 129) (λ t. Kept n s t × ((q r : ℕ) × (slice_get t.locals n ≡ Some (Number (q % 2 ^ 64))) × (slice_get t.locals (n + 1) ≡ Some (Number (q / 2 ^ 64))) × (slice_get t.locals (n + 2) ≡ Some (Number r))
+      slice_get s.locals x ≡ Some (Number c) → 1 ≤ c → c < 2 ^ 63 → n + 3 < length s.locals → 64 < fuel →
+      Ends (size a * 65) (λ t. Kept n s t × ((q r : ℕ) × (slice_get t.locals n ≡ Some (Number (q % 2 ^ 64))) × (slice_get t.locals (n + 1) ≡ Some (Number (q / 2 ^ 64))) × (slice_get t.locals (n + 2) ≡ Some (Number r))
       × (q ≡ (high * 2 ^ 64 + low) / c) × (r ≡ (high * 2 ^ 64 + low) % c))) (λ t. ⊥) (λ code. ⊥) (meaning pages fuel a s)
   pub typed : (types : List ValType) → slice_get types x ≡ Some I64 → slice_get types n ≡ Some I64 → slice_get types (n + 1) ≡ Some I64 → slice_get types (n + 2) ≡ Some I64 → slice_get types (n + 3) ≡ Some I32 → IsTyped types a
-  pub short : size a ≤ 45
+  pub short : size a ≤ 39
 
 -- The sum in the locals f + 1 and f + 2 of as many numbers as local x says, each of at most 18 digits: local f + 1 has their average, with four digits
 -- more behind the point, truncated toward zero (6.12); where that has more than 18 digits 2 is raised. The locals f, f + 3 and f + 4 are the block's own.
 pub record Averages (f x : ℕ) (a : Statement) : Type 0 where
-  pub runs : (pages fuel : ℕ) (s : LowState) (z : ℤ) (c : ℕ) → x < f → HoldsWide s (f + 1) z → slice_get s.locals x ≡ Some (Number c) → 1 ≤ c → c < 10 ^ 18 → unsigned_abs z < c * 10 ^ 18 → f + 4 < length s.locals → 128 < fuel →
-      Ends (size a * 129) (Leaves (λ v t. Kept f s t × HoldsNumber t (f + 1) v × IsTrue (fits v)) (checked (int_div (z *ℤ pos (10 ^ 4)) (pos c)))) (λ t. ⊥) (Raises (checked (int_div (z *ℤ pos (10 ^ 4)) (pos c))))
+  pub runs : (pages fuel : ℕ) (s : LowState) (z : ℤ) (c : ℕ) → x < f → HoldsWide s (f + 1) z → slice_get s.locals x ≡ Some (Number c) → 1 ≤ c → c < 10 ^ 18 → unsigned_abs z < c * 10 ^ 18 → f + 4 < length s.locals → 16 < fuel →
+      Ends (size a * 17) (Leaves (λ v t. Kept f s t × HoldsNumber t (f + 1) v × IsTrue (fits v)) (checked (int_div (z *ℤ pos (10 ^ 4)) (pos c)))) (λ t. ⊥) (Raises (checked (int_div (z *ℤ pos (10 ^ 4)) (pos c))))
       (meaning pages fuel a s)
   pub typed : (types : List ValType) → slice_get types x ≡ Some I64 → slice_get types f ≡ Some I32 → slice_get types (f + 1) ≡ Some I64 → slice_get types (f + 2) ≡ Some I64 → slice_get types (f + 3) ≡ Some I64 →
       slice_get types (f + 4) ≡ Some I32 → IsTyped types a
-  pub short : size a ≤ 140
+  pub short : size a ≤ 122

@@ -33,7 +33,7 @@ pub fn areas_of_set_functions()
 {}
 
 /// An entry with a key of one field and two set functions has 104 octets. A count is never null; COUNT(*) looks at no null word. Of the text 'ink' MAX
-/// compares three octets at most, COUNT none. An average takes 128 turns, a sum none. A walk meets slot 2 before 1 before 0.
+/// compares three octets at most, COUNT none. An average takes 16 turns, a sum none. A walk meets slot 2 before 1 before 0.
 pub fn entries_and_walks()
     ensures size { group_size (record { cell = record { value = 10; length = 11; null = None }; kind = kind.Number 0 } ∷ [])
         (record { function = Sum; argument = record { cell = record { value = 12; length = 11; null = None }; kind = kind.Number 0 } } ∷ record { function = CountRows; argument = record { cell = record { value = 12; length = 11; null = None }; kind = kind.Number 0 } } ∷ []) ≡ 104 }
@@ -41,6 +41,6 @@ pub fn entries_and_walks()
     ensures chosen { AreChosenWithin 1 (Max ∷ []) (val.Num (pos 2) ∷ val.Text (105 ∷ 110 ∷ 107 ∷ []) ∷ []) 3 }
     ensures not_fewer { AreChosenWithin 1 (Max ∷ []) (val.Num (pos 2) ∷ val.Text (105 ∷ 110 ∷ 107 ∷ []) ∷ []) 2 → ⊥ }
     ensures counted { AreChosenWithin 1 (Count ∷ []) (val.Num (pos 2) ∷ val.Text (105 ∷ 110 ∷ 107 ∷ []) ∷ []) 0 }
-    ensures turns { (read_units Avg ≡ 128) × (read_units Sum ≡ 0) }
+    ensures turns { (read_units Avg ≡ 16) × (read_units Sum ≡ 0) }
     ensures slots { slots_down 3 ≡ 2 ∷ 1 ∷ 0 ∷ [] }
 {}
