@@ -1,5 +1,5 @@
 -- An average without sign: a quotient with four digits more, or 2 is raised where it has more than 18.
-use Rattle.std.proofs.Common.{◌≡◌, ◌≢◌, ℕ, zero, suc, ◌+◌, ◌-◌, ◌*◌, ◌/◌, ◌%◌, ◌^◌, ◌<◌, ◌≤◌, ◌⊎◌, inl, inr, nat_le, nat_lt, Bool, length, length-set, Option, Some, slice_get, slice_set, mod-lt, refl, sym, ap, ◌∙◌, subst, ⊎_elim, arith, suc-mul}
+use Rattle.std.proofs.Common.{◌≡◌, ◌≢◌, ℕ, zero, suc, ◌+◌, ◌-◌, ◌*◌, ◌/◌, ◌%◌, ◌^◌, ◌<◌, ◌≤◌, ◌⊎◌, inl, inr, nat_le, nat_lt, Bool, false, length, length-set, Option, Some, slice_get, slice_set, mod-lt, refl, sym, ap, ◌∙◌, subst, ⊎_elim, arith, suc-mul}
 use Rattle.std.proofs.lemmas.Bool.{cases_lt, lt-leb, le-leb, lt-ltb, le-ltb, ne_eqb}
 use Rattle.std.proofs.lemmas.Nat.{div-mul-add, div-add-mod', mul-le}
 use Rattle.std.proofs.Math.Nat.{mul_assoc}
@@ -15,12 +15,13 @@ use Rattle.qw_low.specs.State.{Value, Number, LowState}
 use Rattle.qw_low.specs.Meaning.{value, meaning}
 use Rattle.qw_low.specs.Promise.{Ends, IsSet}
 use Rattle.qw_low.specs.Raising.{Kept}
-use Rattle.qw_low.proofs.Promises.{Ends-weaker, Ends-then, assign_ends, conditional_ends, turns_end}
+use Rattle.qw_low.proofs.Promises.{Ends-more, Ends-weaker, Ends-then, assign_ends, conditional_ends, turns_end}
 use Rattle.qw_low.proofs.Results.{Kept-set}
 use Rattle.qw_low.proofs.BlockSteps.{assign_then}
 use Rattle.qw_feed.specs.Room.{i32}
 use Rattle.qw_feed.proofs.Frames.{Never}
 use Rattle.qw_group.specs.Wides.{i64}
+use Rattle.qw_group.specs.Sums.{long_more, many_more}
 use Rattle.qw_group.specs.Inner.WideBlocks.{digit_block, digit_turns, digits_block, average_block, quotient_block}
 use Rattle.qw_group.proofs.WideFacts.{times-below, quotient-less}
 use Rattle.qw_group.proofs.WideRuns.{none, set_other}
@@ -183,21 +184,20 @@ module _ (most fuel n x c : ℕ) (below : x < n) (small : c < 10 ^ 18) (s0 : Low
           omega arith,
         )))
 
-    pub digits_end : (s : LowState) → 4 < fuel → Digits d (10 ^ 14) (slice_get s.locals (n + 3)) s → Ends 100 Four Never none (meaning most fuel (digits_block n x) s)
+    pub digits_end : (s : LowState) → 4 < fuel → Digits d (10 ^ 14) (slice_get s.locals (n + 3)) s → Ends (20 + many_more c) Four Never none (meaning most fuel (digits_block n x) s)
     digits_end s enough at =
         let few : Expression = relop I64 (Lt Unsigned) (local x) (i64 (10 ^ 15)) in
         let test : value s few ≡ Some (Number (truth (nat_lt c (10 ^ 15)))) = rw (at.kept.below x below, x_is) refl in
         let left : Option Value = slice_get s.locals (n + 3) in
         ⊎_elim
-        (λ (less : c < 10 ^ 15). conditional_ends Four Never none most fuel 96 few (digit_block n x (10 ^ 4)) (digit_turns n x) s (inl (
+        (λ (less : c < 10 ^ 15). Ends-more Four Never none 20 (20 + many_more c) (meaning most fuel (digits_block n x) s) (omega arith) (conditional_ends Four Never none most fuel 16 few (digit_block n x (10 ^ 4)) (digit_turns n x) s (inl (
           inl (0, test ∙ ap (λ (b : Bool). Some (Number (truth b))) (lt-ltb c (10 ^ 15) less)),
-          Ends-weaker 16 96 (Digits (d * 10 ^ 4) (10 ^ 18) left) Four Never Never none none (meaning most fuel (digit_block n x (10 ^ 4)) s) (omega arith) (λ t h. four_of left t h) (λ t y. y) (λ code y. y)
+          Ends-weaker 16 16 (Digits (d * 10 ^ 4) (10 ^ 18) left) Four Never Never none none (meaning most fuel (digit_block n x (10 ^ 4)) s) (omega arith) (λ t h. four_of left t h) (λ t y. y) (λ code y. y)
               (digit_ends d (10 ^ 14) (10 ^ 4) left s (omega arith) (omega arith) (omega (arith, less)) at),
-        )))
-        (λ (many : 10 ^ 15 ≤ c). conditional_ends Four Never none most fuel 96 few (digit_block n x (10 ^ 4)) (digit_turns n x) s (inr (
-          test ∙ ap (λ (b : Bool). Some (Number (truth b))) (le-ltb c (10 ^ 15) many),
-          one_by_one s enough at,
-        )))
+        ))))
+        (λ (many : 10 ^ 15 ≤ c).
+        let some : nat_lt c (10 ^ 15) ≡ false = le-ltb c (10 ^ 15) many in
+        rw some (conditional_ends Four Never none most fuel 96 few (digit_block n x (10 ^ 4)) (digit_turns n x) s (inr (test ∙ ap (λ (b : Bool). Some (Number (truth b))) some, one_by_one s enough at))))
         (cases_lt c (10 ^ 15))
 
   -- ---- the whole: of a sum without sign, which has at most 18 digits for each row
@@ -233,11 +233,11 @@ module _ (most fuel n x c : ℕ) (below : x < n) (small : c < 10 ^ 18) (s0 : Low
     Whole = Parted most fuel n x c below some small s0 x_is low high d low_at high_at low_is whole fits room
 
     -- the check, and four digits
-    ends : (t : LowState) → Whole t → Ends 106 Averaged Never TooLong (meaning most fuel (seq check (digits_block n x)) t)
+    ends : (t : LowState) → Whole t → Ends (6 + (20 + many_more c)) Averaged Never TooLong (meaning most fuel (seq check (digits_block n x)) t)
     ends t h =
         let test : value t (relop I64 (Le Unsigned) (i64 (10 ^ 14)) (local n)) ≡ Some (Number (truth (nat_le (10 ^ 14) h.q))) = rw (h.q_at) refl in
         let P : LowState → Type 0 = λ u. Digits d (10 ^ 14) (slice_get u.locals (n + 3)) u in
-        Ends-then Averaged Never TooLong 6 100 P (meaning most fuel check t) (meaning most fuel (digits_block n x))
+        Ends-then Averaged Never TooLong 6 (20 + many_more c) P (meaning most fuel check t) (meaning most fuel (digits_block n x))
         (⊎_elim
         (λ (short : h.q < 10 ^ 14). conditional_ends P Never TooLong most fuel 2 (relop I64 (Le Unsigned) (i64 (10 ^ 14)) (local n)) (raise 2) skip t (inr (
           test ∙ ap (λ (b : Bool). Some (Number (truth b))) (lt-leb (10 ^ 14) h.q short),
@@ -248,10 +248,10 @@ module _ (most fuel n x c : ℕ) (below : x < n) (small : c < 10 ^ 18) (s0 : Low
           (omega arith, (refl, too-long h.q h.r h.less h.parts long)),
         )))
         (cases_lt h.q (10 ^ 14)))
-        (λ u at. Ends-weaker 100 100 (Four d) Averaged Never Never none TooLong (meaning most fuel (digits_block n x) u) (omega arith) last (λ v y. y) (λ code y. absurd y) (digits_end d u (omega (arith, enough)) at))
+        (λ u at. Ends-weaker (20 + many_more c) (20 + many_more c) (Four d) Averaged Never Never none TooLong (meaning most fuel (digits_block n x) u) (omega arith) last (λ v y. y) (λ code y. absurd y) (digits_end d u (omega (arith, enough)) at))
 
-    pub average_ends : Ends 547 Averaged Never TooLong (meaning most fuel (average_block n x) s0)
-    average_ends = Ends-then Averaged Never TooLong 441 106 Whole (meaning most fuel (quotient_block n x) s0) (meaning most fuel (seq check (digits_block n x)))
-        (Ends-weaker 441 441 Whole Whole Never Never none TooLong (meaning most fuel (quotient_block n x) s0) (omega arith) (λ v y. y) (λ v y. y) (λ code y. absurd y)
+    pub average_ends : Ends (11 + long_more d + (6 + (20 + many_more c))) Averaged Never TooLong (meaning most fuel (average_block n x) s0)
+    average_ends = Ends-then Averaged Never TooLong (11 + long_more d) (6 + (20 + many_more c)) Whole (meaning most fuel (quotient_block n x) s0) (meaning most fuel (seq check (digits_block n x)))
+        (Ends-weaker (11 + long_more d) (11 + long_more d) Whole Whole Never Never none TooLong (meaning most fuel (quotient_block n x) s0) (omega arith) (λ v y. y) (λ v y. y) (λ code y. absurd y)
         (quotient_ends most fuel n x c below some small s0 x_is low high d low_at high_at low_is whole fits room enough))
         ends

@@ -1,6 +1,6 @@
 -- A quotient of two words by a number, digit by digit.
-use Rattle.std.proofs.Common.{◌≡◌, ◌≢◌, ℕ, zero, suc, ◌+◌, ◌-◌, ◌*◌, ◌/◌, ◌%◌, ◌^◌, ◌<◌, ◌≤◌, ◌==◌, ◌⊎◌, inl, inr, Bool, length, length-set, mod-lt, Some, slice_get, slice_set, refl, sym, ap, ◌∙◌, subst, arith}
-use Rattle.std.proofs.lemmas.Bool.{ne_eqb}
+use Rattle.std.proofs.Common.{◌≡◌, ◌≢◌, ℕ, zero, suc, ◌+◌, ◌-◌, ◌*◌, ◌/◌, ◌%◌, ◌^◌, ◌<◌, ◌≤◌, ◌==◌, ◌⊎◌, inl, inr, nat_lt, Bool, false, length, length-set, mod-lt, Some, slice_get, slice_set, refl, sym, ap, ◌∙◌, subst, arith}
+use Rattle.std.proofs.lemmas.Bool.{ne_eqb, le-ltb}
 use Rattle.std.proofs.lemmas.Nat.{div-add-mod'}
 use Rattle.std.proofs.Math.Nat.{pow-succ', mul_assoc}
 use Rattle.qw_map.proofs.TurnFacts.{slice_get-set_same}
@@ -9,7 +9,7 @@ use Rattle.qw_module.specs.declared.instruction.ValType.TheVariants.{I32, I64}
 use Rattle.qw_module.specs.declared.instruction.Sign.TheVariants.{Unsigned}
 use Rattle.qw_module.specs.declared.instruction.Binary.TheVariants.{Add, Sub, Shl, Shr}
 use Rattle.qw_module.specs.declared.instruction.Division.TheVariants.{Div, Rem}
-use Rattle.qw_low.specs.Syntax.{Expression, local, binop, divop, is_zero, seq, assign, while}
+use Rattle.qw_low.specs.Syntax.{Expression, local, binop, divop, is_zero, Statement, seq, assign, while}
 use Rattle.qw_low.specs.State.{Number, LowState}
 use Rattle.qw_low.specs.Meaning.{value, meaning}
 use Rattle.qw_low.specs.Promise.{Ends, IsSet}
@@ -20,6 +20,7 @@ use Rattle.qw_low.proofs.BlockSteps.{assign_then}
 use Rattle.qw_feed.specs.Room.{i32}
 use Rattle.qw_feed.proofs.Frames.{Never}
 use Rattle.qw_group.specs.Wides.{i64}
+use Rattle.qw_group.specs.Sums.{long_more}
 use Rattle.qw_group.specs.Inner.WideBlocks.{divide_turn, low_word_block, div_128_block, quotient_block}
 use Rattle.qw_group.proofs.WideFacts.{Divided, Digit, Bit, Hex, bits_of, base_of, down_of, rest_of, shifted, rest-room, down-few, down-room, times-below, quotient-less, digit-more, divided-last}
 use Rattle.qw_group.proofs.WideRuns.{none, set_other}
@@ -322,8 +323,14 @@ module _ (most fuel n x c : ℕ) (below : x < n) (some : 1 ≤ c) (small : c < 1
   divisor_is : c ≢ 0
   divisor_is zeroth = omega (arith, zeroth, some)
 
+  abbrev short : Statement
+  short = seq (assign (n + 2) (remainder_by n x)) (assign n (quotient_by n x))
+
+  abbrev long : Statement
+  long = seq (assign (n + 2) (local (n + 1))) (low_word_block n x 4)
+
   -- the high word is 0
-  one_word : high ≡ 0 → Ends 8 Parted Never none (meaning most fuel (seq (assign (n + 2) (remainder_by n x)) (assign n (quotient_by n x))) s0)
+  one_word : high ≡ 0 → Ends 8 Parted Never none (meaning most fuel short s0)
   one_word zeroth =
       let t1 : LowState = record s0 { locals = slice_set s0.locals (n + 2) (Number (low % c)) } in
       let t2 : LowState = record t1 { locals = slice_set t1.locals n (Number (low / c)) } in
@@ -342,7 +349,7 @@ module _ (most fuel n x c : ℕ) (below : x < n) (some : 1 ≤ c) (small : c < 1
       }))
 
   -- it is below the divisor, and so the remainder as it is
-  two_words : 16 < fuel → Ends 438 Parted Never none (meaning most fuel (seq (assign (n + 2) (local (n + 1))) (low_word_block n x 4)) s0)
+  two_words : 16 < fuel → Ends 438 Parted Never none (meaning most fuel long s0)
   two_words more =
       let t1 : LowState = record s0 { locals = slice_set s0.locals (n + 2) (Number high) } in
       let kept : Kept n s0 t1 = Kept-set n s0 s0 (n + 2) (Number high) (Kept-same n s0) (omega arith) in
@@ -358,14 +365,16 @@ module _ (most fuel n x c : ℕ) (below : x < n) (some : 1 ≤ c) (small : c < 1
       (slice_get-set_same s0.locals (n + 2) (Number high) (omega (arith, room)))
       (omega (arith, many, room)) refl refl (omega arith) more low_is less whole))
 
-  pub quotient_ends : 16 < fuel → Ends 441 Parted Never none (meaning most fuel (quotient_block n x) s0)
+  pub quotient_ends : 16 < fuel → Ends (11 + long_more d) Parted Never none (meaning most fuel (quotient_block n x) s0)
   quotient_ends more = by_high high refl
     where
       test : (h : ℕ) → h ≡ high → value s0 (is_zero I64 (local (n + 1))) ≡ Some (Number (truth (h == 0)))
       test h is = rw (high_at, is) refl
 
-      by_high : (h : ℕ) → h ≡ high → Ends 441 Parted Never none (meaning most fuel (quotient_block n x) s0)
-      by_high zero is = conditional_ends Parted Never none most fuel 438 (is_zero I64 (local (n + 1))) (seq (assign (n + 2) (remainder_by n x)) (assign n (quotient_by n x))) (seq (assign (n + 2) (local (n + 1))) (low_word_block n x 4)) s0
-          (inl (inl (0, test 0 is), Ends-more Parted Never none 8 438 (meaning most fuel (seq (assign (n + 2) (remainder_by n x)) (assign n (quotient_by n x))) s0) (omega arith) (one_word (sym is))))
-      by_high (suc h) is = conditional_ends Parted Never none most fuel 438 (is_zero I64 (local (n + 1))) (seq (assign (n + 2) (remainder_by n x)) (assign n (quotient_by n x))) (seq (assign (n + 2) (local (n + 1))) (low_word_block n x 4)) s0
-          (inr (test (suc h) is ∙ ap (λ (b : Bool). Some (Number (truth b))) (ne_eqb (suc h) 0 (λ e. omega (arith, e))), two_words more))
+      by_high : (h : ℕ) → h ≡ high → Ends (11 + long_more d) Parted Never none (meaning most fuel (quotient_block n x) s0)
+      by_high zero is = Ends-more Parted Never none 11 (11 + long_more d) (meaning most fuel (quotient_block n x) s0) (omega arith)
+          (conditional_ends Parted Never none most fuel 8 (is_zero I64 (local (n + 1))) short long s0 (inl (inl (0, test 0 is), one_word (sym is))))
+      by_high (suc h) is =
+          let second : nat_lt d (2 ^ 64) ≡ false = le-ltb d (2 ^ 64) (omega (arith, is, whole)) in
+          rw second (conditional_ends Parted Never none most fuel 438 (is_zero I64 (local (n + 1))) short long s0
+          (inr (test (suc h) is ∙ ap (λ (b : Bool). Some (Number (truth b))) (ne_eqb (suc h) 0 (λ e. omega (arith, e))), two_words more)))

@@ -1,5 +1,5 @@
 -- The blocks of sums keep what is said of them.
-use Rattle.std.proofs.Common.{◌≡◌, ℕ, ◌+◌, ◌*◌, ◌/◌, ◌%◌, ◌^◌, ◌<◌, ◌≤◌, ℤ, pos, ◌*ℤ◌, int_div, IsTrue, List, Some, slice_get, refl, sym, ap, ◌∙◌, arith}
+use Rattle.std.proofs.Common.{◌≡◌, ℕ, ◌+◌, ◌*◌, ◌/◌, ◌%◌, ◌^◌, ◌<◌, ◌≤◌, ℤ, pos, ◌*ℤ◌, int_div, min, IsTrue, List, Some, slice_get, refl, sym, ap, ◌∙◌, arith}
 use Rattle.std.proofs.lemmas.Nat.{div-mul-add, mod-mul-add}
 use Rattle.std.proofs.Math.Nat.{div-le_self}
 use Rattle.qw_types.specs.Arithmetic.{fits, checked}
@@ -15,10 +15,10 @@ use Rattle.qw_low.proofs.Promises.{Ends-more, Ends-weaker}
 use Rattle.qw_feed.proofs.Frames.{Never}
 use Rattle.qw_wide.proofs.Words.{held_word}
 use Rattle.qw_wide.proofs.Relations.{fits_back}
-use Rattle.qw_group.specs.Sums.{Accumulates, Fits, Divides, Averages}
+use Rattle.qw_group.specs.Sums.{Accumulates, Fits, Divides, Averages, average_most}
 use Rattle.qw_group.specs.Wides.{add_128_block}
 use Rattle.qw_group.specs.Inner.WideBlocks.{fit_block, low_word_block, div_128_block, quotient_block, digit_block, average_block, averaging_block}
-use Rattle.qw_group.proofs.WideFacts.{Bit, joined}
+use Rattle.qw_group.proofs.WideFacts.{Bit, joined, most-few}
 use Rattle.qw_group.proofs.WideRuns.{none, add_128_ends, fit_ends}
 use Rattle.qw_group.proofs.AverageRuns.{avg_ends}
 use Rattle.qw_group.proofs.QuotientRuns.{Quotient, bit-thin, div_128_ends}
@@ -145,7 +145,7 @@ averages f x = record {
   runs = λ pages fuel s z c below wide x_is some small bound room more.
       let r = checked (int_div (z *ℤ pos (10 ^ 4)) (pos c)) in
       let P : ℤ → LowState → Type 0 = λ v t. Kept f s t × HoldsNumber t (f + 1) v × IsTrue (fits v) in
-      Ends-more (Leaves P r) Never (Raises r) 572 (size (averaging_block f x) * 17) (meaning pages fuel (averaging_block f x) s) (omega arith)
+      Ends-more (Leaves P r) Never (Raises r) (average_most z c) (min (size (averaging_block f x) * 17) (average_most z c)) (meaning pages fuel (averaging_block f x) s) (omega (arith, most-few z c))
       (avg_ends pages fuel f x c below s z wide x_is some small bound room more);
   typed = λ types x_is flag low high rest left.
       let up : f + 1 + 1 ≡ f + 2 = omega arith in

@@ -32,11 +32,13 @@ use Rattle.qw_table.proofs.EntryRuns.{lies-kept}
 use Rattle.qw_wide.proofs.Words as words
 use Rattle.qw_group.specs.Areas.{HasCount, HasSum, HasPlain, HasChosen, HasAggregate}
 use Rattle.qw_group.specs.Values.{may_be_null, read_units}
+use Rattle.qw_group.specs.Sums.{average_most}
 use Rattle.qw_group.specs.Wides.{HoldsWide}
 use Rattle.qw_group.specs.Inner.WideBlocks.{fit_block, averaging_block}
 use Rattle.qw_group.specs.Inner.ValueBlocks.{count_read, where_taken, words_read, sum_known, average_known, chosen_known, value_block}
 use Rattle.qw_group.proofs.AverageRuns.{avg_ends}
 use Rattle.qw_group.proofs.TakenFacts.{taken-few}
+use Rattle.qw_group.proofs.WideFacts.{most-few}
 use Rattle.qw_group.proofs.WideRuns.{none, set_other, fit_ends}
 
 -- a number as a value
@@ -195,7 +197,7 @@ module _ (most fuel k o e at f N : ℕ) (once : 1 ≤ N) (e_low : e < f) (s : Lo
             words_then (as_number r) (seq (averaging_block (f + 3) (f + 1)) move) (given_gets r (averaging_block (f + 3) (f + 1))
             (comes_weaker most fuel N {A = ℤ} P Given r (averaging_block (f + 3) (f + 1)) s4
             (λ v t is h. (Kept-then (f + 1) (f + 3) s2 s4 t (omega arith) (Kept-then (f + 1) (f + 3) s2 s2 s4 (omega arith) (Kept-same (f + 1) s2) kept4) h.0, (subst (λ (i : ℕ). HoldsNumber t i v) (sym up) h.1, h.2)))
-            (Ends-more (Leaves P r) Never (Raises r) 572 (size (averaging_block (f + 3) (f + 1)) * N) (meaning most fuel (averaging_block (f + 3) (f + 1)) s4) (let all : size (averaging_block (f + 3) (f + 1)) * 17 ≤ size (averaging_block (f + 3) (f + 1)) * N = mul-le (size (averaging_block (f + 3) (f + 1))) 17 (size (averaging_block (f + 3) (f + 1))) N (omega arith) enough in omega (arith, all))
+            (Ends-more (Leaves P r) Never (Raises r) (average_most (total sum) n) (size (averaging_block (f + 3) (f + 1)) * N) (meaning most fuel (averaging_block (f + 3) (f + 1)) s4) (let all : size (averaging_block (f + 3) (f + 1)) * 17 ≤ size (averaging_block (f + 3) (f + 1)) * N = mul-le (size (averaging_block (f + 3) (f + 1))) 17 (size (averaging_block (f + 3) (f + 1))) N (omega arith) enough in omega (arith, all, most-few (total sum) n))
             (avg_ends most fuel (f + 3) (f + 1) n (omega arith) s4 (total sum) wide count some small bound (omega (arith, room, many4)) turns))))
 
       -- the value that was chosen
