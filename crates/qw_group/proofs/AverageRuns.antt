@@ -16,13 +16,14 @@ use Rattle.qw_low.specs.Meaning.{value, meaning}
 use Rattle.qw_low.specs.Promise.{Ends}
 use Rattle.qw_low.specs.Raising.{Kept, Leaves, Raises}
 use Rattle.qw_low.specs.Held.{HoldsNumber}
-use Rattle.qw_low.proofs.Promises.{Ends-weaker, Ends-then, assign_ends, conditional_ends}
+use Rattle.qw_low.proofs.Promises.{Ends-more, Ends-weaker, Ends-then, assign_ends, conditional_ends}
 use Rattle.qw_low.proofs.Results.{Kept-same, Kept-set, Kept-then}
 use Rattle.qw_low.proofs.BlockSteps.{assign_then}
 use Rattle.qw_feed.proofs.Frames.{Never}
 use Rattle.qw_group.specs.Wides.{i64}
 use Rattle.qw_wide.proofs.Words.{word, word_held, fits_small}
 use Rattle.qw_group.specs.Wides.{bits_128, IsWide, HoldsWide}
+use Rattle.qw_group.specs.Sums.{long_more, many_more, average_most}
 use Rattle.qw_group.specs.Inner.WideBlocks.{opposite_128, average_block, averaging_block}
 use Rattle.qw_group.proofs.WideRuns.{none, set_other}
 use Rattle.qw_group.proofs.DigitRuns.{Averaged, average_ends}
@@ -71,7 +72,7 @@ signed-small true zero = refl
 signed-small true (suc m) = refl
 
 module _ (most fuel f x c : ℕ) (below : x < f) (s : LowState) (z : ℤ) (has : HoldsWide s (f + 1) z) (x_is : slice_get s.locals x ≡ Some (Number c)) (some : 1 ≤ c) (small : c < 10 ^ 18) (bound : unsigned_abs z < c * 10 ^ 18)
-    (room : f + 4 < length s.locals) (enough : 128 < fuel) where
+    (room : f + 4 < length s.locals) (enough : 16 < fuel) where
   abbrev n : ℕ
   n = f + 1
 
@@ -193,31 +194,35 @@ module _ (most fuel f x c : ℕ) (below : x < f) (s : LowState) (z : ℤ) (has :
             (Kept-set f s t n (Number w) (under t kept) (omega arith), slice_get-set_same t.locals n (Number w) room_t ∙ ap (λ (b : Bool). Some (Number (word (signed_by b m)))) is, few),
       ))
 
-  averages : (t : LowState) → Magnitude t → Ends 5074 Held Never Over (meaning most fuel (seq (average_block n x) last) t)
+  abbrev behind : ℕ
+  behind = 11 + long_more d + (6 + (20 + many_more c))
+
+  averages : (t : LowState) → Magnitude t → Ends (behind + 6) Held Never Over (meaning most fuel (seq (average_block n x) last) t)
   averages t h =
       let x_t : slice_get t.locals x ≡ Some (Number c) = h.kept.below x (omega (arith, below)) ∙ set_other s.locals f x (Number (truth g)) (Number c) (λ e. omega (arith, e, below)) x_is in
       let room_t : n + 3 < length t.locals = omega (arith, h.kept.many, many1, room) in
       let low_x : x < n = omega (arith, below) in
-      Ends-then Held Never Over 5068 6 (Averaged most fuel n x c low_x small t x_t d h.low h.high h.low_at h.high_at h.low_is h.high_is h.whole some bound room_t enough) (meaning most fuel (average_block n x) t) (meaning most fuel last)
-      (average_ends most fuel n x c low_x small t x_t d h.low h.high h.low_at h.high_at h.low_is h.high_is h.whole some bound room_t enough)
+      Ends-then Held Never Over behind 6 (Averaged most fuel n x c low_x small t x_t d h.low h.high h.low_at h.high_at h.low_is h.whole some bound room_t enough) (meaning most fuel (average_block n x) t) (meaning most fuel last)
+      (average_ends most fuel n x c low_x small t x_t d h.low h.high h.low_at h.high_at h.low_is h.whole some bound room_t enough)
       (λ u done. signs u (Kept-then n n s1 t u (omega arith) h.kept done.0) done.1 done.2 g refl)
 
-  held : Ends 5093 Held Never Over (meaning most fuel (averaging_block f x) s)
+  held : Ends (average_most z c) Held Never Over (meaning most fuel (averaging_block f x) s)
   held =
-      assign_then Held Never Over most fuel s 5089 (seq (conditional (local f) (opposite_128 n) skip) (seq (average_block n x) last)) f (relop I64 (Lt Unsigned) (i64 (2 ^ 63 - 1)) (local (n + 1))) (Number (truth g)) flag_is (omega (arith, room))
-      (Ends-then Held Never Over 15 5074 Magnitude (meaning most fuel (conditional (local f) (opposite_128 n) skip) s1) (meaning most fuel (seq (average_block n x) last))
+      Ends-more Held Never Over (4 + (15 + (behind + 6))) (average_most z c) (meaning most fuel (averaging_block f x) s) (omega arith)
+      (assign_then Held Never Over most fuel s (15 + (behind + 6)) (seq (conditional (local f) (opposite_128 n) skip) (seq (average_block n x) last)) f (relop I64 (Lt Unsigned) (i64 (2 ^ 63 - 1)) (local (n + 1))) (Number (truth g)) flag_is (omega (arith, room))
+      (Ends-then Held Never Over 15 (behind + 6) Magnitude (meaning most fuel (conditional (local f) (opposite_128 n) skip) s1) (meaning most fuel (seq (average_block n x) last))
       (Ends-weaker 15 15 Magnitude Magnitude Never Never none Over (meaning most fuel (conditional (local f) (opposite_128 n) skip) s1) (omega arith) (λ t y. y) (λ t y. y) (λ code y. absurd y) (magnitude z refl))
-      averages)
+      averages))
 
   -- exactly the average, or its exception
-  pub avg_ends : Ends 5093 (Leaves Given (checked A)) Never (Raises (checked A)) (meaning most fuel (averaging_block f x) s)
+  pub avg_ends : Ends (average_most z c) (Leaves Given (checked A)) Never (Raises (checked A)) (meaning most fuel (averaging_block f x) s)
   avg_ends = ⊎_elim
       (λ (few : m < 10 ^ 18).
       let fit : fits A ≡ true = lt-ltb (unsigned_abs A) (10 ^ 18) (subst (λ (k : ℕ). k < 10 ^ 18) (sym (ap unsigned_abs A_is ∙ signed-small g m)) few) in
-      rw fit (Ends-weaker 5093 5093 Held (Given A) Never Never Over (λ code. ⊥) (meaning most fuel (averaging_block f x) s) (omega arith)
+      rw fit (Ends-weaker (average_most z c) (average_most z c) Held (Given A) Never Never Over (λ code. ⊥) (meaning most fuel (averaging_block f x) s) (omega arith)
       (λ t h. (h.0, word_held t n A (fits_small A fit) (h.1 ∙ ap (λ (v : ℤ). Some (Number (word v))) (sym A_is)), fit)) (λ t y. y) (λ code y. omega (arith, y.1, few)) held))
       (λ (many : 10 ^ 18 ≤ m).
       let fit : fits A ≡ false = le-ltb (unsigned_abs A) (10 ^ 18) (subst (λ (k : ℕ). 10 ^ 18 ≤ k) (sym (ap unsigned_abs A_is ∙ signed-small g m)) many) in
-      rw fit (Ends-weaker 5093 5093 Held (λ t. ⊥) Never Never Over (λ code. code ≡ 2) (meaning most fuel (averaging_block f x) s) (omega arith)
+      rw fit (Ends-weaker (average_most z c) (average_most z c) Held (λ t. ⊥) Never Never Over (λ code. code ≡ 2) (meaning most fuel (averaging_block f x) s) (omega arith)
       (λ t h. omega (arith, h.2, many)) (λ t y. y) (λ code y. y.0) held))
       (cases_lt m (10 ^ 18))

@@ -32,11 +32,13 @@ use Rattle.qw_table.proofs.EntryRuns.{lies-kept}
 use Rattle.qw_wide.proofs.Words as words
 use Rattle.qw_group.specs.Areas.{HasCount, HasSum, HasPlain, HasChosen, HasAggregate}
 use Rattle.qw_group.specs.Values.{may_be_null, read_units}
+use Rattle.qw_group.specs.Sums.{average_most}
 use Rattle.qw_group.specs.Wides.{HoldsWide}
 use Rattle.qw_group.specs.Inner.WideBlocks.{fit_block, averaging_block}
 use Rattle.qw_group.specs.Inner.ValueBlocks.{count_read, where_taken, words_read, sum_known, average_known, chosen_known, value_block}
 use Rattle.qw_group.proofs.AverageRuns.{avg_ends}
 use Rattle.qw_group.proofs.TakenFacts.{taken-few}
+use Rattle.qw_group.proofs.WideFacts.{most-few}
 use Rattle.qw_group.proofs.WideRuns.{none, set_other, fit_ends}
 
 -- a number as a value
@@ -185,7 +187,7 @@ module _ (most fuel k o e at f N : ℕ) (once : 1 ≤ N) (e_low : e < f) (s : Lo
             (comes_weaker most fuel N {A = ℤ} P Given r (fit_block (f + 4)) s4 (λ v t is h. (subst (Kept (f + 1) s2) (sym h.0) (Kept-then (f + 1) (f + 3) s2 s2 s4 (omega arith) (Kept-same (f + 1) s2) kept4), (h.1, h.2)))
             (Ends-more (Leaves P r) Never (Raises r) 16 (size (fit_block (f + 4)) * N) (meaning most fuel (fit_block (f + 4)) s4) (at_least 16 N once) (fit_ends most fuel (f + 4) s4 (total sum) wide4))))
 
-        average_gets : 128 < fuel → 129 ≤ N → x ≡ f + 1 → 1 ≤ n → n < 10 ^ 18 → unsigned_abs (total sum) < n * 10 ^ 18 → Gets true (as_number (checked (int_div (total sum *ℤ pos (10 ^ 4)) (pos n)))) (average_known e at f) s2
+        average_gets : 16 < fuel → 17 ≤ N → x ≡ f + 1 → 1 ≤ n → n < 10 ^ 18 → unsigned_abs (total sum) < n * 10 ^ 18 → Gets true (as_number (checked (int_div (total sum *ℤ pos (10 ^ 4)) (pos n)))) (average_known e at f) s2
         average_gets turns enough x_is some small bound =
             let r : Result ℤ Code = checked (int_div (total sum *ℤ pos (10 ^ 4)) (pos n)) in
             let P : ℤ → LowState → Type 0 = λ v t. Kept (f + 3) s4 t × HoldsNumber t (f + 3 + 1) v × IsTrue (fits v) in
@@ -195,7 +197,7 @@ module _ (most fuel k o e at f N : ℕ) (once : 1 ≤ N) (e_low : e < f) (s : Lo
             words_then (as_number r) (seq (averaging_block (f + 3) (f + 1)) move) (given_gets r (averaging_block (f + 3) (f + 1))
             (comes_weaker most fuel N {A = ℤ} P Given r (averaging_block (f + 3) (f + 1)) s4
             (λ v t is h. (Kept-then (f + 1) (f + 3) s2 s4 t (omega arith) (Kept-then (f + 1) (f + 3) s2 s2 s4 (omega arith) (Kept-same (f + 1) s2) kept4) h.0, (subst (λ (i : ℕ). HoldsNumber t i v) (sym up) h.1, h.2)))
-            (Ends-more (Leaves P r) Never (Raises r) 5093 (size (averaging_block (f + 3) (f + 1)) * N) (meaning most fuel (averaging_block (f + 3) (f + 1)) s4) (let all : size (averaging_block (f + 3) (f + 1)) * 129 ≤ size (averaging_block (f + 3) (f + 1)) * N = mul-le (size (averaging_block (f + 3) (f + 1))) 129 (size (averaging_block (f + 3) (f + 1))) N (omega arith) enough in omega (arith, all))
+            (Ends-more (Leaves P r) Never (Raises r) (average_most (total sum) n) (size (averaging_block (f + 3) (f + 1)) * N) (meaning most fuel (averaging_block (f + 3) (f + 1)) s4) (let all : size (averaging_block (f + 3) (f + 1)) * 17 ≤ size (averaging_block (f + 3) (f + 1)) * N = mul-le (size (averaging_block (f + 3) (f + 1))) 17 (size (averaging_block (f + 3) (f + 1))) N (omega arith) enough in omega (arith, all, most-few (total sum) n))
             (avg_ends most fuel (f + 3) (f + 1) n (omega arith) s4 (total sum) wide count some small bound (omega (arith, room, many4)) turns))))
 
       -- the value that was chosen
@@ -253,7 +255,7 @@ module _ (most fuel k o e at f N : ℕ) (once : 1 ≤ N) (e_low : e < f) (s : Lo
   sums_get (v ∷ vs) count sum = some_gets (f + 1) (omega arith, omega arith) (suc (length vs)) count (λ z. omega (arith, z)) (sum_value (v ∷ vs)) (sum_known e at f)
       (λ says. sum_gets (f + 1) (omega arith, omega arith) (suc (length vs)) count says (v ∷ vs) sum (omega arith))
 
-  averages_get : 128 < fuel → 129 ≤ N → (vs : List Val) → length vs < 10 ^ 18 → HasCount (length vs) s.cells k from → HasSum vs s.cells k from → Gets true (average_value vs) (where_taken e at (f + 1) f (average_known e at f)) s
+  averages_get : 16 < fuel → 17 ≤ N → (vs : List Val) → length vs < 10 ^ 18 → HasCount (length vs) s.cells k from → HasSum vs s.cells k from → Gets true (average_value vs) (where_taken e at (f + 1) f (average_known e at f)) s
   averages_get turns enough [] small count sum = none_gets (f + 1) (omega arith, omega arith) 0 count refl (average_known e at f)
   averages_get turns enough (v ∷ vs) small count sum = some_gets (f + 1) (omega arith, omega arith) (suc (length vs)) count (λ z. omega (arith, z)) (average_value (v ∷ vs)) (average_known e at f)
       (λ says. average_gets (f + 1) (omega arith, omega arith) (suc (length vs)) count says (v ∷ vs) sum (omega arith) turns enough refl (omega arith) small (omega (arith, sum.bounded)))

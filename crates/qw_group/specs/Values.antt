@@ -45,12 +45,12 @@ value_type Max kd = chosen_type kd
 abbrev pub value_types : SetFunctionKind → Kind → List ValType
 value_types function kd = I32 ∷ value_type function kd ∷ I32 ∷ I32 ∷ I64 ∷ I64 ∷ I64 ∷ I32 ∷ []
 
--- what reading a value takes beside one: an average is divided bit by bit, in 128 turns
+-- what reading a value takes beside one: the low word of a long sum is divided in 16 turns, of four bits each
 abbrev pub read_units : SetFunctionKind → ℕ
 read_units CountRows = 0
 read_units Count = 0
 read_units Sum = 0
-read_units Avg = 128
+read_units Avg = 16
 read_units Min = 0
 read_units Max = 0
 

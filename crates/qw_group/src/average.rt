@@ -9,9 +9,9 @@ ghost use Rattle.qw_module.specs.declared.instruction.Relation.TheVariants.{Le, 
 ghost use Rattle.qw_group.specs.Wides.{i64};
 ghost use Rattle.qw_low.specs.Steps.{steps_of};
 ghost use Rattle.qw_group.specs.Sums.{Averages};
-ghost use Rattle.qw_group.specs.Inner.WideBlocks.{average_block, averaging_block, digit_block, opposite_128};
+ghost use Rattle.qw_group.specs.Inner.WideBlocks.{average_block, averaging_block, digit_block, digits_block, digit_turns, opposite_128};
 
-use crate::quotient::push_divide;
+use crate::quotient::push_quotient;
 use qw_low::block::Block;
 use qw_low::cell::Local;
 use qw_low::step::LowStep;
@@ -20,6 +20,9 @@ use qw_types::NoMemory;
 
 /// A quotient from here on has more than 18 digits with four more behind the point.
 const LONG: u64 = 100_000_000_000_000;
+
+/// A remainder of fewer values than these has room for four digits more.
+const FEW: u64 = 1_000_000_000_000_000;
 
 /// The greatest high word of a number that isn't below 0.
 const LAST_POSITIVE: u64 = 9_223_372_036_854_775_807;
@@ -44,12 +47,9 @@ pub(crate) fn push_average(block: &mut Block, f: Local, x: Local) -> Result<(), 
     ensures { OnOk result (block.new.code.items ≡ block.old.code.items ++ steps_of (averaging_block f x)) }
 {
     push_magnitude(block, f)?;
-    push_divide(block, f + 1, x)?;
+    push_quotient(block, f + 1, x)?;
     push_limit(block, f + 1)?;
-    push_digit(block, f + 1, x)?;
-    push_digit(block, f + 1, x)?;
-    push_digit(block, f + 1, x)?;
-    push_digit(block, f + 1, x)?;
+    push_digits(block, f + 1, x)?;
     push_sign(block, f)
 }
 
@@ -100,18 +100,61 @@ fn push_limit(block: &mut Block, n: Local) -> Result<(), NoMemory>
     Ok(())
 }
 
-/// Adds the steps of a digit more of a quotient.
-fn push_digit(block: &mut Block, n: Local, x: Local) -> Result<(), NoMemory>
+/// Adds the steps of four digits more of a quotient: all at once, unless the remainder has no room for them.
+fn push_digits(block: &mut Block, n: Local, x: Local) -> Result<(), NoMemory>
     requires { n < 2 ^ 32 - 3 }
-    ensures { OnOk result (block.new.code.items ≡ block.old.code.items ++ steps_of (digit_block n x)) }
+    ensures { OnOk result (block.new.code.items ≡ block.old.code.items ++ steps_of (digits_block n x)) }
+{
+    block.code.extend_from_slice(&[
+        LowStep::Op(Op::LocalGet(x)),
+        LowStep::Op(Op::Const(Const::I64(FEW))),
+        LowStep::Op(Op::Relation(ValType::I64, Relation::Lt(Sign::Unsigned))),
+        LowStep::If,
+    ])?;
+    push_digit(block, n, x, 10_000)?;
+    block.push(LowStep::Else)?;
+    push_digit_turns(block, n, x)?;
+    block.push(LowStep::End)
+}
+
+/// Adds the steps of four digits more, one by one.
+fn push_digit_turns(block: &mut Block, n: Local, x: Local) -> Result<(), NoMemory>
+    requires { n < 2 ^ 32 - 3 }
+    ensures { OnOk result (block.new.code.items ≡ block.old.code.items ++ steps_of (digit_turns n x)) }
+{
+    block.code.extend_from_slice(&[
+        LowStep::Op(Op::Const(Const::I32(4))),
+        LowStep::Op(Op::LocalSet(n + 3)),
+        LowStep::Op(Op::LocalGet(n + 3)),
+        LowStep::If,
+        LowStep::Loop,
+    ])?;
+    push_digit(block, n, x, 10)?;
+    block.code.extend_from_slice(&[
+        LowStep::Op(Op::LocalGet(n + 3)),
+        LowStep::Op(Op::Const(Const::I32(1))),
+        LowStep::Op(Op::Binary(ValType::I32, Binary::Sub)),
+        LowStep::Op(Op::LocalSet(n + 3)),
+        LowStep::Op(Op::LocalGet(n + 3)),
+        LowStep::Again,
+        LowStep::End,
+        LowStep::End,
+    ])?;
+    Ok(())
+}
+
+/// Adds the steps of a digit more of a quotient, to a base.
+fn push_digit(block: &mut Block, n: Local, x: Local, base: u64) -> Result<(), NoMemory>
+    requires { n < 2 ^ 32 - 3 }
+    ensures { OnOk result (block.new.code.items ≡ block.old.code.items ++ steps_of (digit_block n x base)) }
 {
     block.code.extend_from_slice(&[
         LowStep::Op(Op::LocalGet(n + 2)),
-        LowStep::Op(Op::Const(Const::I64(10))),
+        LowStep::Op(Op::Const(Const::I64(base))),
         LowStep::Op(Op::Binary(ValType::I64, Binary::Mul)),
         LowStep::Op(Op::LocalSet(n + 2)),
         LowStep::Op(Op::LocalGet(n)),
-        LowStep::Op(Op::Const(Const::I64(10))),
+        LowStep::Op(Op::Const(Const::I64(base))),
         LowStep::Op(Op::Binary(ValType::I64, Binary::Mul)),
         LowStep::Op(Op::LocalGet(n + 2)),
         LowStep::Op(Op::LocalGet(x)),

@@ -56,7 +56,7 @@ abbrev pub chosen_units : (place : ℕ) → List SetFunctionKind → List Val �
 chosen_units place [] row = 0
 chosen_units place (f ∷ functions) row = max (if chooses f then octets_at place row else 0) (chosen_units (place + 1) functions row)
 
--- what it takes at a group to read the values of its set functions: an average is divided bit by bit, in 128 turns
+-- what it takes at a group to read the values of its set functions: 128 units where one is an average, whose quotient takes at most 16 turns
 abbrev pub read_units : List SetFunctionKind → ℕ
 read_units functions = if list_any is_average functions then 128 else 0
 
