@@ -44,8 +44,8 @@ use Rattle.qw_compile_whole.proofs.GatheringPlaced.{End}
 use Rattle.qw_compile_whole.proofs.RunsInto.{AreFirstOf, Placed, course_counts, first_beginning, first_rows, into_ends, placed_within}
 
 -- the groups of the first rows stand there, and the local says how many may still come
-abbrev pub AreFirst : (T n : ℕ) → Cells → (base u : ℕ) → (s0 : LowState) → (group : Group) → (fields : List Field) → (budget limit z : ℕ) → (rows : List (List Val)) → LowState → Type 0
-AreFirst T n c base u s0 group fields budget limit z rows w = AreGathered T n c base u s0 group fields budget (take limit rows) w × (slice_get w.locals z ≡ Some (Number (limit - length rows)))
+abbrev pub AreFirst : (T n : ℕ) → Cells → (base u : ℕ) → (s0 : LowState) → (stoods : List Stood) → (group : Group) → (fields : List Field) → (budget limit z : ℕ) → (rows : List (List Val)) → LowState → Type 0
+AreFirst T n c base u s0 stoods group fields budget limit z rows w = AreGathered T n c base u s0 stoods group fields budget (take limit rows) w × (slice_get w.locals z ≡ Some (Number (limit - length rows)))
 
 module _ (T n : ℕ) (columns : List ReadColumn) (literals : List Known) (contents : List (List (List Val))) (c : Cells) (base u most fuel N many : ℕ) (types : List ValType) (s0 : LowState) (grounds : Grounds T n columns literals c base u fuel N many types s0) where
   -- ---- before the scan it may be set
@@ -96,7 +96,7 @@ module _ (T n : ℕ) (columns : List ReadColumn) (literals : List Known) (conten
     fed = fed_over contents stoods p
 
     abbrev First : LowState → Type 0
-    First = AreFirst T n c base u s0 group fields budget limit z fed.rows
+    First = AreFirst T n c base u s0 stoods group fields budget limit z fed.rows
 
     q : Suits group fields u most (budget + u + 4096) r.entries r.chosen (AreFirstOf limit fed.rows)
     q = suits group fields u most budget r.entries r.chosen fed.rows can field_kinds (AreFirstOf limit fed.rows) (first_beginning limit fed.rows) (λ xs may some. (let few = may.1 in omega (arith, few, few_limit)))
@@ -112,13 +112,13 @@ module _ (T n : ℕ) (columns : List ReadColumn) (literals : List Known) (conten
         let front : ℕ = pos between.part between.offset in
         let all : (part offset : ℕ) → Sink = into_groups c group fields u before (AreFirstOf limit fed.rows) q.first in
         into_ends T n columns literals contents c base u most fuel N many types s0 grounds stoods room_T p group.values is_select (turn_of group r.entries r.chosen) (End (Some z) fields group) course next own behind room is own_types source r.finds r.cost
-        d (omega (arith, number_is)) (omega (arith, number_is, room_T)) (λ k o. limit_of limit z (all k o)) (λ k o at wide low. low) (λ k o. first_rows limit fed.rows)
+        d (omega (arith, number_is)) (omega (arith, number_is, room_T)) (λ k o. limit_of limit z (all k o)) [] (λ k o at wide low. low) (λ k o. first_rows limit fed.rows)
         (λ k o seen tables. (
           first_grouped_runs c stoods (rows_left T) (omega (arith, room_T)) most fuel many types group can fields k o u before r.entries r.chosen (AreFirstOf limit fed.rows) q.first (omega (arith, number_is, room_T)) q.small q.few_rows q.chosen_within q.enough q.met seen tables limit z counted place free_is left_is z_is directory_is,
           row_guarded c stoods (rows_left T) (omega (arith, room_T)) most fuel many types group can fields k o u before r.entries r.chosen (AreFirstOf limit fed.rows) q.first (omega (arith, number_is, room_T)) q.small q.few_rows q.chosen_within q.enough q.met seen tables limit z counted place free_is left_is z_is directory_is,
         ))
-        budget s between First (λ k o after w has keeps. (record { part = k; offset = o; behind = after; has = has.has; keeps = keeps }, has.left)) (directory_block d) 26 (omega arith)
-        (Ends-weaker 26 26 (Placed d front all s) (Placed d front (λ k o. limit_of limit z (all k o)) s) Never Never IsRefusal IsRefusal (meaning most fuel (directory_block d) s) (omega arith)
+        front between.behind between.fronts s between.stand between.keeps First (λ k o after first w has keeps stand. (record { part = k; offset = o; behind = after; has = has.has; keeps = keeps; fronts = first; stand = stand }, has.left)) (directory_block d) 26 (omega arith)
+        (Ends-weaker 26 26 (Placed d front all [] s) (Placed d front (λ k o. limit_of limit z (all k o)) [] s) Never Never IsRefusal IsRefusal (meaning most fuel (directory_block d) s) (omega arith)
         (λ t begun. placed_within d front all s t limit z place.0 (omega (arith, place.1)) holds begun) (λ t x. x) (λ code x. x)
         (groups_placed c u most fuel group fields (AreFirstOf limit fed.rows) q.first budget s between.part between.offset between.room between.paid grounds.u_low (omega (arith, number_is, room_T, known, own_known, between.keeps.many)) (omega (arith, paid_for))))
 

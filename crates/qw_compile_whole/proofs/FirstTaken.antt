@@ -58,7 +58,7 @@ module _ (T n : ℕ) (columns : List ReadColumn) (literals : List Known) (conten
 
   -- the areas have taken the first rows, and the local says how many may still come
   abbrev First : LowState → Type 0
-  First w = AreTaken T n c base u s0 group fields budget (take limit fed.rows) w × (slice_get w.locals z ≡ Some (Number (limit - length fed.rows)))
+  First w = AreTaken T n c base u s0 stoods group fields budget (take limit fed.rows) w × (slice_get w.locals z ≡ Some (Number (limit - length fed.rows)))
 
   few_rows : (xs : List (List Val)) → May xs → 1 ≤ length group.functions → length xs ≤ 10 ^ 18
   few_rows xs may some = let few = may.1 in omega (arith, few, few_limit)
@@ -76,13 +76,13 @@ module _ (T n : ℕ) (columns : List ReadColumn) (literals : List Known) (conten
       let begins : Statement = single_block (32 * length (over_fields group.functions fields)) d in
       let all : (part offset : ℕ) → Sink = into_areas c group fields u budget May (first_beginning limit fed.rows) in
       into_ends T n columns literals contents c base u most fuel N many types s0 grounds stoods room_T p group.values is_select r.chosen (End (Some z) fields group) course next own behind room is own_types source r.finds r.cost
-      d (omega (arith, number_is)) (omega (arith, number_is, room_T)) (λ k o. limit_of limit z (all k o)) (λ k o at wide low. low) (λ k o. first_rows limit fed.rows)
+      d (omega (arith, number_is)) (omega (arith, number_is, room_T)) (λ k o. limit_of limit z (all k o)) [] (λ k o at wide low. low) (λ k o. first_rows limit fed.rows)
       (λ k o seen tables. (
         first_taken_runs c stoods (rows_left T) (omega (arith, room_T)) most fuel many types group can none fields k o u held r.chosen May (first_beginning limit fed.rows) (omega (arith, number_is, room_T)) few_rows r.compared seen tables limit z counted place free_is left_is z_is directory_is,
         row_first_taken c stoods (rows_left T) (omega (arith, room_T)) most fuel many types group can none fields k o u held r.chosen May (first_beginning limit fed.rows) (omega (arith, number_is, room_T)) few_rows r.compared seen tables limit z counted place free_is left_is z_is directory_is,
       ))
-      budget s between First (λ k o after w has keeps. (record { part = k; offset = o; behind = after; has = has.has; keeps = keeps }, has.left)) begins 26 (omega arith)
-      (Ends-weaker 26 26 (Placed d front all s) (Placed d front (λ k o. limit_of limit z (all k o)) s) Never Never IsRefusal IsRefusal (meaning most fuel begins s) (omega arith)
+      front between.behind between.fronts s between.stand between.keeps First (λ k o after before w has keeps stand. (record { part = k; offset = o; behind = after; has = has.has; keeps = keeps; fronts = before; stand = stand }, has.left)) begins 26 (omega arith)
+      (Ends-weaker 26 26 (Placed d front all [] s) (Placed d front (λ k o. limit_of limit z (all k o)) [] s) Never Never IsRefusal IsRefusal (meaning most fuel begins s) (omega arith)
       (λ t begun. placed_within d front all s t limit z place.0 (omega (arith, place.1)) holds begun) (λ t x. x) (λ code x. x)
       (areas_placed c u most fuel group fields May (first_beginning limit fed.rows) budget s between.part between.offset between.room between.paid (areas_long group fields can none field_kinds) (omega (arith, number_is, room_T, known, own_known, between.keeps.many)) r.fits r.enough))
 

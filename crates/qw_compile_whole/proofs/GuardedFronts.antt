@@ -48,7 +48,7 @@ module _ (S : Setting) (Told : ℕ → Type 0) (j : Joins S Told) (t : LowState)
   budget = j.budget (length j.building)
 
   abbrev pub GatheredBy : Group → List Field → Pipeline → LowState → Type 0
-  GatheredBy group fields gathering w = AreGathered T (n S) (c S) (base S) u h.s0 group fields (j.budget (length j.building)) (rows_met tables h.stoods gathering) w × ((fed_over tables h.stoods gathering).codes ≡ [])
+  GatheredBy group fields gathering w = AreGathered T (n S) (c S) (base S) u h.s0 h.stoods group fields (j.budget (length j.building)) (rows_met tables h.stoods gathering) w × ((fed_over tables h.stoods gathering).codes ≡ [])
 
   ground : GroundsAt S h.s0
   ground = grounds S h.s0 h.begun
@@ -80,7 +80,7 @@ module _ (S : Setting) (Told : ℕ → Type 0) (j : Joins S Told) (t : LowState)
     z_is : slice_get (types S) z ≡ Some I64
     z_is = subst (λ (k : ℕ). slice_get (types S) k ≡ Some I64) (sym is) refl
 
-    scans : Ends (size scan * N) (λ w. AreFirst T (n S) (c S) (base S) u h.s0 g.group g.fields budget top z (rows_met tables h.stoods g.gathering) w × ((fed_over tables h.stoods g.gathering).codes ≡ [])) Never (Tells (fed_over tables h.stoods g.gathering).codes) (meaning most N scan put)
+    scans : Ends (size scan * N) (λ w. AreFirst T (n S) (c S) (base S) u h.s0 h.stoods g.group g.fields budget top z (rows_met tables h.stoods g.gathering) w × ((fed_over tables h.stoods g.gathering).codes ≡ [])) Never (Tells (fed_over tables h.stoods g.gathering).codes) (meaning most N scan put)
     scans =
         first_ends T (n S) columns (literals S) tables (c S) (base S) u most N N (many S) (types S) h.s0 ground table_of h.stoods g.gathering g.group g.is_select can number stood_T g.fields g.field_kinds g.gathers (own_first S + length j.builds_own) g.own (omega arith) g.room top z counted_top few_top
         g.is g.types_are (source_of S h.s0 h.begun g.gathering r.table_is r.has_column) budget r place refl refl z_is in_types put
@@ -88,7 +88,7 @@ module _ (S : Setting) (Told : ℕ → Type 0) (j : Joins S Told) (t : LowState)
         (slice_get-set_same t.locals z (Number top) low)
 
     abbrev AreIn : List (List Val) → LowState → Type 0
-    AreIn rows w = AreGathered T (n S) (c S) (base S) u h.s0 g.group g.fields (j.budget (length j.building)) rows w
+    AreIn rows w = AreGathered T (n S) (c S) (base S) u h.s0 h.stoods g.group g.fields (j.budget (length j.building)) rows w
 
     pub gathers_few : length (rows_met tables h.stoods g.gathering) < top → Ends (size (counted top z scan) * N) (GatheredBy g.group g.fields g.gathering) Never Told (meaning most N (counted top z scan) t)
     gathers_few fewer = counted_few most N top z S.some scan t low AreIn (fed_over tables h.stoods g.gathering) Told told scans fewer

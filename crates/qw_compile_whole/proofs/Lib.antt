@@ -54,6 +54,7 @@ pub mod MadeOne
 mod OnceCounted
 pub mod OneDistinct
 pub mod RunsInto
+pub mod SeenBehind
 pub mod ScanPlaced
 mod ShortDistinct
 mod StatementParts
@@ -68,6 +69,7 @@ pub mod SingleEnds
 mod SingleKept
 mod StatementAround
 pub mod Taken
+pub mod WalkFed
 pub mod Walked
 pub mod WalkedInto
 mod WhichCounted

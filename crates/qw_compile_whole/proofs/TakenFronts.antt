@@ -37,7 +37,7 @@ module _ (S : Setting) (Told : ℕ → Type 0) (j : Joins S Told) (t : LowState)
   open S use {T, columns, tables, table_of, most, N, u}
 
   abbrev pub TakenBy : Group → List Field → Pipeline → LowState → Type 0
-  TakenBy group fields gathering w = AreTaken T (n S) (c S) (base S) u h.s0 group fields (j.budget (length j.building)) (rows_met tables h.stoods gathering) w × ((fed_over tables h.stoods gathering).codes ≡ [])
+  TakenBy group fields gathering w = AreTaken T (n S) (c S) (base S) u h.s0 h.stoods group fields (j.budget (length j.building)) (rows_met tables h.stoods gathering) w × ((fed_over tables h.stoods gathering).codes ≡ [])
 
   ground : GroundsAt S h.s0
   ground = grounds S h.s0 h.begun
@@ -81,7 +81,7 @@ module _ (S : Setting) (Told : ℕ → Type 0) (j : Joins S Told) (t : LowState)
     low = local_low S Told j (IsTakingBy (Some 4)) g t h 4 (omega arith)
 
     abbrev AreIn : List (List Val) → LowState → Type 0
-    AreIn rows w = AreTaken T (n S) (c S) (base S) u h.s0 g.group g.fields (j.budget (length j.building)) rows w
+    AreIn rows w = AreTaken T (n S) (c S) (base S) u h.s0 h.stoods g.group g.fields (j.budget (length j.building)) rows w
 
     abbrev Mid : LowState → Type 0
     Mid w = (AreIn (take top (rows_met tables h.stoods g.gathering)) w × (slice_get w.locals 4 ≡ Some (Number (top - length (rows_met tables h.stoods g.gathering))))) × ((fed_over tables h.stoods g.gathering).codes ≡ [])
