@@ -1,21 +1,19 @@
--- The run of a pipeline whose rows go into groups (ISO/IEC 9075:1992, 7.7): behind the tables of joins stands the table of its rows' groups.
-use Rattle.std.proofs.Common.{◌≡◌, ℕ, append-nil, ◌+◌, ◌*◌, ◌^◌, ◌<◌, ◌≤◌, drop, List, [], ◌++◌, length, map, sym, ◌∙◌, subst, arith}
+-- A table of groups as what takes the rows of a pipeline (ISO/IEC 9075:1992, 7.7): it is placed behind the tables of joins, and then has the groups of the rows.
+use Rattle.std.proofs.Common.{◌≡◌, ℕ, ◌+◌, ◌*◌, ◌^◌, ◌<◌, ◌≤◌, drop, List, [], ◌++◌, length, map, sym, ◌∙◌, subst, arith}
 use Rattle.std.proofs.lemmas.List.{length-take-le}
 use Rattle.std.proofs.lemmas.Nat.{mul-le}
 use Rattle.qw_linear.specs.Memory.{page}
 use Rattle.qw_module.specs.declared.instruction.ValType.{ValType}
 use Rattle.qw_types.specs.declared.value.Val.{Val}
 use Rattle.qw_scalar.specs.Typing.{kind_of}
-use Rattle.qw_meaning.specs.Flow.{Flow}
 use Rattle.qw_grouped.specs.Groups.{key_of, keys}
 use Rattle.qw_layout.specs.Hash.{slot}
 use Rattle.qw_low.specs.State.{Cells, LowState}
 use Rattle.qw_low.specs.Meaning.{meaning}
 use Rattle.qw_low.specs.Promise.{Ends}
-use Rattle.qw_low.specs.Size.{size}
 use Rattle.qw_low.proofs.Promises.{Ends-weaker}
 use Rattle.qw_feed.specs.Cells.{kinds_of}
-use Rattle.qw_feed.specs.Feeds.{Sink, Tells}
+use Rattle.qw_feed.specs.Feeds.{Sink}
 use Rattle.qw_feed.specs.Frames.{pos, Before, Keeps}
 use Rattle.qw_feed.specs.Room.{HasRoom, Paid}
 use Rattle.qw_feed.proofs.Frames.{Never}
@@ -27,11 +25,8 @@ use Rattle.qw_group.specs.Groups.{AreChosenWithin, HasGroup, HasGroups, group_si
 use Rattle.qw_group.specs.declared.group.Aggregate.{Aggregate}
 use Rattle.qw_group.proofs.BegunGroups.{groups_begun}
 use Rattle.qw_group.proofs.WalkRuns.{StandGroups, standing}
-use Rattle.qw_expr.specs.Computes.{Known}
-use Rattle.qw_physical.specs.Physical.{Pipeline, select}
-use Rattle.qw_physical.specs.declared.pipeline.ReadColumn.{ReadColumn}
+use Rattle.qw_physical.specs.Physical.{select}
 use Rattle.qw_operator.specs.Carries.{directory}
-use Rattle.qw_operator.proofs.Promised.{AreOwn}
 use Rattle.qw_operator.proofs.Seen.{StandsIn}
 use Rattle.qw_operator.proofs.Stood.{AllStand, Stood}
 use Rattle.qw_operator.specs.Grouping.{CanGroup, Group, IsGrouped, aggregates_of, key_fields, turn_of}
@@ -39,15 +34,12 @@ use Rattle.qw_operator.proofs.GroupSunk.{HasRows, collecting_sink}
 use Rattle.qw_operator.proofs.GroupedFeeds.{grouped_runs, row_grouped}
 use Rattle.qw_operator.proofs.OperatorsFeed.{FeedsEnd}
 use Rattle.qw_operator.proofs.Filters.{Runs}
-use Rattle.qw_compile.specs.QueryLocals.{own_start, query_readers, rows_left}
-use Rattle.qw_compile.specs.Statements.{Course, build_block}
-use Rattle.qw_compile.proofs.PipelineRuns.{Between, Grounds, Source, Steady, fed_over}
+use Rattle.qw_compile.specs.QueryLocals.{rows_left}
+use Rattle.qw_compile.proofs.PipelineRuns.{Steady}
 use Rattle.qw_compile.proofs.TableBegins.{Begun, empty_table, table_begins}
-use Rattle.qw_compile_whole.specs.GroupedStatements.{IsGathering}
-use Rattle.qw_compile_whole.proofs.Beginnings.{IsBeginning, beginning_few, beginning_first, keys_fewer, slot_fewer}
 use Rattle.qw_compile_whole.proofs.FieldCounts.{dropped_many, fields_long, over_many}
-use Rattle.qw_compile_whole.proofs.GroupBounded.{GatherReach, group_width, groups_paid}
-use Rattle.qw_compile_whole.proofs.RunsInto.{Placed, into_ends, SeenBefore, TablesBefore}
+use Rattle.qw_compile_whole.proofs.GroupBounded.{group_width, groups_paid}
+use Rattle.qw_compile_whole.proofs.RunsInto.{Placed, SeenBefore, TablesBefore}
 use Rattle.qw_compile_whole.proofs.SeenBehind.{StandBetween}
 
 -- ---- where the fields of a table of groups are
@@ -161,30 +153,3 @@ groups_take c T stoods few_tables most fuel many types group can low fields u be
   grouped_runs c stoods (rows_left T) (omega (arith, few_tables)) most fuel many types group can fields k o u before entries chosen May q.first (omega (arith, low)) q.small q.few_rows q.chosen_within q.enough q.met seen tables,
   row_grouped c stoods (rows_left T) (omega (arith, few_tables)) most fuel many types group can fields k o u before entries chosen May q.first (omega (arith, low)) q.small q.few_rows q.chosen_within q.enough q.met seen tables,
 )
-
--- ---- all rows go into it
-module _ (T n : ℕ) (columns : List ReadColumn) (literals : List Known) (contents : List (List (List Val))) (c : Cells) (base u most fuel N many : ℕ) (types : List ValType) (s0 : LowState) (grounds : Grounds T n columns literals c base u fuel N many types s0)
-    (table_of : ℕ → ℕ) (stoods : List Stood) (p : Pipeline) (group : Group) (is_select : p.sink ≡ select group.values) (can : CanGroup group) (number_is : group.table ≡ length stoods) (room_T : length stoods < T) (fields : List Field) (field_kinds : kinds_of (sources_of fields) ≡ map kind_of group.values)
-    (course : Course) (next : ℕ) (own : List ValType) (behind : own_start T n (length columns) ≤ next) (room : next + length own ≤ many) (is : IsGathering literals (query_readers T n columns) next p group fields course own) (own_types : AreOwn types next own)
-    (source : Source T n columns contents s0 p) (budget : ℕ) (r : GatherReach T n columns literals contents u most N table_of group stoods p budget) where
-  abbrev fed : Flow (List Val)
-  fed = fed_over contents stoods p
-
-  abbrev Gathered : LowState → Type 0
-  Gathered = AreGathered T n c base u s0 stoods group fields budget fed.rows
-
-  q : Suits group fields u most (budget + u + 4096) r.entries r.chosen (IsBeginning fed.rows)
-  q = suits group fields u most budget r.entries r.chosen fed.rows can field_kinds (IsBeginning fed.rows) (beginning_first fed.rows) (λ xs may some. (let fewer = beginning_few fed.rows xs may in let few = r.few some in omega (arith, fewer, few)))
-      r.compared (keys_fewer group.columns fed.rows) (λ j xs may. slot_fewer j group.columns fed.rows xs may) r.met r.fits r.enough
-
-  pub gather_ends : (s : LowState) → Between T n c base u s0 stoods budget s → Ends (size (build_block T group.table course) * N) (λ w. Gathered w × (fed.codes ≡ [])) Never (Tells fed.codes) (meaning most fuel (build_block T group.table course) s)
-  gather_ends s between =
-      let known = grounds.long in
-      let own_known = grounds.first_own in
-      let paid_for = r.enough in
-      let before : ℕ = budget + u + 4096 in
-      into_ends T n columns literals contents c base u most fuel N many types s0 grounds stoods room_T p group.values is_select (turn_of group r.entries r.chosen) (λ known at a more. IsGrouped fields known at group a more) course next own behind room is own_types source r.finds r.cost
-      (directory group.table) (omega (arith, number_is)) (omega (arith, number_is, room_T)) (into_groups c group fields u before (IsBeginning fed.rows) q.first) [] (λ k o at wide low. low) (λ k o. ([], append-nil fed.rows))
-      (groups_take c T stoods (omega (arith, room_T)) most fuel many types group can (omega (arith, number_is, room_T)) fields u before r.entries r.chosen (IsBeginning fed.rows) q)
-      (pos between.part between.offset) between.behind between.fronts s between.stand between.keeps Gathered (λ k o after before w has keeps stand. record { part = k; offset = o; behind = after; has = has; keeps = keeps; fronts = before; stand = stand }) (directory_block (directory group.table)) 26 (omega arith)
-      (groups_placed c u most fuel group fields (IsBeginning fed.rows) q.first budget s between.part between.offset between.room between.paid grounds.u_low (omega (arith, number_is, room_T, known, own_known, between.keeps.many)) (omega (arith, paid_for)))

@@ -14,7 +14,6 @@ pub mod EnterPlacing
 pub mod EnterStands
 mod Finishes
 pub mod FirstBounded
-pub mod FirstGathered
 pub mod FoldedBehind
 pub mod FoldedUnits
 pub mod FrontCopies
@@ -56,6 +55,7 @@ pub mod OneDistinct
 pub mod RunsInto
 pub mod SeenBehind
 pub mod ScanPlaced
+pub mod ScanRuns
 mod ShortDistinct
 mod StatementParts
 pub mod ShortGrouped
@@ -80,7 +80,6 @@ mod WholeKept
 mod WholeOnce
 pub mod Widened
 pub mod FieldCounts
-pub mod FirstTaken
 pub mod FirstTakenBounded
 pub mod TakenFronts
 pub mod SinglePlacing
