@@ -1,6 +1,6 @@
 -- The scan of a statement whose rows go into something that is placed behind the tables of joins, as groups and the areas of set functions are; a local may count
 -- its rows down.
-use Rattle.std.proofs.Common.{◌≡◌, ℕ, ◌+◌, ◌-◌, ◌*◌, ◌≤◌, Some, List, [], length, slice_get, slice_set, ◌∙◌, arith, refl, ⊎_elim, ◌⊎◌}
+use Rattle.std.proofs.Common.{◌≡◌, ℕ, ◌+◌, ◌*◌, ◌≤◌, Some, List, [], length, slice_get, slice_set, ◌∙◌, arith, refl, ⊎_elim}
 use Rattle.qw_module.specs.declared.instruction.ValType.{ValType}
 use Rattle.qw_module.specs.declared.instruction.ValType.TheVariants.{I64}
 use Rattle.qw_types.specs.declared.value.Val.{Val}

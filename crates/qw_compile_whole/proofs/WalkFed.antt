@@ -38,7 +38,7 @@ use Rattle.qw_group.proofs.WalkRuns.{StandGroups}
 use Rattle.qw_expr.specs.Computes.{Known}
 use Rattle.qw_expr.specs.Cells.{DeclaresValue}
 use Rattle.qw_read.specs.Reading.{known_of}
-use Rattle.qw_physical.specs.Courses.{cost, fed}
+use Rattle.qw_physical.specs.Courses.{fed}
 use Rattle.qw_physical.specs.Physical.{filter, select, Operator}
 use Rattle.qw_physical.specs.declared.pipeline.ReadColumn.{ReadColumn}
 use Rattle.qw_physical.proofs.Orders.{Alike}
