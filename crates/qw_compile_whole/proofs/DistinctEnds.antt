@@ -4,9 +4,9 @@ use Rattle.std.proofs.Common.{◌≡◌, ℕ, ◌+◌, ◌*◌, ◌^◌, ◌<◌
 use Rattle.std.specs.List.Sorted.{IsPermutation}
 use Rattle.std.proofs.lemmas.List.Sorted.{length_permutation}
 use Rattle.std.proofs.Math.Nat.{add-mul}
+use Rattle.qw_module.specs.declared.instruction.ValType.{ValType}
 use Rattle.qw_types.specs.declared.kind.Kind.{Kind}
 use Rattle.qw_types.specs.declared.value.Val.{Val}
-use Rattle.qw_module.specs.declared.instruction.ValType.{ValType}
 use Rattle.qw_scalar.specs.Typing.{kind_of}
 use Rattle.qw_grouped.specs.Grouped.{Grouped}
 use Rattle.qw_map.specs.Layout.{Layout}
@@ -29,15 +29,15 @@ use Rattle.qw_physical.specs.declared.pipeline.ReadColumn.{ReadColumn}
 use Rattle.qw_operator.specs.Carries.{directory}
 use Rattle.qw_operator.proofs.Promised.{AreOwn}
 use Rattle.qw_operator.proofs.Stood.{Stood}
-use Rattle.qw_emit.proofs.ModuleCompiled.{Settled}
 use Rattle.qw_operator.specs.Grouping.{Group}
 use Rattle.qw_group_pipeline.specs.Groups.{Grouping, InEnd, IsGroupPipeline, IsGroupPipelineTo}
 use Rattle.qw_group_pipeline.specs.declared.columns.ValueColumn.{ValueColumn}
+use Rattle.qw_emit.proofs.ModuleCompiled.{Settled}
 use Rattle.qw_compile.proofs.PipelineRuns.{AreStood, fed_over}
 use Rattle.qw_compile.proofs.QueryRuns.{Joined, Joins, Setting, around, base, both_end, c, first, grounds, joins_then, literals, many, n, own_first, types}
 use Rattle.qw_compile_whole.specs.GuardedStatements.{IsGatheringBy, gather_block}
 use Rattle.qw_compile_whole.proofs.EnterBounded.{EnterReach}
-use Rattle.qw_compile_whole.proofs.FrontEnds.{Collects, HasSettled, settle_ends}
+use Rattle.qw_compile_whole.proofs.FrontEnds.{Collects, HasSettled, settle_ends, number_is, stood_low}
 use Rattle.qw_compile_whole.proofs.GroupBounded.{GatherReach, GoTogether, WalkReach, groups_paid, rows_met, walked_of}
 use Rattle.qw_compile_whole.proofs.GuardedFronts.{GatheredBy, IsGuard, gathers_end}
 use Rattle.qw_compile_whole.proofs.Walked.{walk_then}
@@ -91,17 +91,19 @@ module _ (S : Setting) (Told : ℕ → Type 0) (j : Joins S Told) (guard : Optio
       let budget : ℕ = j.budget (length j.building) in
       let paid : ℕ = groups_paid u g.group budget rows in
       let first_T = g.room_T in
+      let low = stood_low S Told j (IsGatheringBy guard) g t h in
+      let number = number_is S Told j (IsGatheringBy guard) g t h in
       subst (λ (k : ℕ). Ends (26 + (size enters * N + (6 + (size walk * N + 12)))) Answered Never Told (meaning most N (seq (directory_block (directory k)) (seq enters (seq begin_block (seq walk finish_block)))) w)) into_is
       (enter_then T (n S) columns (literals S) tables (c S) (base S) u most N N (many S) (types S) h.s0 (grounds S h.s0 h.begun) query g.group key values together g.fields g.field_kinds into together_again.can into_fields into_kinds values_are first_T into_T (λ e. omega (arith, e, into_is))
       enters enter_first enters_own entered (omega arith) (omega (arith, walk_room)) enter_types
-      budget rows (gathered h.stoods h.are).few (enter_reach h.stoods h.are after.1) w after.0 Told (told_entered h.stoods h.are after.1) (λ code x. told_entered h.stoods h.are after.1 code (inl x)) (6 + (size walk * N + 12)) Answered (seq begin_block (seq walk finish_block))
+      budget rows (gathered h.stoods h.are).few (enter_reach h.stoods h.are after.1) h.stoods (omega (arith, low)) (omega (arith, number, into_is)) w after.0 Told (told_entered h.stoods h.are after.1) (λ code x. told_entered h.stoods h.are after.1 code (inl x)) (6 + (size walk * N + 12)) Answered (seq begin_block (seq walk finish_block))
       (λ v entry.
       let reach = walk_reach h.stoods h.are after.1 entry.none entry.made entry.same in
       let few_made = (enter_reach h.stoods h.are after.1).few in
       let count = length_permutation entry.made (walked_of query rows).rows entry.same in
       walk_then T (n S) columns (literals S) tables (c S) (base S) u most N N (many S) (types S) h.s0 (grounds S h.s0 h.begun) again into key_again values_again together_again into_fields into_kinds into_T walk (enter_first + length enters_own) walk_own
       (subst (λ (k : ℕ). IsGroupPipeline (literals S) (directory k) (enter_first + length enters_own) key_again values_again (filter again.having ∷ []) (select again.items) walk walk_own) (sym into_is) walked) (omega arith) walk_room walk_types
-      paid entry.made (λ some'. let all = few_made some' in omega (arith, all, count)) reach v entry.gathered Told (told_walked h.stoods h.are after.1 entry.none entry.made entry.same) 12 Answered finish_block
+      paid entry.made (λ some'. let all = few_made some' in omega (arith, all, count)) reach h.stoods (omega (arith, low)) v entry.gathered Told (told_walked h.stoods h.are after.1 entry.none entry.made entry.same) 12 Answered finish_block
       (λ w' done. Ends-weaker 12 12 (HasSettled layout tables again entry.made) Answered Never Never Told Told (meaning most N finish_block w') (omega arith)
       (λ x left. record { stoods = h.stoods; are = h.are; none = after.1; none_behind = entry.none; made = entry.made; made_same = entry.same; none_again = left.none; settled = left.settled; rows = left.same }) (λ x y. y) (λ code x. x)
       (settle_ends S Told j h.s0 h.begun again kinds_are reach.fits (groups_paid u into paid entry.made) entry.made w' done))))

@@ -1,50 +1,46 @@
--- The run of a pipeline whose rows go into groups (ISO/IEC 9075:1992, 7.7): behind the tables of joins stands the table of its rows' groups.
-use Rattle.std.proofs.Common.{◌≡◌, ℕ, append-nil, ◌+◌, ◌*◌, ◌^◌, ◌<◌, ◌≤◌, drop, List, [], ◌++◌, length, map, sym, ◌∙◌, subst, arith}
+-- A table of groups as what takes the rows of a pipeline (ISO/IEC 9075:1992, 7.7): it is placed behind the tables of joins, and then has the groups of the rows.
+use Rattle.std.proofs.Common.{◌≡◌, ℕ, ◌+◌, ◌*◌, ◌^◌, ◌<◌, ◌≤◌, drop, List, [], ◌++◌, length, map, sym, ◌∙◌, subst, arith}
 use Rattle.std.proofs.lemmas.List.{length-take-le}
 use Rattle.std.proofs.lemmas.Nat.{mul-le}
-use Rattle.qw_types.specs.declared.value.Val.{Val}
 use Rattle.qw_linear.specs.Memory.{page}
-use Rattle.qw_layout.specs.Hash.{slot}
 use Rattle.qw_module.specs.declared.instruction.ValType.{ValType}
+use Rattle.qw_types.specs.declared.value.Val.{Val}
 use Rattle.qw_scalar.specs.Typing.{kind_of}
-use Rattle.qw_meaning.specs.Flow.{Flow}
 use Rattle.qw_grouped.specs.Groups.{key_of, keys}
+use Rattle.qw_layout.specs.Hash.{slot}
 use Rattle.qw_low.specs.State.{Cells, LowState}
 use Rattle.qw_low.specs.Meaning.{meaning}
 use Rattle.qw_low.specs.Promise.{Ends}
-use Rattle.qw_low.specs.Size.{size}
 use Rattle.qw_low.proofs.Promises.{Ends-weaker}
 use Rattle.qw_feed.specs.Cells.{kinds_of}
-use Rattle.qw_feed.specs.Feeds.{Sink, Tells}
+use Rattle.qw_feed.specs.Feeds.{Sink}
 use Rattle.qw_feed.specs.Frames.{pos, Before, Keeps}
 use Rattle.qw_feed.specs.Room.{HasRoom, Paid}
 use Rattle.qw_feed.proofs.Frames.{Never}
 use Rattle.qw_feed.proofs.RoomRuns.{IsRefusal}
-use Rattle.qw_expr.specs.Computes.{Known}
 use Rattle.qw_table.specs.Joins.{sources_of}
 use Rattle.qw_table.specs.Tables.{directory_block, in_slot}
 use Rattle.qw_table.specs.declared.key.Field.{Field}
 use Rattle.qw_group.specs.Groups.{AreChosenWithin, HasGroup, HasGroups, group_size}
 use Rattle.qw_group.specs.declared.group.Aggregate.{Aggregate}
 use Rattle.qw_group.proofs.BegunGroups.{groups_begun}
-use Rattle.qw_physical.specs.Physical.{Pipeline, select}
-use Rattle.qw_physical.specs.declared.pipeline.ReadColumn.{ReadColumn}
+use Rattle.qw_group.proofs.WalkRuns.{StandGroups, standing}
+use Rattle.qw_physical.specs.Physical.{select}
 use Rattle.qw_operator.specs.Carries.{directory}
-use Rattle.qw_operator.proofs.Promised.{AreOwn}
 use Rattle.qw_operator.proofs.Seen.{StandsIn}
-use Rattle.qw_operator.proofs.Stood.{Stood}
+use Rattle.qw_operator.proofs.Stood.{AllStand, Stood}
 use Rattle.qw_operator.specs.Grouping.{CanGroup, Group, IsGrouped, aggregates_of, key_fields, turn_of}
 use Rattle.qw_operator.proofs.GroupSunk.{HasRows, collecting_sink}
 use Rattle.qw_operator.proofs.GroupedFeeds.{grouped_runs, row_grouped}
-use Rattle.qw_compile.specs.QueryLocals.{own_start, query_readers, rows_left}
-use Rattle.qw_compile.specs.Statements.{Course, build_block}
-use Rattle.qw_compile.proofs.PipelineRuns.{Between, Grounds, Source, Steady, fed_over}
+use Rattle.qw_operator.proofs.OperatorsFeed.{FeedsEnd}
+use Rattle.qw_operator.proofs.Filters.{Runs}
+use Rattle.qw_compile.specs.QueryLocals.{rows_left}
+use Rattle.qw_compile.proofs.PipelineRuns.{Steady}
 use Rattle.qw_compile.proofs.TableBegins.{Begun, empty_table, table_begins}
-use Rattle.qw_compile_whole.specs.GroupedStatements.{IsGathering}
-use Rattle.qw_compile_whole.proofs.Beginnings.{IsBeginning, beginning_few, beginning_first, keys_fewer, slot_fewer}
 use Rattle.qw_compile_whole.proofs.FieldCounts.{dropped_many, fields_long, over_many}
-use Rattle.qw_compile_whole.proofs.GroupBounded.{GatherReach, group_width, groups_paid}
-use Rattle.qw_compile_whole.proofs.RunsInto.{Placed, into_ends}
+use Rattle.qw_compile_whole.proofs.GroupBounded.{group_width, groups_paid}
+use Rattle.qw_compile_whole.proofs.RunsInto.{Placed, SeenBefore, TablesBefore}
+use Rattle.qw_compile_whole.proofs.SeenBehind.{StandBetween}
 
 -- ---- where the fields of a table of groups are
 pub key_long : (group : Group) (fields : List Field) → CanGroup group → kinds_of (sources_of fields) ≡ map kind_of group.values → length (key_fields group fields) ≡ group.columns
@@ -57,17 +53,35 @@ pub width_is : (group : Group) (fields : List Field) → CanGroup group → kind
 width_is group fields can kinds = let one = key_long group fields can kinds in let two = aggregates_long group fields can kinds in omega (arith, one, two)
 
 -- ---- the groups of rows stand behind the tables of joins
-pub record AreGathered (T n : ℕ) (c : Cells) (base u : ℕ) (s0 : LowState) (group : Group) (fields : List Field) (budget : ℕ) (rows : List (List Val)) (s : LowState) : Type 0 where
+pub record AreGathered (T n : ℕ) (c : Cells) (base u : ℕ) (s0 : LowState) (stoods : List Stood) (group : Group) (fields : List Field) (budget : ℕ) (rows : List (List Val)) (s : LowState) : Type 0 where
   pub part : ℕ
   pub offset : ℕ
   pub behind : base ≤ pos part offset
   pub has : HasGroups (length (key_fields group fields)) (HasGroup (StandsIn c s) (key_fields group fields) (aggregates_of group fields)) (group_size (key_fields group fields) (aggregates_of group fields)) part offset (directory group.table) u (budget + u + 4096) rows s
   pub keeps : Keeps (Steady T n) (Before base) s0 s
+  pub fronts : StandBetween base (pos part offset) stoods
+  pub stand : AllStand c stoods s
+
+-- where the table is, and ends
+module _ (T n : ℕ) (c : Cells) (base u : ℕ) (s0 : LowState) (stoods : List Stood) (group : Group) (fields : List Field) (budget : ℕ) (rows : List (List Val)) (s : LowState) (h : AreGathered T n c base u s0 stoods group fields budget rows s) where
+  pub table_before : pos h.part h.offset + 4096 ≤ pos h.has.part h.has.offset
+  table_before = let directory_before = h.has.directory.behind in omega (arith, directory_before)
+
+  pub groups_behind : base ≤ pos h.has.part h.has.offset
+  groups_behind = let before = table_before in omega (arith, before, h.behind)
+
+  pub gathered_groups : StandGroups (length (key_fields group fields)) (HasGroup (StandsIn c s) (key_fields group fields) (aggregates_of group fields)) (group_size (key_fields group fields) (aggregates_of group fields)) h.part h.offset (directory group.table) (pos h.has.part h.has.offset) rows s
+  gathered_groups =
+      standing (length (key_fields group fields)) (HasGroup (StandsIn c s) (key_fields group fields) (aggregates_of group fields)) (group_size (key_fields group fields) (aggregates_of group fields)) h.part h.offset (directory group.table) u (budget + u + 4096) rows s h.has
+
+  -- tables that stand before it
+  pub tables_behind : StandBetween base (pos h.has.part h.has.offset) stoods
+  tables_behind i st there = let old = h.fronts i st there in let before = table_before in (old.0, omega (arith, old.1, before))
 
 -- what is paid for then
-pub gathered_paid : (T n : ℕ) (c : Cells) (base u : ℕ) (s0 : LowState) (group : Group) (fields : List Field) (budget : ℕ) (rows : List (List Val)) (s : LowState) → CanGroup group → kinds_of (sources_of fields) ≡ map kind_of group.values →
-    (h : AreGathered T n c base u s0 group fields budget rows s) → Paid u (groups_paid u group budget rows) h.has.offset s.held
-gathered_paid T n c base u s0 group fields budget rows s can kinds h =
+pub gathered_paid : (T n : ℕ) (c : Cells) (base u : ℕ) (s0 : LowState) (stoods : List Stood) (group : Group) (fields : List Field) (budget : ℕ) (rows : List (List Val)) (s : LowState) → CanGroup group → kinds_of (sources_of fields) ≡ map kind_of group.values →
+    (h : AreGathered T n c base u s0 stoods group fields budget rows s) → Paid u (groups_paid u group budget rows) h.has.offset s.held
+gathered_paid T n c base u s0 stoods group fields budget rows s can kinds h =
     subst (λ (m : ℕ). Paid u (budget + u + 4096 + length (keys m rows) * group_width group) h.has.offset s.held) (key_long group fields can kinds)
     (subst (λ (w : ℕ). Paid u (budget + u + 4096 + length (keys (length (key_fields group fields)) rows) * w) h.has.offset s.held) (width_is group fields can kinds) h.has.paid)
 
@@ -108,7 +122,7 @@ suits group fields u most budget entries chosen all can field_kinds May first fe
 abbrev pub into_groups : Cells → (group : Group) → (fields : List Field) → (u before : ℕ) → (May : List (List Val) → Type 0) → ((rows more : List (List Val)) → May (rows ++ more) → May rows) → (part offset : ℕ) → Sink
 into_groups c group fields u before May first k o = collecting_sink c (key_fields group fields) (aggregates_of group fields) k o (directory group.table) u before May first
 
-pub none_begun : (c : Cells) (key : List Field) (aggregates : List Aggregate) (d u budget front : ℕ) (s t : LowState) (b : Begun d u budget front s t) → HasRows c key aggregates b.k b.o d u (budget + u + 4096) [] t t
+none_begun : (c : Cells) (key : List Field) (aggregates : List Aggregate) (d u budget front : ℕ) (s t : LowState) (b : Begun d u budget front s t) → HasRows c key aggregates b.k b.o d u (budget + u + 4096) [] t t
 none_begun c key aggregates d u budget front s t b =
     let none : Cells → ℕ → ℕ → List Val → Type 0 = λ x j a vs. Unit {0} in
     let wide : ℕ = group_size key aggregates in
@@ -116,47 +130,26 @@ none_begun c key aggregates d u budget front s t b =
 
 pub groups_placed : (c : Cells) (u most fuel : ℕ) (group : Group) (fields : List Field) (May : List (List Val) → Type 0) (first : (rows more : List (List Val)) → May (rows ++ more) → May rows) (budget : ℕ) (s : LowState) (part offset : ℕ) → HasRoom part offset s → Paid u budget offset s.held →
     u ≤ page → directory group.table < length s.locals → budget + u + 4096 + 2 * u < (most + 1) * u →
-    Ends 26 (Placed (directory group.table) (pos part offset) (into_groups c group fields u (budget + u + 4096) May first) s) Never IsRefusal (meaning most fuel (directory_block (directory group.table)) s)
+    Ends 26 (Placed (directory group.table) (pos part offset) (into_groups c group fields u (budget + u + 4096) May first) [] s) Never IsRefusal (meaning most fuel (directory_block (directory group.table)) s)
 groups_placed c u most fuel group fields May first budget s part offset room paid u_low long enough =
     let d : ℕ = directory group.table in
     let front : ℕ = pos part offset in
-    Ends-weaker 26 26 (Begun d u budget front s) (Placed d front (into_groups c group fields u (budget + u + 4096) May first) s) Never Never IsRefusal IsRefusal (meaning most fuel (directory_block d) s) (omega arith)
+    Ends-weaker 26 26 (Begun d u budget front s) (Placed d front (into_groups c group fields u (budget + u + 4096) May first) [] s) Never Never IsRefusal IsRefusal (meaning most fuel (directory_block d) s) (omega arith)
     (λ t begun. record {
       part = begun.k;
       offset = begun.o;
       behind = begun.behind;
       keeps = begun.keeps;
-      first_page = begun.room.pages 0 (omega arith);
       has = none_begun c (key_fields group fields) (aggregates_of group fields) d u budget front s t begun;
     })
     (λ t x. x) (λ code x. x) (table_begins d u budget most fuel (omega arith) u_low s long part offset room paid enough)
 
--- ---- all rows go into it
-module _ (T n : ℕ) (columns : List ReadColumn) (literals : List Known) (contents : List (List (List Val))) (c : Cells) (base u most fuel N many : ℕ) (types : List ValType) (s0 : LowState) (grounds : Grounds T n columns literals c base u fuel N many types s0)
-    (table_of : ℕ → ℕ) (stoods : List Stood) (p : Pipeline) (group : Group) (is_select : p.sink ≡ select group.values) (can : CanGroup group) (number_is : group.table ≡ length stoods) (room_T : length stoods < T) (fields : List Field) (field_kinds : kinds_of (sources_of fields) ≡ map kind_of group.values)
-    (course : Course) (next : ℕ) (own : List ValType) (behind : own_start T n (length columns) ≤ next) (room : next + length own ≤ many) (is : IsGathering literals (query_readers T n columns) next p group fields course own) (own_types : AreOwn types next own)
-    (source : Source T n columns contents s0 p) (budget : ℕ) (r : GatherReach T n columns literals contents u most N table_of group stoods p budget) where
-  abbrev fed : Flow (List Val)
-  fed = fed_over contents stoods p
-
-  abbrev Gathered : LowState → Type 0
-  Gathered = AreGathered T n c base u s0 group fields budget fed.rows
-
-  q : Suits group fields u most (budget + u + 4096) r.entries r.chosen (IsBeginning fed.rows)
-  q = suits group fields u most budget r.entries r.chosen fed.rows can field_kinds (IsBeginning fed.rows) (beginning_first fed.rows) (λ xs may some. (let fewer = beginning_few fed.rows xs may in let few = r.few some in omega (arith, fewer, few)))
-      r.compared (keys_fewer group.columns fed.rows) (λ j xs may. slot_fewer j group.columns fed.rows xs may) r.met r.fits r.enough
-
-  pub gather_ends : (s : LowState) → Between T n c base u s0 stoods budget s → Ends (size (build_block T group.table course) * N) (λ w. Gathered w × (fed.codes ≡ [])) Never (Tells fed.codes) (meaning most fuel (build_block T group.table course) s)
-  gather_ends s between =
-      let known = grounds.long in
-      let own_known = grounds.first_own in
-      let paid_for = r.enough in
-      let before : ℕ = budget + u + 4096 in
-      into_ends T n columns literals contents c base u most fuel N many types s0 grounds stoods room_T p group.values is_select (turn_of group r.entries r.chosen) (λ known at a more. IsGrouped fields known at group a more) course next own behind room is own_types source r.finds r.cost
-      (directory group.table) (omega (arith, number_is)) (omega (arith, number_is, room_T)) (into_groups c group fields u before (IsBeginning fed.rows) q.first) (λ k o at wide low. low) (λ k o. ([], append-nil fed.rows))
-      (λ k o seen tables. (
-        grouped_runs c stoods (rows_left T) (omega (arith, room_T)) most fuel many types group can fields k o u before r.entries r.chosen (IsBeginning fed.rows) q.first (omega (arith, number_is, room_T)) q.small q.few_rows q.chosen_within q.enough q.met seen tables,
-        row_grouped c stoods (rows_left T) (omega (arith, room_T)) most fuel many types group can fields k o u before r.entries r.chosen (IsBeginning fed.rows) q.first (omega (arith, number_is, room_T)) q.small q.few_rows q.chosen_within q.enough q.met seen tables,
-      ))
-      budget s between Gathered (λ k o after w has keeps. record { part = k; offset = o; behind = after; has = has; keeps = keeps }) (directory_block (directory group.table)) 26 (omega arith)
-      (groups_placed c u most fuel group fields (IsBeginning fed.rows) q.first budget s between.part between.offset between.room between.paid grounds.u_low (omega (arith, number_is, room_T, known, own_known, between.keeps.many)) (omega (arith, paid_for)))
+-- behind what is seen and the tables it takes rows so
+pub groups_take : (c : Cells) (T : ℕ) (stoods : List Stood) → length stoods ≤ T → (most fuel many : ℕ) (types : List ValType) (group : Group) → CanGroup group → group.table < T → (fields : List Field) (u before : ℕ) (entries chosen : List Val → ℕ) (May : List (List Val) → Type 0)
+    (q : Suits group fields u most before entries chosen May) (k o : ℕ) → SeenBefore c k o → TablesBefore stoods k o →
+    Runs c stoods (rows_left T) (into_groups c group fields u before May q.first k o)
+    × FeedsEnd c stoods (rows_left T) (into_groups c group fields u before May q.first k o) most fuel many types (λ known at a more. IsGrouped fields known at group a more) (select group.values) (turn_of group entries chosen)
+groups_take c T stoods few_tables most fuel many types group can low fields u before entries chosen May q k o seen tables = (
+  grouped_runs c stoods (rows_left T) (omega (arith, few_tables)) most fuel many types group can fields k o u before entries chosen May q.first (omega (arith, low)) q.small q.few_rows q.chosen_within q.enough q.met seen tables,
+  row_grouped c stoods (rows_left T) (omega (arith, few_tables)) most fuel many types group can fields k o u before entries chosen May q.first (omega (arith, low)) q.small q.few_rows q.chosen_within q.enough q.met seen tables,
+)

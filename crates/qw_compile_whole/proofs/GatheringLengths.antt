@@ -1,5 +1,5 @@
 -- How many steps and locals there are of a grouped query's pipelines, and of its statement.
-use Rattle.std.proofs.Common.{◌≡◌, ℕ, ◌+◌, ◌*◌, ◌≤◌, eqb, Option, Some, None, List, [], ◌∷◌, ◌++◌, length, length-append, map, sum_by, refl, sym, ap, ◌∙◌, subst, arith}
+use Rattle.std.proofs.Common.{◌≡◌, ℕ, ◌+◌, ◌*◌, ◌≤◌, eqb, Option, Some, None, List, [], ◌∷◌, ◌++◌, length, length-append, map, sum_by, sym, ap, ◌∙◌, subst, arith}
 use Rattle.std.specs.List.{AllByRecursion, IsDistinct}
 use Rattle.std.proofs.lemmas.List.Sums.{sum_by-append, sum_by-cons}
 use Rattle.qw_module.specs.declared.instruction.ValType.{ValType}
@@ -25,7 +25,7 @@ use Rattle.qw_physical.specs.declared.pipeline.ReadColumn.{ReadColumn}
 use Rattle.qw_physical.specs.declared.pipeline.Sink.{Sink}
 use Rattle.qw_physical.specs.declared.pipeline.Sink.TheVariants as sink
 use Rattle.qw_operator.specs.Carries.{directory}
-use Rattle.qw_operator.specs.Span.{operator_span, sink_span, span}
+use Rattle.qw_operator.specs.Span.{sink_span, span}
 use Rattle.qw_operator.specs.Takes.{CanCarry}
 use Rattle.qw_operator.specs.Grouping.{group_span}
 use Rattle.qw_operator.specs.declared.group.Group.{Group}

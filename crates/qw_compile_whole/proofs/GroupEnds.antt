@@ -2,8 +2,8 @@
 -- make of what reaches them, in some order (ISO/IEC 9075:1992, 7.7 to 7.9).
 use Rattle.std.proofs.Common.{◌≡◌, ℕ, ◌+◌, ◌*◌, ◌^◌, ◌<◌, ◌≤◌, Option, Some, List, [], ◌∷◌, length, map, arith}
 use Rattle.std.proofs.Math.Nat.{add-mul}
-use Rattle.qw_types.specs.declared.kind.Kind.{Kind}
 use Rattle.qw_module.specs.declared.instruction.ValType.{ValType}
+use Rattle.qw_types.specs.declared.kind.Kind.{Kind}
 use Rattle.qw_scalar.specs.Typing.{kind_of}
 use Rattle.qw_grouped.specs.Grouped.{Grouped}
 use Rattle.qw_low.specs.Syntax.{Statement, seq}
@@ -26,7 +26,7 @@ use Rattle.qw_group_pipeline.specs.declared.columns.ValueColumn.{ValueColumn}
 use Rattle.qw_compile.proofs.PipelineRuns.{AreStood, fed_over}
 use Rattle.qw_compile.proofs.QueryRuns.{Joined, Joins, Setting, around, base, both_end, c, first, grounds, joins_then, literals, many, n, own_first, types}
 use Rattle.qw_compile_whole.specs.GuardedStatements.{IsGatheringBy, gather_block}
-use Rattle.qw_compile_whole.proofs.FrontEnds.{Collects, IsGroupAnswered, answer_ends}
+use Rattle.qw_compile_whole.proofs.FrontEnds.{Collects, IsGroupAnswered, answer_ends, stood_low}
 use Rattle.qw_compile_whole.proofs.GroupBounded.{GatherReach, GoTogether, WalkReach, groups_paid, rows_met, walked_of}
 use Rattle.qw_compile_whole.proofs.GuardedFronts.{GatheredBy, IsGuard, gathers_end}
 use Rattle.qw_compile_whole.proofs.Walked.{walk_then}
@@ -53,9 +53,10 @@ module _ (S : Setting) (Told : ℕ → Type 0) (j : Joins S Told) (guard : Optio
   tail_ends t h w after =
       let budget : ℕ = j.budget (length j.building) in
       let r = reached h.stoods h.are after.1 in
+      let low = stood_low S Told j (IsGatheringBy guard) g t h in
       Ends-more Answered Never Told (6 + (size walk * N + 12)) (size tail * N) (meaning most N tail w) (omega (arith, add-mul 18 (size walk) N, at_least 18 N S.some))
       (walk_then T (n S) columns (literals S) tables (c S) (base S) u most N N (many S) (types S) h.s0 (grounds S h.s0 h.begun) query g.group key values together g.fields g.field_kinds g.room_T walk (own_first S + length j.builds_own + length g.own) walk_own walked (omega arith) walk_room walk_types
-      budget (rows_met tables h.stoods g.gathering) (gathered h.stoods h.are).few r w after.0 Told (told_walked h.stoods h.are after.1) 12 Answered finish_block
+      budget (rows_met tables h.stoods g.gathering) (gathered h.stoods h.are).few r h.stoods (omega (arith, low)) w after.0 Told (told_walked h.stoods h.are after.1) 12 Answered finish_block
       (λ w' done. answer_ends S Told j t h g.gathering after.1 query kinds_are r.fits (groups_paid u g.group budget (rows_met tables h.stoods g.gathering)) w' done))
 
   abbrev rest : Statement

@@ -14,7 +14,6 @@ pub mod EnterPlacing
 pub mod EnterStands
 mod Finishes
 pub mod FirstBounded
-pub mod FirstGathered
 pub mod FoldedBehind
 pub mod FoldedUnits
 pub mod FrontCopies
@@ -54,7 +53,9 @@ pub mod MadeOne
 mod OnceCounted
 pub mod OneDistinct
 pub mod RunsInto
+pub mod SeenBehind
 pub mod ScanPlaced
+pub mod ScanRuns
 mod ShortDistinct
 mod StatementParts
 pub mod ShortGrouped
@@ -68,6 +69,7 @@ pub mod SingleEnds
 mod SingleKept
 mod StatementAround
 pub mod Taken
+pub mod WalkFed
 pub mod Walked
 pub mod WalkedInto
 mod WhichCounted
@@ -79,7 +81,6 @@ mod WholeLayouts
 mod WholeOnce
 pub mod Widened
 pub mod FieldCounts
-pub mod FirstTaken
 pub mod FirstTakenBounded
 pub mod TakenFronts
 pub mod SinglePlacing

@@ -1,14 +1,15 @@
 -- The run of a pipeline whose rows go into something that stands behind the tables of joins, as groups and the areas of set functions do: it is placed there
--- with nothing in it, and then a scan feeds it.
+-- with nothing in it, and then a scan feeds it. It may have rows already, of pipelines before.
 use Rattle.std.proofs.Common.{◌≡◌, ℕ, ◌+◌, ◌*◌, ◌<◌, ◌≤◌, inl, inr, Some, List, [], ◌++◌, drop, length, length-append, map, slice_get, take, sym, ap, ◌∙◌, subst, ⊎_elim, arith}
 use Rattle.std.specs.List.{AllByRecursion}
 use Rattle.std.proofs.lemmas.List.{take-append-drop, take_all}
+use Rattle.std.proofs.lemmas.Option.{slice_get_within}
 use Rattle.std.proofs.lemmas.Nat.{mul-le}
 use Rattle.std.proofs.Math.Nat.{add-mul}
-use Rattle.qw_types.specs.declared.value.Val.{Val}
 use Rattle.qw_linear.specs.Memory.{page}
 use Rattle.qw_module.specs.declared.instruction.ValType.{ValType}
 use Rattle.qw_module.specs.declared.instruction.ValType.TheVariants.{I32, I64}
+use Rattle.qw_types.specs.declared.value.Val.{Val}
 use Rattle.qw_scalar.specs.Expression.{Expression}
 use Rattle.qw_meaning.specs.Flow.{Flow}
 use Rattle.qw_low.specs.Syntax.{Statement, seq}
@@ -27,10 +28,10 @@ use Rattle.qw_feed.proofs.RoomRuns.{IsRefusal}
 use Rattle.qw_limit.specs.Counting.{CountsDown}
 use Rattle.qw_limit.proofs.CountedBlocks.{spares_counts}
 use Rattle.qw_limit.proofs.LimitedFeeds.{limit_of}
+use Rattle.qw_group.specs.Single.{single_block}
 use Rattle.qw_expr.specs.Computes.{Known}
 use Rattle.qw_read.specs.Reading.{known_of}
 use Rattle.qw_read.specs.declared.reader.Reader.{Reader}
-use Rattle.qw_group.specs.Single.{single_block}
 use Rattle.qw_physical.specs.Physical as physical
 use Rattle.qw_physical.specs.Physical.{Pipeline, select}
 use Rattle.qw_physical.specs.declared.pipeline.ReadColumn.{ReadColumn}
@@ -39,7 +40,7 @@ use Rattle.qw_operator.proofs.CarriedTyped.{IsReaderDeclared}
 use Rattle.qw_operator.proofs.Filters.{Runs}
 use Rattle.qw_operator.proofs.OperatorsFeed.{FeedsEnd}
 use Rattle.qw_operator.proofs.Promised.{AreOwn}
-use Rattle.qw_operator.proofs.Stood.{AllStand, Stood, built_of}
+use Rattle.qw_operator.proofs.Stood.{AllStand, Stood, built_of, stood_keeps}
 use Rattle.qw_operator.specs.Costs.{pipeline_cost_to}
 use Rattle.qw_operator.proofs.FieldParts.{take_few}
 use Rattle.qw_operator.proofs.PipelineFeeds.{ScannedTo, pipeline_to_feeds}
@@ -47,9 +48,10 @@ use Rattle.qw_operator.proofs.RowCounted.{begins_spare}
 use Rattle.qw_compile.specs.QueryLocals.{base_start, cell_start, own_start, query_readers, rows_end, rows_left}
 use Rattle.qw_compile.specs.Statements.{Course, count_block, course_block}
 use Rattle.qw_compile.proofs.CourseBegins.{Opened}
-use Rattle.qw_compile.proofs.PipelineRuns.{Between, Finds, Grounds, Source, Steady, all_keep, course_opens, declared_over, fed_over, laid, less_known, opened_keeps, readers_of, scanned_rows, standing_at, steady_below}
+use Rattle.qw_compile.proofs.PipelineRuns.{Finds, Grounds, Source, Steady, all_keep, course_opens, declared_over, fed_over, laid, less_known, opened_keeps, readers_of, scanned_rows, standing_at, steady_below}
 use Rattle.qw_compile_whole.specs.GroupedStatements.{IsGatheringTo}
 use Rattle.qw_compile_whole.proofs.Beginnings.{IsBeginning, beginning_first}
+use Rattle.qw_compile_whole.proofs.SeenBehind.{StandBetween}
 
 -- ---- the first of the rows
 abbrev pub AreFirstOf : (limit : ℕ) → (all : List (List Val)) → List (List Val) → Type 0
@@ -69,23 +71,21 @@ SeenBefore c k o = (j a w : ℕ) (x : Value) → c (Own j) a w ≡ Some x → po
 abbrev pub TablesBefore : List Stood → (part offset : ℕ) → Type 0
 TablesBefore stoods k o = (i : ℕ) (st : Stood) → slice_get stoods i ≡ Some st → st.front ≤ pos k o
 
--- a local leads to it, and it has taken no rows
-pub record Placed (d front : ℕ) (sink : (part offset : ℕ) → Sink) (s t : LowState) : Type 0 where
+-- a local leads to it, and it has these rows
+pub record Placed (d front : ℕ) (sink : (part offset : ℕ) → Sink) (so_far : List (List Val)) (s t : LowState) : Type 0 where
   pub part : ℕ
   pub offset : ℕ
   pub behind : front ≤ pos part offset
   pub keeps : Keeps (But d (From 3)) (Before front) s t
-  pub first_page : slice_get t.own 0 ≡ Some page
-  pub has : (sink part offset).Has [] t
+  pub has : (sink part offset).Has so_far t
 
 -- of one that takes no more than a local counts, where none has come yet
-pub placed_within : (d front : ℕ) (sink : (part offset : ℕ) → Sink) (s t : LowState) (limit z : ℕ) → 3 ≤ z → z < d → slice_get s.locals z ≡ Some (Number limit) → Placed d front sink s t → Placed d front (λ k o. limit_of limit z (sink k o)) s t
+pub placed_within : (d front : ℕ) (sink : (part offset : ℕ) → Sink) (s t : LowState) (limit z : ℕ) → 3 ≤ z → z < d → slice_get s.locals z ≡ Some (Number limit) → Placed d front sink [] s t → Placed d front (λ k o. limit_of limit z (sink k o)) [] s t
 placed_within d front sink s t limit z high low holds h = record {
   part = h.part;
   offset = h.offset;
   behind = h.behind;
   keeps = h.keeps;
-  first_page = h.first_page;
   has = record {
     has = subst (λ (xs : List (List Val)). (sink h.part h.offset).Has xs t) (sym (take_all limit [] (omega arith))) h.has;
     left = h.keeps.locals z (inr high, λ e. omega (arith, e, low)) ∙ (holds ∙ ap (λ (m : ℕ). Some (Number m)) (omega arith));
@@ -133,20 +133,17 @@ module _ (T n : ℕ) (columns : List ReadColumn) (literals : List Known) (conten
       ),
     )
 
-    -- It is one of these sinks, which spare all that is before it, and may take these rows; behind what is seen and the tables a row's block feeds it.
+    -- It is one of these sinks, which spare all that is before it, and may take these rows behind those that it has; behind what is seen and the tables a row's block feeds it.
     module _ (source : Source T n columns contents s0 p) (finds : Finds T n columns literals contents N stoods p) (cost : 1 + pipeline_cost_to values turn contents (built_of stoods) p ≤ N) (d : ℕ) (d_high : 5 + length stoods ≤ d) (d_low : d < rows_left T)
-        (sink : (part offset : ℕ) → Sink) (spared : (k o at wide : ℕ) → at + wide ≤ pos k o → (sink k o).Spared at wide) (may : (k o : ℕ) → (sink k o).May (fed_over contents stoods p).rows)
+        (sink : (part offset : ℕ) → Sink) (so_far : List (List Val)) (spared : (k o at wide : ℕ) → at + wide ≤ pos k o → (sink k o).Spared at wide) (may : (k o : ℕ) → (sink k o).May (so_far ++ (fed_over contents stoods p).rows))
         (feeds : (k o : ℕ) → SeenBefore c k o → TablesBefore stoods k o → Runs c stoods (rows_left T) (sink k o) × FeedsEnd c stoods (rows_left T) (sink k o) most fuel many types End (select values) turn)
-        (budget : ℕ) (s : LowState) (between : Between T n c base u s0 stoods budget s)
-        (Post : LowState → Type 0) (taken : (k o : ℕ) → base ≤ pos k o → (w : LowState) → (sink k o).Has (fed_over contents stoods p).rows w → Keeps (Steady T n) (Before base) s0 w → Post w) where
-      abbrev front : ℕ
-      front = pos between.part between.offset
-
+        (front : ℕ) (front_behind : base ≤ front) (fronts : StandBetween base front stoods) (s : LowState) (stand : AllStand c stoods s) (keeps : Keeps (Steady T n) (Before base) s0 s)
+        (Post : LowState → Type 0) (taken : (k o : ℕ) → base ≤ pos k o → StandBetween base (pos k o) stoods → (w : LowState) → (sink k o).Has (so_far ++ (fed_over contents stoods p).rows) w → Keeps (Steady T n) (Before base) s0 w → AllStand c stoods w → Post w) where
       abbrev Done : LowState → Type 0
       Done w = Post w × (fed.codes ≡ [])
 
       -- it has been placed
-      module _ (t : LowState) (h : Placed d front sink s t) where
+      module _ (t : LowState) (h : Placed d front sink so_far s t) where
         abbrev k : ℕ
         k = h.part
 
@@ -154,26 +151,26 @@ module _ (T n : ℕ) (columns : List ReadColumn) (literals : List Known) (conten
         o = h.offset
 
         same_t : Same t
-        same_t = Keeps-then (Steady T n) (Before base) s0 s t between.keeps
+        same_t = Keeps-then (Steady T n) (Before base) s0 s t keeps
             (Keeps-less (Steady T n) (Before base) (But d (From 3)) (Before front) s t
             (λ i old. ⊎_elim (λ z. (inl z, λ e. omega (arith, z, e, d_high))) (λ g'. (inr (omega (arith, g'.0)), λ e. omega (arith, g'.0, e, d_low))) old)
-            (λ at wide' low'. omega (arith, low', between.behind)) h.keeps)
+            (λ at wide' low'. omega (arith, low', front_behind)) h.keeps)
 
         stand_t : AllStand c stoods t
-        stand_t = all_keep T n columns literals contents c base u most fuel N many types s0 grounds IsRefusal stoods d (Before front) front s t between.fronts (λ at wide' low'. low') d_high
+        stand_t = all_keep T n columns literals contents c base u most fuel N many types s0 grounds IsRefusal stoods d (Before front) front s t fronts (λ at wide' low'. low') d_high
             (Keeps-less (Below d) (Before front) (But d (From 3)) (Before front) s t (λ i old. ⊎_elim (λ z. (inl z, λ e. omega (arith, z, e, d_high))) (λ g'. (inr (omega (arith, g'.0)), λ e. omega (arith, g'.1, e))) old) (λ at wide' low'. low') h.keeps)
-            between.stand
+            stand
 
         seen_before : SeenBefore c k o
-        seen_before j a w x is' = let seen_low = (grounds.own_seen j a w x is').0.1 in omega (arith, seen_low, between.behind, h.behind)
+        seen_before j a w x is' = let seen_low = (grounds.own_seen j a w x is').0.1 in omega (arith, seen_low, front_behind, h.behind)
 
         tables_before : TablesBefore stoods k o
-        tables_before i st there = let old = between.fronts i st there in omega (arith, old.1, h.behind)
+        tables_before i st there = let old = fronts i st there in omega (arith, old.1, h.behind)
 
         -- the scan begins
         module _ (v : LowState) (opened : Opened T (length (scanned_rows contents p)) start (over p.entry) t v) where
           stand_v : AllStand c stoods v
-          stand_v = all_keep T n columns literals contents c base u most fuel N many types s0 grounds IsRefusal stoods (rows_left T) (λ at wide'. Unit {0}) front t v between.fronts (λ at wide' low'. tt) (omega (arith, room_T))
+          stand_v = all_keep T n columns literals contents c base u most fuel N many types s0 grounds IsRefusal stoods (rows_left T) (λ at wide'. Unit {0}) front t v fronts (λ at wide' low'. tt) (omega (arith, room_T))
               (Keeps-kept (Below (rows_left T)) (λ at wide'. Unit {0}) (rows_left T) t v (λ i old. below-under (rows_left T) (rows_left T) i (omega arith) (omega arith) old) opened.kept) stand_t
 
           literals_same : (i : ℕ) → 8 + T ≤ i → i < start → slice_get v.locals i ≡ slice_get s0.locals i
@@ -199,7 +196,7 @@ module _ (T n : ℕ) (columns : List ReadColumn) (literals : List Known) (conten
             declared = declared_over T n columns literals contents c base u most fuel N many types s0 grounds p.entry;
             own_types = own_types;
             less = subst (λ (x : Cells). IsLess c x) (sym cells_same) (less_known T n columns literals contents c base u most fuel N many types s0 grounds t (same_t));
-            held = λ row. grounds.held v literals_same (ap (λ (x : LowState). slice_get x.own 0) opened.kept.others ∙ h.first_page) row;
+            held = λ row. grounds.held v literals_same (ap (λ (x : LowState). slice_get x.own 0) opened.kept.others ∙ (same_t).own 0 page grounds.first_page) row;
             fit = grounds.fit;
             stays = record {
               mapped = λ j a b. grounds.columns_seen j a b ∙ sym (mapped_same j a b);
@@ -215,12 +212,14 @@ module _ (T n : ℕ) (columns : List ReadColumn) (literals : List Known) (conten
             enough = let turns = grounds.turns in omega (arith, cost, turns);
           }
 
-          fed_so : (w : LowState) → FedTo (sink k o) (But (rows_left T) (Below low)) Any fed [] v w → Done w
+          fed_so : (w : LowState) → FedTo (sink k o) (But (rows_left T) (Below low)) Any fed so_far v w → Done w
           fed_so w done = (
-            taken k o (omega (arith, between.behind, h.behind)) w done.has (Keeps-then (Steady T n) (Before base) s0 v w
+            taken k o (omega (arith, front_behind, h.behind)) (λ i st there. ((fronts i st there).0, tables_before i st there)) w done.has (Keeps-then (Steady T n) (Before base) s0 v w
                 (Keeps-then (Steady T n) (Before base) s0 t v same_t (opened_keeps T n columns literals contents c base u most fuel N many types s0 grounds (length (scanned_rows contents p)) (over p.entry) t v opened))
                 (Keeps-less (Steady T n) (Before base) (But (rows_left T) (Below low)) (sink k o).Spared v w (steady_below T n columns literals contents c base u most fuel N many types s0 grounds)
-                (λ at wide' low'. spared k o at wide' (omega (arith, low', between.behind, h.behind))) done.keeps)),
+                (λ at wide' low'. spared k o at wide' (omega (arith, low', front_behind, h.behind))) done.keeps))
+                (λ i st there. stood_keeps c i st (But (rows_left T) (Below low)) (sink k o).Spared v w (let inside = slice_get_within stoods i st there in (inr (omega arith, omega (arith, inside, room_T)), λ e. omega (arith, e, inside, room_T)))
+                (λ at wide' low' high'. spared k o at wide' (let before = tables_before i st there in omega (arith, high', before))) done.keeps (stand_v i st there)),
             done.none,
           )
 
@@ -229,19 +228,23 @@ module _ (T n : ℕ) (columns : List ReadColumn) (literals : List Known) (conten
               let spent : ℕ = 1 + pipeline_cost_to values turn contents (built_of stoods) p in
               let block : Statement = rows_block (rows_left T) course.row in
               let by = feeds k o seen_before tables_before in
-              Ends-weaker (size block * spent) (size block * N) (FedTo (sink k o) (But (rows_left T) (Below low)) Any fed [] v) Done Never Never (Tells fed.codes) (Tells fed.codes) (meaning most fuel block v)
+              Ends-weaker (size block * spent) (size block * N) (FedTo (sink k o) (But (rows_left T) (Below low)) Any fed so_far v) Done Never Never (Tells fed.codes) (Tells fed.codes) (meaning most fuel block v)
               (mul-le (size block) spent (size block) N (omega arith) cost) fed_so (λ w x. x) (λ code x. x)
               (pipeline_to_feeds c stoods (rows_left T) (sink k o) by.0 most fuel many types contents p End values turn by.1 literals (over p.entry) (rows_left T) (rows_end T) low next course.row own v scanned is_select
-              [] (by.0.kept (rows_left T) [] t v (omega arith) opened.kept h.has) (may k o))
+              so_far (by.0.kept (rows_left T) so_far t v (omega arith) opened.kept h.has) (may k o))
 
-      -- behind what places it
-      pub into_ends : (begins : Statement) (spent : ℕ) → spent ≤ size begins → Ends spent (Placed d front sink s) Never IsRefusal (meaning most fuel begins s) → Ends (size (seq begins (course_block T course)) * N) Done Never (Tells fed.codes) (meaning most fuel (seq begins (course_block T course)) s)
+        -- behind pipelines that have fed it, or behind what places it
+        pub course_ends : Ends (9 + (size course.begins + size (rows_block (rows_left T) course.row) * N)) Done Never (Tells fed.codes) (meaning most fuel (course_block T course) t)
+        course_ends =
+            course_opens T n columns literals contents c base u most fuel N many types s0 grounds p course is.first is.first_is is.index_is is.begins source (rows_block (rows_left T) course.row) (size (rows_block (rows_left T) course.row) * N) Done (Tells fed.codes) t same_t
+            (λ v opened. loop_ends v opened)
+
+      pub into_ends : (begins : Statement) (spent : ℕ) → spent ≤ size begins → Ends spent (Placed d front sink so_far s) Never IsRefusal (meaning most fuel begins s) → Ends (size (seq begins (course_block T course)) * N) Done Never (Tells fed.codes) (meaning most fuel (seq begins (course_block T course)) s)
       into_ends begins spent less placed =
           let loop : ℕ = size (rows_block (rows_left T) course.row) in
           let all : ℕ = size begins + (9 + size course.begins) in
           Ends-more Done Never (Tells fed.codes) (size begins + (9 + (size course.begins + loop * N))) (size (seq begins (course_block T course)) * N) (meaning most fuel (seq begins (course_block T course)) s)
           (omega (arith, add-mul all loop N, at_least all N grounds.some))
-          (Ends-then Done Never (Tells fed.codes) (size begins) (9 + (size course.begins + loop * N)) (Placed d front sink s) (meaning most fuel begins s) (meaning most fuel (course_block T course))
-          (Ends-weaker spent (size begins) (Placed d front sink s) (Placed d front sink s) Never Never IsRefusal (Tells fed.codes) (meaning most fuel begins s) less (λ t x. x) (λ t x. x) (λ code x. inl x) placed)
-          (λ t h. course_opens T n columns literals contents c base u most fuel N many types s0 grounds p course is.first is.first_is is.index_is is.begins source (rows_block (rows_left T) course.row) (loop * N) Done (Tells fed.codes) t (same_t t h)
-          (λ v opened. loop_ends t h v opened)))
+          (Ends-then Done Never (Tells fed.codes) (size begins) (9 + (size course.begins + loop * N)) (Placed d front sink so_far s) (meaning most fuel begins s) (meaning most fuel (course_block T course))
+          (Ends-weaker spent (size begins) (Placed d front sink so_far s) (Placed d front sink so_far s) Never Never IsRefusal (Tells fed.codes) (meaning most fuel begins s) less (λ t x. x) (λ t x. x) (λ code x. inl x) placed)
+          course_ends)

@@ -2,8 +2,8 @@
 -- select list make of the one group of all rows; where these are counted and many, it takes as many instructions (ISO/IEC 9075:1992, 7.8, 7.9).
 use Rattle.std.proofs.Common.{◌≡◌, ℕ, ◌+◌, ◌*◌, ◌^◌, ◌<◌, ◌≤◌, ◌⊎◌, inl, Some, List, [], ◌∷◌, length, map, ⊎_elim, arith}
 use Rattle.std.proofs.Math.Nat.{add-mul}
-use Rattle.qw_types.specs.declared.kind.Kind.{Kind}
 use Rattle.qw_module.specs.declared.instruction.ValType.{ValType}
+use Rattle.qw_types.specs.declared.kind.Kind.{Kind}
 use Rattle.qw_scalar.specs.Typing.{kind_of}
 use Rattle.qw_grouped.specs.Grouped.{Grouped}
 use Rattle.qw_low.specs.Syntax.{Statement, seq}
@@ -21,13 +21,13 @@ use Rattle.qw_physical.specs.Physical.{filter, select}
 use Rattle.qw_operator.specs.Carries.{directory}
 use Rattle.qw_operator.proofs.Promised.{AreOwn}
 use Rattle.qw_operator.proofs.Stood.{Stood}
-use Rattle.qw_emit.proofs.Answered.{IsSomeCode}
-use Rattle.qw_emit.proofs.ModuleCompiled.{Settled}
 use Rattle.qw_group_pipeline.specs.Groups.{InSink, IsOneRow}
 use Rattle.qw_group_pipeline.specs.declared.columns.ValueColumn.{ValueColumn}
+use Rattle.qw_emit.proofs.Answered.{IsSomeCode}
+use Rattle.qw_emit.proofs.ModuleCompiled.{Settled}
 use Rattle.qw_compile.proofs.PipelineRuns.{AreStood, fed_over}
 use Rattle.qw_compile.proofs.QueryRuns.{Joined, Joins, Setting, around, base, both_end, c, first, grounds, literals, many, n, own_first, types}
-use Rattle.qw_compile_whole.proofs.FrontEnds.{Collecting, Collects, IsGroupAnswered, answer_ends}
+use Rattle.qw_compile_whole.proofs.FrontEnds.{Collecting, Collects, IsGroupAnswered, answer_ends, stood_low}
 use Rattle.qw_compile_whole.proofs.GroupBounded.{rows_met, walked_of}
 use Rattle.qw_compile_whole.proofs.LongFronts.{Nowhere, joins_or_takes, takes_then}
 use Rattle.qw_compile_whole.proofs.MadeOne.{one_then}
@@ -54,9 +54,10 @@ module _ (S : Setting) (Told : ℕ → Type 0) (j : Joins S Told) (Is : Collecti
   tail_ends t h fewer w after =
       let budget : ℕ = j.budget (length j.building) in
       let r = reached h.stoods h.are after.1 fewer in
+      let low = stood_low S Told j Is g t h in
       Ends-more Answered Never Told (6 + (size one * N + 12)) (size tail * N) (meaning most N tail w) (omega (arith, add-mul 18 (size one) N, at_least 18 N S.some))
-      (one_then T (n S) columns (literals S) tables (c S) (base S) u most N N (many S) (types S) h.s0 (grounds S h.s0 h.begun) query g.group values alone g.fields g.field_kinds g.room_T one (own_first S + length j.builds_own + length g.own) one_own made (omega arith) one_room one_types
-      budget (rows_met tables h.stoods g.gathering) (few h.stoods h.are fewer) r w after.0 Told (told_made h.stoods h.are after.1 fewer) 12 Answered finish_block
+      (one_then T (n S) columns (literals S) tables (c S) (base S) u most N N (many S) (types S) h.s0 (grounds S h.s0 h.begun) query g.group values alone g.fields g.field_kinds g.room_T budget (rows_met tables h.stoods g.gathering) (few h.stoods h.are fewer) h.stoods w after.0
+      (omega (arith, low)) r one (own_first S + length j.builds_own + length g.own) one_own made (omega arith) one_room one_types Told (told_made h.stoods h.are after.1 fewer) 12 Answered finish_block
       (λ w' done. answer_ends S Told j t h g.gathering after.1 query kinds_are r.fits (areas_paid g.group budget) w' done))
 
   pub single_ends : (top : ℕ) (scan : Statement) →

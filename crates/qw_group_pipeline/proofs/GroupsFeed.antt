@@ -38,13 +38,13 @@ use Rattle.qw_physical.specs.Courses.{cost}
 use Rattle.qw_physical.specs.Physical.{Operator, Sink}
 use Rattle.qw_physical.specs.declared.pipeline.ReadColumn.{ReadColumn}
 use Rattle.qw_operator.specs.Takes.{AreSized}
-use Rattle.qw_operator.proofs.Filters.{Runs, base_high}
+use Rattle.qw_operator.proofs.Filters.{Runs, base_high, stand_keeps}
 use Rattle.qw_operator.proofs.KnownLeaves.{AreFit}
 use Rattle.qw_leaves.proofs.Agreement.{value_at}
 use Rattle.qw_operator.proofs.PairRows.{AreAt, AreStored}
 use Rattle.qw_operator.proofs.Promised.{AreOwn, rest_own_types}
 use Rattle.qw_operator.proofs.Seen.{AreWithin, StandsIn, held_keeps, less_keeps, longer_keeps, stands_later, within_wider}
-use Rattle.qw_operator.proofs.Stood.{cells_map}
+use Rattle.qw_operator.proofs.Stood.{AllStand, Stood, cells_map}
 use Rattle.qw_group_pipeline.specs.Groups.{IsGroupPipelineTo, all_anywhere, most_read, walk_types}
 use Rattle.qw_group_pipeline.specs.declared.columns.ValueColumn.{ValueColumn}
 use Rattle.qw_group_pipeline.proofs.ValuesCome.{AreRead, aggregate_of, column_for, functions_of, read_many}
@@ -116,9 +116,6 @@ pub record IsGoodTo (key : List ReadColumn) (values : List ValueColumn) (units :
   pub typed : (vs : List Val) → function_values (length key) (functions_of values) (members columns key_values rows) ≡ Ok vs → AreRead values vs
   pub enough : 1 + (most_read (functions_of values) + by_result (function_values (length key) (functions_of values) (members columns key_values rows)) (λ vs. units (key_values ++ vs))) ≤ fuel
 
-abbrev pub IsGood : List ReadColumn → List ValueColumn → List Operator → Sink → (fuel columns : ℕ) → (rows : List (List Val)) → (key_values : List Val) → Type 0
-IsGood key values operators snk fuel columns rows key_values = IsGoodTo key values (cost [] operators snk) fuel columns rows key_values
-
 -- what holds of all keys holds of the entries of a slot
 of_chain : (P : List Val → Type 0) (j : ℕ) (ks : List (List Val)) (chain : List Row) → AllByRecursion P ks → IsPermutation (values_of chain) (in_slot slot j ks) → AllByRecursion (λ (e : Row). P e.values) chain
 of_chain P j ks chain all same =
@@ -130,9 +127,9 @@ of_chain P j ks chain all same =
     entries [] h = tt
     entries (e ∷ es) h = (h.0, entries es h.1)
 
-module _ (c : Cells) (base : ℕ) (sink : FlowSink) (runs : Runs c [] base sink) (most fuel many : ℕ) (types : List ValType) (turns : 1024 < fuel) (Rest : List Known → (next : ℕ) → Statement → List ValType → Type 0) (work : List Val → Flow (List Val)) (units : List Val → ℕ)
+module _ (c : Cells) (stoods : List Stood) (base : ℕ) (sink : FlowSink) (runs : Runs c stoods base sink) (most fuel many : ℕ) (types : List ValType) (turns : 1024 < fuel) (Rest : List Known → (next : ℕ) → Statement → List ValType → Type 0) (Good : List Val → Type 0) (work : List Val → Flow (List Val)) (units : List Val → ℕ)
     (literals : List Known) (directory next : ℕ) (key : List ReadColumn) (values : List ValueColumn) (a : Statement) (own : List ValType) (h : IsGroupPipelineTo Rest literals directory next key values a own) (low : base ≤ next)
-    (room : next + length own ≤ many) (within : AreWithin next literals) (declared : AreDeclared types literals) (own_types : AreOwn types next own) (feeds : FeedsRest c base sink most fuel many types (all_anywhere key values ++ literals) Rest work units) (kinds : AreOfKinds values) (sized : AreSized key) (d_low : (5 ≤ directory) × (directory < next))
+    (room : next + length own ≤ many) (within : AreWithin next literals) (declared : AreDeclared types literals) (own_types : AreOwn types next own) (feeds : FeedsRest c stoods base sink most fuel many types (all_anywhere key values ++ literals) Rest Good work units) (kinds : AreOfKinds values) (sized : AreSized key) (d_low : (5 ≤ directory) × (directory < next))
     (numbered : AreNumbered 0 key) (numbered_values : AreNumbered (length key) (map column_for values)) where
   own_many : length own ≡ 2 + length h.met_own
   own_many = ap (λ (o : List ValType). length o) h.own_is ∙ length-append walk_types h.met_own
@@ -141,14 +138,15 @@ module _ (c : Cells) (base : ℕ) (sink : FlowSink) (runs : Runs c [] base sink)
   met_types = rest_own_types types next own walk_types h.met_own h.own_is own_types
 
   five : 5 ≤ next
-  five = let high = base_high c [] base sink runs in omega (arith, high, low)
+  five = let high = base_high c stoods base sink runs in omega (arith, high, low)
 
   module _ (Text : Part → ℕ → List ℕ → Type 0) (fields : List Field) (aggregates : List Aggregate) (theirs : AreTheir aggregates values) (same_many : length fields ≡ length key) (k o front : ℕ) (rows : List (List Val)) (s0 : LowState)
       (also : (p : Part) (i : ℕ) (octets : List ℕ) → Text p i octets → StandsIn c s0 p i octets) (groups : StandGroups (length fields) (HasGroup Text fields aggregates) (group_size fields aggregates) k o directory front rows s0)
-      (spared : (at width : ℕ) → pos k o ≤ at → at + width ≤ front → sink.Spared at width)
+      (stand : AllStand c stoods s0) (spared : (at width : ℕ) → pos k o ≤ at → at + width ≤ front → sink.Spared at width)
       (table_seen : (p at width : ℕ) → 2 ≤ width → pos k o ≤ pos p at → pos p at + width ≤ front → c (Own p) at width ≡ s0.cells (Own p) at width) (less : IsLess c s0.cells) (long : many ≤ length s0.locals) (few : 1 ≤ length values → length rows < 10 ^ 18)
       (keys_few : length (keys (length fields) rows) < fuel) (literals_held : (row : List Val) → AreHeld literals row (seen c s0)) (literals_fit : (row : List Val) → AreFit row literals)
-      (good : AllByRecursion (IsGoodTo key values units fuel (length fields) rows) (keys (length fields) rows)) where
+      (good : AllByRecursion (IsGoodTo key values units fuel (length fields) rows) (keys (length fields) rows))
+      (goods : (kvs vs : List Val) → AreStored key kvs → function_values (length key) (functions_of values) (members (length fields) kvs rows) ≡ Ok vs → Good (kvs ++ vs)) where
     abbrev columns : ℕ
     columns = length fields
 
@@ -198,6 +196,9 @@ module _ (c : Cells) (base : ℕ) (sink : FlowSink) (runs : Runs c [] base sink)
       stands : (p : Part) (i : ℕ) (octets : List ℕ) → Text p i octets → StandsIn c t p i octets
       stands p i octets there = stands_later c s0 t p i octets (longer_keeps (Below next) sink.Spared s0 t keeps) (also p i octets there)
 
+      stand_t : AllStand c stoods t
+      stand_t = stand_keeps c stoods base sink runs next s0 t low keeps stand
+
       is_good : IsGoodTo key values units fuel (length fields) rows e.values
       is_good = has.1.1
 
@@ -219,10 +220,10 @@ module _ (c : Cells) (base : ℕ) (sink : FlowSink) (runs : Runs c [] base sink)
           let count = own_many in
           let N : ℕ = 1 + (most_read (functions_of values) + by_result (group_come key values work units (length fields) rows e.values) (λ vs. units (e.values ++ vs))) in
           feeds_more sink most fuel N (1 + units_within key values work units (length fields) rows e.values) (Below (next + 2)) Any (group_flow key values work units (length fields) rows e.values) h.met t (omega arith)
-          (group_feeds c base sink runs most fuel many types Rest work units literals (next + 1) (cell_offset (length key)) (next + 2) key values h.met h.met_own h.row (omega (arith, low)) (omega arith) (omega (arith, room, count))
+          (group_feeds c stoods base sink runs most fuel many types Rest Good work units literals (next + 1) (cell_offset (length key)) (next + 2) key values h.met h.met_own h.row (omega (arith, low)) (omega arith) (omega (arith, room, count))
           (within_wider next (next + 2) literals (omega arith) within) declared met_types feeds kinds sized e.part e.offset e.values mine t leads
-          (cells_map Text (StandsIn c t) t.cells e.part (e.offset + 24) e.values stands has.0.1) areas is_good.stored fewer (less_keeps c (Below next) sink.Spared s0 t runs.seen_spared keeps less) (let same = keeps.many in omega (arith, same, long))
-          (λ row. held_keeps c next sink.Spared s0 t literals row within keeps (literals_held row)) literals_fit is_good.typed (λ vs. numbered_at key [] e.values vs numbered (stored_many key e.values is_good.stored)) values_there is_good.enough)
+          (cells_map Text (StandsIn c t) t.cells e.part (e.offset + 24) e.values stands has.0.1) areas stand_t is_good.stored fewer (less_keeps c (Below next) sink.Spared s0 t runs.seen_spared keeps less) (let same = keeps.many in omega (arith, same, long))
+          (λ row. held_keeps c next sink.Spared s0 t literals row within keeps (literals_held row)) literals_fit is_good.typed (λ vs. goods e.values vs is_good.stored) (λ vs. numbered_at key [] e.values vs numbered (stored_many key e.values is_good.stored)) values_there is_good.enough)
 
     -- ---- all groups
     gathered : (chains : ℕ → List Row) (js : List ℕ) → length js ≡ 1024 → IsPermutation (flat_map (λ j. values_of (chains j)) js) (keys columns rows) →

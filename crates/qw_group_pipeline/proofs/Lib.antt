@@ -8,5 +8,5 @@ pub mod GroupsFeed
 pub mod BehindFront
 pub mod WholeGroups
 pub mod GroupsTyped
-pub mod GroupsInto
+pub mod ResultSink
 pub mod OneRows

@@ -25,6 +25,7 @@ use Rattle.qw_operator.proofs.KnownLeaves.{AreFit}
 use Rattle.qw_operator.proofs.PairRows.{AreAt}
 use Rattle.qw_operator.proofs.Promised.{AreOwn}
 use Rattle.qw_operator.proofs.Seen.{AreWithin, StandsIn}
+use Rattle.qw_operator.proofs.Stood.{AllStand, Stood}
 use Rattle.qw_group_pipeline.specs.Groups.{IsOneRow, all_anywhere, most_read}
 use Rattle.qw_group_pipeline.specs.declared.columns.ValueColumn.{ValueColumn}
 use Rattle.qw_group_pipeline.proofs.BehindFront.{group_chain}
@@ -51,13 +52,13 @@ behind_one query rows none =
     (one_comes query.having query.items (kinds_of query.functions) rows)
 
 -- ---- the block feeds it
-module _ (c : Cells) (base : ℕ) (sink : FlowSink) (runs : Runs c [] base sink) (most fuel many : ℕ) (types : List ValType) (Rest : List Known → (next : ℕ) → Statement → List ValType → Type 0) (work : List Val → Flow (List Val)) (units : List Val → ℕ)
+module _ (c : Cells) (stoods : List Stood) (base : ℕ) (sink : FlowSink) (runs : Runs c stoods base sink) (most fuel many : ℕ) (types : List ValType) (Rest : List Known → (next : ℕ) → Statement → List ValType → Type 0) (Good : List Val → Type 0) (work : List Val → Flow (List Val)) (units : List Val → ℕ)
     (literals : List Known) (areas next : ℕ) (values : List ValueColumn) (a : Statement) (own : List ValType) (h : IsOneRow Rest literals areas next values a own) (low : base ≤ next) (areas_low : areas < next) (room : next + length own ≤ many) (within : AreWithin next literals)
-    (declared : AreDeclared types literals) (own_types : AreOwn types next own) (feeds : FeedsRest c base sink most fuel many types (all_anywhere [] values ++ literals) Rest work units) (kinds : AreOfKinds values) (numbered : AreNumbered 0 (map column_for values)) where
+    (declared : AreDeclared types literals) (own_types : AreOwn types next own) (feeds : FeedsRest c stoods base sink most fuel many types (all_anywhere [] values ++ literals) Rest Good work units) (kinds : AreOfKinds values) (numbered : AreNumbered 0 (map column_for values)) where
   -- Areas have taken these rows (`HasSingle`), and are seen, in cells of two octets and more. Another table may stand behind them.
   module _ (Text : Part → ℕ → List ℕ → Type 0) (aggregates : List Aggregate) (theirs : AreTheir aggregates values) (k o : ℕ) (rows : List (List Val)) (s : LowState) (also : (p : Part) (i : ℕ) (octets : List ℕ) → Text p i octets → StandsIn c s p i octets)
       (leads : slice_get s.locals areas ≡ Some (Address (Own k) o)) (has : HasAreas Text 0 aggregates rows s.cells k o) (areas_seen : (at width : ℕ) → 2 ≤ width → o ≤ at → at + width ≤ o + 32 * length aggregates → c (Own k) at width ≡ s.cells (Own k) at width) (less : IsLess c s.cells) (long : many ≤ length s.locals)
-      (few : 1 ≤ length values → length rows < 10 ^ 18) (literals_held : (row : List Val) → AreHeld literals row (seen c s)) (literals_fit : (row : List Val) → AreFit row literals) (read : (vs : List Val) → function_values 0 (functions_of values) rows ≡ Ok vs → AreRead values vs)
+      (stand : AllStand c stoods s) (goods : (vs : List Val) → function_values 0 (functions_of values) rows ≡ Ok vs → Good vs) (few : 1 ≤ length values → length rows < 10 ^ 18) (literals_held : (row : List Val) → AreHeld literals row (seen c s)) (literals_fit : (row : List Val) → AreFit row literals) (read : (vs : List Val) → function_values 0 (functions_of values) rows ≡ Ok vs → AreRead values vs)
       (enough : 1 + (most_read (functions_of values) + by_result (function_values 0 (functions_of values) rows) units) ≤ fuel) where
     there : HasAreas (StandsIn c s) 0 (map aggregate_of values) rows c k (o + 0)
     there =
@@ -70,5 +71,5 @@ module _ (c : Cells) (base : ℕ) (sink : FlowSink) (runs : Runs c [] base sink)
 
     pub one_feeds : FeedsTo sink most fuel (1 + (most_read (functions_of values) + by_result (function_values 0 (functions_of values) rows) units)) (Below next) Any (flow_by (function_values 0 (functions_of values) rows) work) a s
     one_feeds =
-        group_feeds c base sink runs most fuel many types Rest work units literals areas 0 next [] values a own h low areas_low room within declared own_types feeds kinds tt k o [] rows s leads tt there tt few less long literals_held literals_fit read
+        group_feeds c stoods base sink runs most fuel many types Rest Good work units literals areas 0 next [] values a own h low areas_low room within declared own_types feeds kinds tt k o [] rows s leads tt there stand tt few less long literals_held literals_fit read goods
         (λ vs. tt) values_there enough

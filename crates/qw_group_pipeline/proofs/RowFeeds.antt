@@ -2,7 +2,6 @@
 -- operators to the sink.
 use Rattle.std.proofs.Common.{◌≡◌, ℕ, ◌+◌, ◌*◌, ◌<◌, ◌≤◌, ◌^◌, Bool, true, false, Some, List, [], ◌∷◌, ◌++◌, length, length-append, map, Result, Ok, Err, slice_get, refl, sym, ap, ap₂, ◌∙◌, subst, arith}
 use Rattle.std.proofs.lemmas.List.{map-append}
-use Rattle.std.proofs.lemmas.Option.{slice_get_within}
 use Rattle.std.specs.List.{AllByRecursion}
 use Rattle.qw_types.specs.Kind.{IsOfKind, type_kind}
 use Rattle.qw_types.specs.declared.code.Code.{Code}
@@ -44,14 +43,14 @@ use Rattle.qw_operator.specs.Carries.{entry_types, known_entry}
 use Rattle.qw_operator.specs.Takes.{AreSized, CanCarry, anywhere}
 use Rattle.qw_operator.proofs.OperatorsFeed.{FeedsEnd, carried_feeds, carried_to_feeds}
 use Rattle.qw_operator.proofs.EntryReads.{entry_declared, entry_many, entry_told, entry_within, reads_end}
-use Rattle.qw_operator.proofs.Filters.{Runs, Here, base_high, old_low}
+use Rattle.qw_operator.proofs.Filters.{Runs, Here, base_high, keeps_kept, old_low, stand_keeps}
 use Rattle.qw_scalar.specs.Typing.{IsUtf8Value}
 use Rattle.qw_operator.proofs.KnownLeaves.{AreFit, Fits}
 use Rattle.qw_operator.proofs.PairRows.{AreApart, AreAt, AreStored, IsNullAt, kept_fit}
 use Rattle.qw_operator.proofs.Promised.{AreOwn, first_own_types, rest_own_types}
 use Rattle.qw_operator.proofs.Seen.{AreWithin, StandsIn, held_later, less_kept, longer_kept, stands_later, within_wider}
 use Rattle.qw_operator.proofs.Served.{AreServed}
-use Rattle.qw_operator.proofs.Stood.{AllStand}
+use Rattle.qw_operator.proofs.Stood.{AllStand, Stood, built_of}
 use Rattle.qw_operator.proofs.WholeFeeds.{FeedsSink}
 use Rattle.qw_group.proofs.EntryAreas.{areas-map}
 use Rattle.qw_operator.specs.Costs.{cost_to}
@@ -109,9 +108,6 @@ values_declared types free (v ∷ values) kinds own =
       values_declared types (free + 8) values kinds.1 (rest_own_types types free (first ++ rest) first rest refl own),
     )
 
-none_stand : (c : Cells) (s : LowState) → AllStand c [] s
-none_stand c s t st there = let less = slice_get_within [] t st there in absurd (let no : t < 0 = less in omega (arith, no))
-
 -- units by a result
 abbrev pub by_result : Result (List Val) Code → (List Val → ℕ) → ℕ
 by_result (Ok vs) f = f vs
@@ -125,26 +121,26 @@ values_or (Ok vs) = vs
 values_or (Err code) = []
 
 -- ---- what is within the reads
--- it feeds what is made of a row that is known, within one more than its units
-abbrev pub FeedsRest : (c : Cells) → (base : ℕ) → (sink : FlowSink) → (most fuel many : ℕ) → (types : List ValType) → (carried : List Known) → (Rest : List Known → (next : ℕ) → Statement → List ValType → Type 0) → (work : List Val → Flow (List Val)) → (units : List Val → ℕ) → Type 0
-FeedsRest c base sink most fuel many types carried Rest work units =
+-- It feeds what is made of a row that is known, within one more than its units, with tables standing: of a row of which `Good` says what is asked of it.
+abbrev pub FeedsRest : (c : Cells) → (stoods : List Stood) → (base : ℕ) → (sink : FlowSink) → (most fuel many : ℕ) → (types : List ValType) → (carried : List Known) → (Rest : List Known → (next : ℕ) → Statement → List ValType → Type 0) → (Good : List Val → Type 0) → (work : List Val → Flow (List Val)) → (units : List Val → ℕ) → Type 0
+FeedsRest c stoods base sink most fuel many types carried Rest Good work units =
     (known : List Known) (next : ℕ) (row : List Val) (a : Statement) (own : List ValType) (s : LowState) → 1 + units row ≤ fuel → base ≤ next → next + length own ≤ many → map (λ (k : Known). k.expression) known ≡ map (λ (k : Known). k.expression) carried → AreWithin next known →
-    AreDeclared types known → AreOwn types next own → Rest known next a own → AreFit row carried → Here c [] many known row s → FeedsTo sink most fuel (1 + units row) (Below next) Any (work row) a s
+    AreDeclared types known → AreOwn types next own → Rest known next a own → AreFit row carried → Good row → Here c stoods many known row s → FeedsTo sink most fuel (1 + units row) (Below next) Any (work row) a s
 
 -- as operators and a sink do, and operators and another block innermost
-module _ (c : Cells) (base : ℕ) (sink : FlowSink) (runs : Runs c [] base sink) (most fuel many : ℕ) (types : List ValType) (carried : List Known) (operators : List Operator) (apart : AreApart carried operators) (served : AreServed [] operators) (nulls : (row : List Val) → IsNullAt row operators) where
-  pub sink_rest : (snk : Sink) → FeedsSink c [] base sink most fuel many types snk → CanCarry carried operators snk → FeedsRest c base sink most fuel many types carried (InSink operators snk) (fed [] operators snk) (cost [] operators snk)
-  sink_rest snk sunk can known next row a own s enough low room told within declared own_types is fit here =
-      carried_feeds c [] base sink runs most fuel many types snk sunk operators carried known next row a own s enough low room told within declared own_types is can apart served fit (nulls row) here
+module _ (c : Cells) (stoods : List Stood) (base : ℕ) (sink : FlowSink) (runs : Runs c stoods base sink) (most fuel many : ℕ) (types : List ValType) (carried : List Known) (operators : List Operator) (apart : AreApart carried operators) (served : AreServed stoods operators) (nulls : (row : List Val) → IsNullAt row operators) where
+  pub sink_rest : (snk : Sink) → FeedsSink c stoods base sink most fuel many types snk → CanCarry carried operators snk → FeedsRest c stoods base sink most fuel many types carried (InSink operators snk) (λ row. Unit {0}) (fed (built_of stoods) operators snk) (cost (built_of stoods) operators snk)
+  sink_rest snk sunk can known next row a own s enough low room told within declared own_types is fit good here =
+      carried_feeds c stoods base sink runs most fuel many types snk sunk operators carried known next row a own s enough low room told within declared own_types is can apart served fit (nulls row) here
 
-  pub end_rest : (End : List Known → (next : ℕ) → Statement → List ValType → Type 0) (values : List Expression) (turn : List Val → ℕ) → FeedsEnd c [] base sink most fuel many types End (select values) turn → CanCarry carried operators (select values) →
-      FeedsRest c base sink most fuel many types carried (InEnd End operators) (fed [] operators (select values)) (cost_to values turn [] operators)
-  end_rest End values turn ends can known next row a own s enough low room told within declared own_types is fit here =
-      carried_to_feeds c [] base sink runs most fuel many types End (select values) turn ends operators carried known next row a own s enough low room told within declared own_types is can apart served fit (nulls row) here
+  pub end_rest : (End : List Known → (next : ℕ) → Statement → List ValType → Type 0) (values : List Expression) (turn : List Val → ℕ) → FeedsEnd c stoods base sink most fuel many types End (select values) turn → CanCarry carried operators (select values) →
+      FeedsRest c stoods base sink most fuel many types carried (InEnd End operators) (λ row. Unit {0}) (fed (built_of stoods) operators (select values)) (cost_to values turn (built_of stoods) operators)
+  end_rest End values turn ends can known next row a own s enough low room told within declared own_types is fit good here =
+      carried_to_feeds c stoods base sink runs most fuel many types End (select values) turn ends operators carried known next row a own s enough low room told within declared own_types is can apart served fit (nulls row) here
 
-module _ (c : Cells) (base : ℕ) (sink : FlowSink) (runs : Runs c [] base sink) (most fuel many : ℕ) (types : List ValType) (Rest : List Known → (next : ℕ) → Statement → List ValType → Type 0) (work : List Val → Flow (List Val)) (units : List Val → ℕ)
+module _ (c : Cells) (stoods : List Stood) (base : ℕ) (sink : FlowSink) (runs : Runs c stoods base sink) (most fuel many : ℕ) (types : List ValType) (Rest : List Known → (next : ℕ) → Statement → List ValType → Type 0) (Good : List Val → Type 0) (work : List Val → Flow (List Val)) (units : List Val → ℕ)
     (literals : List Known) (entry far next : ℕ) (key : List ReadColumn) (values : List ValueColumn) (a : Statement) (own : List ValType) (h : IsGroupRowTo Rest literals entry far next key values a own) (low : base ≤ next)
-    (entry_low : entry < next) (room : next + length own ≤ many) (within : AreWithin next literals) (declared : AreDeclared types literals) (own_types : AreOwn types next own) (feeds : FeedsRest c base sink most fuel many types (all_anywhere key values ++ literals) Rest work units)
+    (entry_low : entry < next) (room : next + length own ≤ many) (within : AreWithin next literals) (declared : AreDeclared types literals) (own_types : AreOwn types next own) (feeds : FeedsRest c stoods base sink most fuel many types (all_anywhere key values ++ literals) Rest Good work units)
     (kinds : AreOfKinds values) (sized : AreSized key) where
   -- ---- the locals: those of the key, those of the values, and the rest's
   abbrev first_value : ℕ
@@ -154,7 +150,7 @@ module _ (c : Cells) (base : ℕ) (sink : FlowSink) (runs : Runs c [] base sink)
   last = next + 3 * length key + 8 * length values
 
   five : 5 ≤ next
-  five = let high = base_high c [] base sink runs in omega (arith, high, low)
+  five = let high = base_high c stoods base sink runs in omega (arith, high, low)
 
   own_many : length own ≡ 3 * length key + (8 * length values + length h.rest_own)
   own_many =
@@ -206,10 +202,10 @@ module _ (c : Cells) (base : ℕ) (sink : FlowSink) (runs : Runs c [] base sink)
 
   -- ---- a group is met
   module _ (k o : ℕ) (key_values : List Val) (rows : List (List Val)) (t : LowState) (leads : slice_get t.locals entry ≡ Some (Address (Own k) o)) (cells : HasCells (StandsIn c t) t.cells k (o + cell_offset 0) key_values)
-      (areas : HasAreas (StandsIn c t) (length key) (map aggregate_of values) rows c k (o + far)) (stored : AreStored key key_values) (few : 1 ≤ length values → length rows < 10 ^ 18) (less : IsLess c t.cells) (long : many ≤ length t.locals)
+      (areas : HasAreas (StandsIn c t) (length key) (map aggregate_of values) rows c k (o + far)) (stand : AllStand c stoods t) (stored : AreStored key key_values) (few : 1 ≤ length values → length rows < 10 ^ 18) (less : IsLess c t.cells) (long : many ≤ length t.locals)
       (literals_held : (row : List Val) → AreHeld literals row (seen c t)) (literals_fit : (row : List Val) → AreFit row literals)
       (typed : (vs : List Val) → function_values (length key) (functions_of values) rows ≡ Ok vs → AreRead values vs)
-      (key_at : (vs : List Val) → AreAt (key_values ++ vs) key key_values) (values_at : (vs : List Val) → AreRead values vs → AreAt (key_values ++ vs) (map column_for values) vs) where
+      (goods : (vs : List Val) → function_values (length key) (functions_of values) rows ≡ Ok vs → Good (key_values ++ vs)) (key_at : (vs : List Val) → AreAt (key_values ++ vs) key key_values) (values_at : (vs : List Val) → AreRead values vs → AreAt (key_values ++ vs) (map column_for values) vs) where
     abbrev come : Result (List Val) Code
     come = function_values (length key) (functions_of values) rows
 
@@ -234,7 +230,7 @@ module _ (c : Cells) (base : ℕ) (sink : FlowSink) (runs : Runs c [] base sink)
         both_kept : Kept next t w
         both_kept = Kept-then next first_value t u w (omega arith) first second
 
-        here : Here c [] many held whole w
+        here : Here c stoods many held whole w
         here = record {
           less = less_kept c next t w both_kept less;
           held = all-append (λ (x : Known). (v : Val) × (value_of x.expression (at_row whole) ≡ Ok v) × Holds x.operand v (seen c w)) (known_group next key values) literals
@@ -243,7 +239,7 @@ module _ (c : Cells) (base : ℕ) (sink : FlowSink) (runs : Runs c [] base sink)
               (held_later c (Among first_value) u w (longer_kept first_value u w second) (λ i among. second.below i among.1) (known_entry next key) row (entry_within next first_value key five (omega arith)) read))
               (values_held values vs first_value whole (seen c w) held_vs read_vs (values_at vs read_vs)))
               (held_later c (Among next) t w (longer_kept next t w both_kept) (λ i among. both_kept.below i among.1) literals whole within (literals_held whole));
-          stand = none_stand c w;
+          stand = stand_keeps c stoods base sink runs next t w low (keeps_kept c stoods base sink runs next t w low both_kept) stand;
           long = let same = both_kept.many in let far = long in omega (arith, same, far);
         }
 
@@ -259,7 +255,7 @@ module _ (c : Cells) (base : ℕ) (sink : FlowSink) (runs : Runs c [] base sink)
         onward =
             let same = units_are in
             feeds_weaker sink most fuel (1 + units (key_values ++ vs)) N (Below last) (Below next) Any Any (work (key_values ++ vs)) h.rest w (omega (arith, same)) (λ i old. below-less next last i (omega arith) old) (λ x keeps any. tt)
-            (feeds held last whole h.rest h.rest_own w (omega (arith, same, enough)) (omega (arith, low)) (let count = own_many in omega (arith, room, count)) told held_within held_declared rest_types h.carried fit here)
+            (feeds held last whole h.rest h.rest_own w (omega (arith, same, enough)) (omega (arith, low)) (let count = own_many in omega (arith, room, count)) told held_within held_declared rest_types h.carried fit (goods vs is) here)
 
       pub group_feeds : FeedsTo sink most fuel (1 + (most_read (functions_of values) + by_result (function_values (length key) (functions_of values) rows) (λ vs. units (key_values ++ vs)))) (Below next) Any
           (flow_by (function_values (length key) (functions_of values) rows) (λ vs. work (key_values ++ vs))) a t
@@ -268,11 +264,11 @@ module _ (c : Cells) (base : ℕ) (sink : FlowSink) (runs : Runs c [] base sink)
           let kept_sink : (rs : List (List Val)) (x y : LowState) → Kept next x y → sink.Has rs x → sink.Has rs y = λ rs x y kept. runs.kept next rs x y low kept in
           let Read : LowState → Type 0 = λ u. AreHeld (known_entry next key) row (seen c u) in
           subst (λ (b : Statement). FeedsTo sink most fuel N (Below next) Any (flow_by come (λ vs. work (key_values ++ vs))) b t) (sym h.is)
-          (own_then sink most fuel next (Below next) (old_low c [] base sink runs next low) kept_sink N next Read Any (flow_by come (λ vs. work (key_values ++ vs))) h.key_reads (seq h.value_reads h.rest) t (omega arith)
+          (own_then sink most fuel next (Below next) (old_low c stoods base sink runs next low) kept_sink N next Read Any (flow_by come (λ vs. work (key_values ++ vs))) h.key_reads (seq h.value_reads h.rest) t (omega arith)
           (Ends-more (λ u. Kept next t u × Read u) Never (λ code. ⊥) (size h.key_reads) (size h.key_reads * N) (meaning most fuel h.key_reads t) (at_least (size h.key_reads) N (omega arith))
           (reads_end c row most fuel key (cell_offset 0) entry next h.key_reads key_values k o t h.key_reading five entry_low sized stored (key_at (values_or come)) less leads cells (omega (arith, room, count, long))))
           (λ u first read.
-          own_by sink most fuel next (Below next) (old_low c [] base sink runs next low) kept_sink {A = List Val} N first_value (λ vs w. AreIn first_value values vs (seen c w)) Any come (λ vs. work (key_values ++ vs)) h.value_reads h.rest u (omega arith)
+          own_by sink most fuel next (Below next) (old_low c stoods base sink runs next low) kept_sink {A = List Val} N first_value (λ vs w. AreIn first_value values vs (seen c w)) Any come (λ vs. work (key_values ++ vs)) h.value_reads h.rest u (omega arith)
           (values_end c most fuel N (omega arith) enough values far entry first_value (length key) h.value_reads rows k o u h.value_reading (omega (arith, entry_low)) few (less_kept c next t u first less) (first.below entry entry_low ∙ leads)
           (areas-map (StandsIn c t) (StandsIn c u) (λ p i octets. stands_later c t u p i octets (longer_kept next t u first)) c k (length key) (map aggregate_of values) rows (o + far) areas)
           (let same = first.many in omega (arith, same, long, room, count)) (omega arith))
