@@ -3,6 +3,8 @@ pub mod GroupRows
 pub mod GrowingTables
 pub mod PermutedPlans
 pub mod PermutedTables
+pub mod PlanBounds
+pub mod PlanColumns
 pub mod PlannedRows
 pub mod ShareLemmas
 pub mod WholeOrder

@@ -1,5 +1,6 @@
 pub mod AnyOrder
 pub mod GroupTables
+pub mod PlanBounds
 pub mod Shares
 pub mod WholePromises
 pub mod WorkedWholes
