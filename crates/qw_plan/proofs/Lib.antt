@@ -1,3 +1,4 @@
+pub mod Ordering
 pub mod Placing
 pub mod Runs
 pub mod Stages

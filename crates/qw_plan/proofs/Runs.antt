@@ -15,7 +15,7 @@ use Rattle.qw_pipe.specs.Pipes.{Step, make, probe, step_flow, steps_flow, test}
 use Rattle.qw_pipe.proofs.Splitting as splitting
 use Rattle.qw_plan.specs.Stages.{Stage, distinct, group, show, stage_flow}
 use Rattle.qw_plan.specs.Plan.{Plan, plan_flow, rows, stage}
-use Rattle.qw_plan.specs.Pipes.{AreAmong, ComesTo, Pipeline, Progress, Split, after, ended_by, of_specification, pipeline_flow, run_of, source_flow, split, stage_split, then_step, walk, walked, with_table}
+use Rattle.qw_plan.specs.Pipes.{AreAmong, ComesTo, Pipeline, Progress, Split, after, ended_by, of_specification, pipeline_flow, run_of, source_flow, split, stage_split, then_step, to_result, to_walk, walk, walked, with_table}
 
 -- ---- flows that are alike: the same rows, and the same codes in some order
 record IsLike (f g : Flow (List Val)) : Type 0 where
@@ -121,7 +121,7 @@ module _ (tables : List (List (List Val))) where
   long_front built own next count e f = let b = length-append built own in omega (arith, b, e, f)
 
   walk_comes : (next : ℕ) (built : List (List (List Val))) (s : Stage) (S : Split) (f : Flow (List Val)) → length built ≡ next → Comes built S f → Comes built (walked s next S) (stage_flow s f)
-  walk_comes next built s S f e (inr h) = inr (stopped_then built S.builds (S.last ∷ []) f (stage_flow s f) (stage_codes s f) h)
+  walk_comes next built s S f e (inr h) = inr (stopped_then built S.builds (record S.last { target = to_walk s } ∷ []) f (stage_flow s f) (stage_codes s f) h)
   walk_comes next built s S f e (inl h) = by_codes f.codes refl G.codes refl
     where
       front : List (List (List Val))
@@ -133,8 +133,11 @@ module _ (tables : List (List (List Val))) where
       now : IsLike G f
       now = subst (λ b. IsLike (pipeline_flow tables b S.last) f) (append-nil front) (h.comes [])
 
-      is_after : after tables (fine built) (S.builds ++ S.last ∷ []) ≡ record { built = front ++ G.rows ∷ []; codes = G.codes }
-      is_after = after_append (fine built) S.builds (S.last ∷ []) ∙ ap (λ p. after tables p (S.last ∷ [])) h.is
+      filling : List Pipeline
+      filling = record S.last { target = to_walk s } ∷ []
+
+      is_after : after tables (fine built) (S.builds ++ filling) ≡ record { built = front ++ G.rows ∷ []; codes = G.codes }
+      is_after = after_append (fine built) S.builds filling ∙ ap (λ p. after tables p filling) h.is
 
       stopped : (code : Code) (codes : List Code) → G.codes ≡ code ∷ codes → Comes built (walked s next S) (stage_flow s f)
       stopped code codes g = inr (record {
@@ -151,12 +154,12 @@ module _ (tables : List (List (List Val))) where
       by_codes [] c [] d = inl (record {
         own = h.own ++ f.rows ∷ [];
         is = is_after ∙ ap₂ (λ b cs. record { built = b; codes = cs }) (ap (λ rs. front ++ rs ∷ []) now.rows ∙ append_assoc built h.own (f.rows ∷ [])) d;
-        count = (let a = length-append h.own (f.rows ∷ []) in let b = length-append S.builds (S.last ∷ []) in let x = h.count in omega (arith, a, b, x));
+        count = (let a = length-append h.own (f.rows ∷ []) in let b = length-append S.builds filling in let x = h.count in omega (arith, a, b, x));
         comes = λ more.
             let all = (built ++ (h.own ++ f.rows ∷ [])) ++ more in
             let there : get_or all (next + length S.builds) [] ≡ f.rows =
             ap (λ b. get_or (b ++ more) (next + length S.builds) []) (sym (append_assoc built h.own (f.rows ∷ []))) ∙ at_end front f.rows more (next + length S.builds) (long_front built h.own next (length S.builds) e h.count) in
-            like_same (pipeline_flow tables all (record { source = walk s (next + length S.builds); steps = [] })) (stage_flow s f)
+            like_same (pipeline_flow tables all (record { source = walk s (next + length S.builds); steps = []; target = to_result })) (stage_flow s f)
             (ap (stage_flow s) (flow_same (record { rows = get_or all (next + length S.builds) []; codes = [] }) f there (sym c)));
       })
 

@@ -1,12 +1,12 @@
 //! What holds of the plan of every query, and of its pipelines. No function here computes anything.
 
-ghost use Rattle.std.specs.Prelude.{◌≡◌, ◌≤◌, List, length};
+ghost use Rattle.std.specs.Prelude.{◌≡◌, ◌≤◌, List, [], length};
 ghost use Rattle.qw_types.specs.declared.value.Val.{Val};
 ghost use Rattle.qw_meaning.specs.Select.{AreOfEntries, IsSpecification, entries_of};
 ghost use Rattle.qw_grouped.specs.Whole.{Whole, whole_flow, whole_outcome};
 ghost use Rattle.qw_algebra.specs.Written as specification;
 ghost use Rattle.qw_rewrite.specs.Placed.{IsSizedPlan};
-ghost use Rattle.qw_plan.specs.Pipes.{ComesTo, run_of};
+ghost use Rattle.qw_plan.specs.Pipes.{AreOrdered, ComesTo, EndsInResult, pipelines, run_of};
 ghost use Rattle.qw_plan.specs.Placed.{placed_plan};
 ghost use Rattle.qw_plan.specs.Plan.{Plan, plan_flow, written};
 ghost use Rattle.qw_plan.specs.Stages.{Select, select_flow, select_of, select_outcome};
@@ -31,6 +31,13 @@ pub fn one_plan()
 pub fn widths_of_plans()
     ensures formed { (query : Whole) → IsFormed (written (select_of query)) }
     ensures wide { (tables : List (List (List Val))) (plan : Plan) → IsFormed plan → AreWide (plan_width plan) (plan_flow tables plan).rows }
+{}
+
+/// A pipeline of a plan walks or looks up only tables that pipelines before it fill for that. All but the last fill a table, and the last makes the
+/// result.
+pub fn order_of_pipelines()
+    ensures before { (plan : Plan) → AreOrdered [] (pipelines plan) }
+    ensures last { (plan : Plan) → EndsInResult (pipelines plan) }
 {}
 
 /// The pipelines of a plan, each table filled by its own and the last making the plan's rows, run one after another until one raises, come to the plan's

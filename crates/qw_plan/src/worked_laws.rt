@@ -12,7 +12,7 @@ ghost use Rattle.qw_grouped.specs.declared.set_function.SetFunctionKind.TheVaria
 ghost use Rattle.qw_algebra.specs.Node as node;
 ghost use Rattle.qw_pipe.specs.Pipes.{make, probe, test};
 ghost use Rattle.qw_pipe.specs.WorkedPipes.{past_range};
-ghost use Rattle.qw_plan.specs.Pipes.{run_of, scan, split, walk};
+ghost use Rattle.qw_plan.specs.Pipes.{AreOrdered, EndsInResult, run_of, scan, split, to_lookup, to_result, to_walk, walk};
 ghost use Rattle.qw_plan.specs.Plan.{plan_flow, rows, stage, written};
 ghost use Rattle.qw_plan.specs.Stages.{distinct, group, select_of};
 ghost use Rattle.qw_plan.specs.Widths.{IsFormed, plan_width};
@@ -23,15 +23,16 @@ ghost use Rattle.qw_plan.specs.WorkedSelects.{distinct_labels, same_label};
 /// partners; so there are two rows, each of two values.
 pub fn groups_of_a_join()
     ensures pipelines { split 0 (written (select_of distinct_labels)) ≡ record {
-      builds = record { source = scan 1 3; steps = [] }
+      builds = record { source = scan 1 3; steps = []; target = to_lookup (record { entries = 1 ∷ []; outer = false; on = same_label ∷ []; keys = [] }) }
           ∷ record {
             source = scan 0 3;
             steps = probe 0 (record { entries = 1 ∷ []; outer = false; on = same_label ∷ []; keys = [] }) ∷ test []
                 ∷ make (column 0 Integer ∷ column 3 (Varchar 20) ∷ number (pos 1) 0 ∷ []) ∷ [];
+            target = to_walk (group 2 (CountRows ∷ []));
           }
-          ∷ record { source = walk (group 2 (CountRows ∷ [])) 1; steps = test [] ∷ make (label_at 1 ∷ number_at 0 2 ∷ []) ∷ [] }
+          ∷ record { source = walk (group 2 (CountRows ∷ [])) 1; steps = test [] ∷ make (label_at 1 ∷ number_at 0 2 ∷ []) ∷ []; target = to_walk distinct }
           ∷ [];
-      last = record { source = walk distinct 2; steps = [] };
+      last = record { source = walk distinct 2; steps = []; target = to_result };
     } }
     ensures run { run_of four_tables (written (select_of distinct_labels)) ≡ record { rows = (Text pen ∷ Num (pos 2) ∷ []) ∷ (Text ink ∷ Num (pos 1) ∷ []) ∷ []; codes = [] } }
     ensures width { plan_width (written (select_of distinct_labels)) ≡ 2 }
@@ -44,6 +45,19 @@ pub fn runs_stop()
         ≡ record { rows = []; codes = DivZero ∷ OutOfRange ∷ OutOfRange ∷ OutOfRange ∷ [] } }
     ensures run { run_of four_tables (rows (node.project (node.join false (node.filter (quotient_above_six 0 ∷ []) (node.scan 0 3)) (node.filter (past_range ∷ []) (node.scan 1 3)) [] []) (column 0 Integer ∷ [])))
         ≡ record { rows = []; codes = OutOfRange ∷ OutOfRange ∷ OutOfRange ∷ [] } }
+{}
+
+/// Not in order: a pipeline that walks the groups of a table whose rows were put there to be looked up, and one that walks a table that none filled. Pipelines
+/// whose last fills a table don't end in a result.
+pub fn not_in_order()
+    ensures other_use { AreOrdered []
+        (record { source = scan 0 3; steps = []; target = to_lookup (record { entries = 0 ∷ []; outer = false; on = []; keys = [] }) }
+        ∷ record { source = walk (group 1 []) 0; steps = []; target = to_result } ∷ []) → ⊥ }
+    ensures other_stage { AreOrdered []
+        (record { source = scan 0 3; steps = make (column 0 Integer ∷ []) ∷ []; target = to_walk distinct }
+        ∷ record { source = walk (group 1 []) 0; steps = []; target = to_result } ∷ []) → ⊥ }
+    ensures not_filled { AreOrdered [] (record { source = walk distinct 0; steps = []; target = to_result } ∷ []) → ⊥ }
+    ensures no_result { EndsInResult (record { source = scan 0 3; steps = []; target = to_walk distinct } ∷ []) → ⊥ }
 {}
 
 /// Not formed: rows that no list made, and groups by two columns of rows of one value.
