@@ -45,11 +45,12 @@ stage_codes (group columns functions) f code there = Contains-append_left f.code
 stage_codes (show having items) f code there = Contains-append_left (f.codes ++ _) _ code (Contains-append_left f.codes _ code there)
 stage_codes distinct f code there = there
 
-module _ (tables : List (List (List Val))) where
-  steps_more : (built : List (List (List Val))) (steps : List Step) (s : Step) (f : Flow (List Val)) → steps_flow built (steps ++ s ∷ []) f ≡ step_flow built s (steps_flow built steps f)
-  steps_more built [] s f = refl
-  steps_more built (x ∷ steps) s f = steps_more built steps s (step_flow built x f)
+-- steps with one more behind them
+pub steps_more : (built : List (List (List Val))) (steps : List Step) (s : Step) (f : Flow (List Val)) → steps_flow built (steps ++ s ∷ []) f ≡ step_flow built s (steps_flow built steps f)
+steps_more built [] s f = refl
+steps_more built (x ∷ steps) s f = steps_more built steps s (step_flow built x f)
 
+module _ (tables : List (List (List Val))) where
   -- ---- one table after another
   after_append : (done : Progress) (xs ys : List Pipeline) → after tables done (xs ++ ys) ≡ after tables (after tables done xs) ys
   after_append done [] ys = refl

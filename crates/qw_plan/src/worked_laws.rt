@@ -6,17 +6,16 @@ ghost use Rattle.qw_types.specs.declared.value.Ty.TheVariants.{Integer, Varchar}
 ghost use Rattle.qw_types.specs.declared.value.Val.TheVariants.{Num, Text};
 ghost use Rattle.qw_scalar.specs.Expression.{column, number};
 ghost use Rattle.qw_scalar.specs.WorkedRows.{ink, pen};
-ghost use Rattle.qw_meaning.specs.WorkedQueries.{four_tables, quotient_above_six};
+ghost use Rattle.qw_meaning.specs.WorkedQueries.{four_tables};
 ghost use Rattle.qw_grouped.specs.WorkedGroups.{label_at, number_at};
 ghost use Rattle.qw_grouped.specs.declared.set_function.SetFunctionKind.TheVariants.{CountRows};
 ghost use Rattle.qw_algebra.specs.Node as node;
 ghost use Rattle.qw_pipe.specs.Pipes.{make, probe, test};
-ghost use Rattle.qw_pipe.specs.WorkedPipes.{past_range};
 ghost use Rattle.qw_plan.specs.Pipes.{AreOrdered, EndsInResult, run_of, scan, split, to_lookup, to_result, to_walk, walk};
 ghost use Rattle.qw_plan.specs.Plan.{plan_flow, rows, stage, written};
 ghost use Rattle.qw_plan.specs.Stages.{distinct, group, select_of};
 ghost use Rattle.qw_plan.specs.Widths.{IsFormed, plan_width};
-ghost use Rattle.qw_plan.specs.WorkedSelects.{distinct_labels, same_label};
+ghost use Rattle.qw_plan.specs.WorkedSelects.{both_raise, distinct_labels, same_label};
 
 /// `SELECT DISTINCT A.LABEL, COUNT(*) FROM ITEM A JOIN ITEM B ON A.LABEL = B.LABEL GROUP BY A.ID, A.LABEL`: B's rows fill table 0, A's look it up and
 /// their pairs fill table 1, whose groups fill table 2, whose distinct rows are the result. The items 1, 'pen', 2, 'ink' and 3, 'pen' have 2, 1 and 2
@@ -41,10 +40,8 @@ pub fn groups_of_a_join()
 /// ITEM where 10 / (ID - 1) > 6, which raises 22012 at the first row, joined with ITEM where ID + 999999999999999999 > 0, which raises 22003 at each of
 /// its three: the plan has all four exceptions. A run fills the right side's table first, and ends there with its three.
 pub fn runs_stop()
-    ensures plan { plan_flow four_tables (rows (node.project (node.join false (node.filter (quotient_above_six 0 ∷ []) (node.scan 0 3)) (node.filter (past_range ∷ []) (node.scan 1 3)) [] []) (column 0 Integer ∷ [])))
-        ≡ record { rows = []; codes = DivZero ∷ OutOfRange ∷ OutOfRange ∷ OutOfRange ∷ [] } }
-    ensures run { run_of four_tables (rows (node.project (node.join false (node.filter (quotient_above_six 0 ∷ []) (node.scan 0 3)) (node.filter (past_range ∷ []) (node.scan 1 3)) [] []) (column 0 Integer ∷ [])))
-        ≡ record { rows = []; codes = OutOfRange ∷ OutOfRange ∷ OutOfRange ∷ [] } }
+    ensures plan { plan_flow four_tables both_raise ≡ record { rows = []; codes = DivZero ∷ OutOfRange ∷ OutOfRange ∷ OutOfRange ∷ [] } }
+    ensures run { run_of four_tables both_raise ≡ record { rows = []; codes = OutOfRange ∷ OutOfRange ∷ OutOfRange ∷ [] } }
 {}
 
 /// Not in order: a pipeline that walks the groups of a table whose rows were put there to be looked up, and one that walks a table that none filled. Pipelines

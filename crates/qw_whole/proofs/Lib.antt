@@ -3,6 +3,7 @@ pub mod GroupRows
 pub mod GrowingTables
 pub mod PermutedPlans
 pub mod PermutedTables
+pub mod PipeUnits
 pub mod PlanBounds
 pub mod PlanColumns
 pub mod PlannedRows

@@ -1,5 +1,6 @@
 pub mod AnyOrder
 pub mod GroupTables
+pub mod PipeUnits
 pub mod PlanBounds
 pub mod Shares
 pub mod WholePromises
