@@ -37,7 +37,7 @@ pub record Split : Type 0 where
   pub builds : List Pipeline
   pub last : Pipeline
 
--- a pipeline of a query specification's plan
+-- what a pipeline of a query specification's plan is among these
 abbrev pub target_of : joins.Target → Target
 target_of (joins.to_table lookup) = to_lookup lookup
 target_of joins.to_result = to_result
