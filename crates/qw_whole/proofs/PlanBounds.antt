@@ -79,20 +79,15 @@ taken_by_cases (grouped query) true tables =
 pub same_taken : (query : Whole) (tables : List (List (List Val))) → taken query tables ≡ plan_taken tables (placed_plan (written (select_of query)))
 same_taken query tables = taken_by_cases query.body query.distinct tables
 
+abbrev pages_with : Whole → (tables : List (List (List Val))) → Taken → ℕ
+pages_with query tables t = pages_for t (length (plan_rows tables (plan_of query))) (plan_width (plan_of query))
+
 pages_by_body : (body : Body) (is_distinct : Bool) (tables : List (List (List Val)))
     → whole_pages (record { body = body; distinct = is_distinct }) tables ≡ plan_pages tables (plan_of (record { body = body; distinct = is_distinct }))
-pages_by_body (plain specification) false tables =
-    let plan = plan_of (record { body = plain specification; distinct = false }) in
-    ap (λ (t : Taken). pages_for t (length (plan_rows tables plan)) (plan_width plan)) (taken_by_cases (plain specification) false tables)
-pages_by_body (plain specification) true tables =
-    let plan = plan_of (record { body = plain specification; distinct = true }) in
-    ap (λ (t : Taken). pages_for t (length (plan_rows tables plan)) (plan_width plan)) (taken_by_cases (plain specification) true tables)
-pages_by_body (grouped query) false tables =
-    let plan = plan_of (record { body = grouped query; distinct = false }) in
-    ap (λ (t : Taken). pages_for t (length (plan_rows tables plan)) (plan_width plan)) (taken_by_cases (grouped query) false tables)
-pages_by_body (grouped query) true tables =
-    let plan = plan_of (record { body = grouped query; distinct = true }) in
-    ap (λ (t : Taken). pages_for t (length (plan_rows tables plan)) (plan_width plan)) (taken_by_cases (grouped query) true tables)
+pages_by_body (plain specification) false tables = ap (pages_with (record { body = plain specification; distinct = false }) tables) (taken_by_cases (plain specification) false tables)
+pages_by_body (plain specification) true tables = ap (pages_with (record { body = plain specification; distinct = true }) tables) (taken_by_cases (plain specification) true tables)
+pages_by_body (grouped query) false tables = ap (pages_with (record { body = grouped query; distinct = false }) tables) (taken_by_cases (grouped query) false tables)
+pages_by_body (grouped query) true tables = ap (pages_with (record { body = grouped query; distinct = true }) tables) (taken_by_cases (grouped query) true tables)
 
 pub same_pages : (query : Whole) (tables : List (List (List Val))) → whole_pages query tables ≡ plan_pages tables (placed_plan (written (select_of query)))
 same_pages query tables = pages_by_body query.body query.distinct tables
