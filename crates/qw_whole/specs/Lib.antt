@@ -1,6 +1,8 @@
 pub mod AnyOrder
 pub mod GroupTables
 pub mod Layouts
+pub mod PipeUnits
+pub mod PlanBounds
 pub mod Shares
 pub mod WholePromises
 pub mod WorkedLayouts

@@ -1,0 +1,5 @@
+pub mod Ordering
+pub mod Placing
+pub mod Runs
+pub mod Stages
+pub mod Widths
