@@ -43,7 +43,7 @@ use Rattle.qw_operator.proofs.Stood.{Stood}
 use Rattle.qw_emit.proofs.Answered.{IsTold}
 use Rattle.qw_compile.specs.QueryColumns.{AreColumnsOf}
 use Rattle.qw_compile.specs.QueryPasses.{ArePipelinesOf}
-use Rattle.qw_compile.specs.PlannedQueries.{greatest, page_bound, placed, plan_units, stored, units}
+use Rattle.qw_compile.specs.PlannedQueries.{greatest, page_bound, placed, planned_units, stored, units}
 use Rattle.qw_compile.proofs.Greatest.{greatest_small}
 use Rattle.qw_compile.proofs.KeptBounds.{greatest_few, stored_few}
 use Rattle.qw_compile.proofs.LocalsPlaced.{literal_count, literals_known}
@@ -175,7 +175,7 @@ module _ (row_is : (row other : List Val) → is_same_row row other ≡ true →
     pub plan : IsPlanned (query_of parts) tables kept of.node
     plan = planned parts kept columns made are of tables loaded
 
-    pub cost_within : (front back : List Pipeline) (more : List (List (List Val))) → all_spelled kept 0 (pipelines of.node) ≡ front ++ back → AreBuilt tables [] front more → costs tables [] (front ++ back) more ≤ plan_units (query_of parts) tables
+    pub cost_within : (front back : List Pipeline) (more : List (List (List Val))) → all_spelled kept 0 (pipelines of.node) ≡ front ++ back → AreBuilt tables [] front more → costs tables [] (front ++ back) more ≤ planned_units (query_of parts) tables
     cost_within front back more is built =
         costs_bounded row_is value_is kept tables query front back more are.specification loaded of.sized are.reads plan.scaled (sym spelled_are ∙ is) built
 

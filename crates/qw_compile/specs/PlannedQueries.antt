@@ -27,12 +27,12 @@ placed query = keyed true (sifted true [] (written query))
 
 -- What the plan takes: the rows of each scan, what its joins' tables take, and the octets of the texts that are compared, the greatest comparison of
 -- a step at each row or pair that reaches it.
-abbrev pub plan_units : Specification → List (List (List Val)) → ℕ
-plan_units query tables = units_of general_hashing tables (placed query)
+abbrev pub planned_units : Specification → List (List (List Val)) → ℕ
+planned_units query tables = units_of general_hashing tables (placed query)
 
 -- The units of a run are those of the plan and the rows of the result.
 abbrev pub units : Specification → List (List (List Val)) → ℕ
-units query tables = plan_units query tables + length (node_flow tables (placed query)).rows
+units query tables = planned_units query tables + length (node_flow tables (placed query)).rows
 
 -- ---- pages
 

@@ -38,7 +38,7 @@ use Rattle.qw_group_pipeline.specs.Groups.{most_read}
 use Rattle.qw_group_pipeline.specs.declared.columns.ValueColumn.{ValueColumn}
 use Rattle.qw_group_pipeline.proofs.RowFeeds.{by_result}
 use Rattle.qw_group_pipeline.proofs.ValuesCome.{AreRead, functions_of}
-use Rattle.qw_compile.specs.PlannedQueries.{greatest, kept_by, placed, plan_units}
+use Rattle.qw_compile.specs.PlannedQueries.{greatest, kept_by, placed, planned_units}
 use Rattle.qw_compile.proofs.PipelineRuns.{AreStood, fed_over}
 use Rattle.qw_compile.proofs.QueryReach.{scan_column, scan_table, table_of}
 use Rattle.qw_whole.specs.GroupTables.{chosen_units, group_octets, group_size, group_units}
@@ -75,7 +75,7 @@ module _ (row_is : (row other : List Val) → is_same_row row other ≡ true →
       (Told : ℕ → Type 0) (front_tells : (raised : ℕ) → IsTold (outcome (query_of source.parts) tables) raised → Told raised)
       (units_for octets_for : ℕ) (units_low : (rows : List (List Val)) → IsPermutation rows (planned_rows (query_of source.parts) tables) → group_units general_hashing query rows ≤ units_for)
       (octets_low : (rows : List (List Val)) → IsPermutation rows (planned_rows (query_of source.parts) tables) → group_octets query rows ≤ octets_for)
-      (S beside N : ℕ) (some_beside : 1 ≤ beside) (units_within : 1 + (plan_units (query_of source.parts) tables + units_for) ≤ N)
+      (S beside N : ℕ) (some_beside : 1 ≤ beside) (units_within : 1 + (planned_units (query_of source.parts) tables + units_for) ≤ N)
       (octets_within : table_octets (kept_by (query_of source.parts)) tables (placed (query_of source.parts)) + octets_for ≤ S) where
     abbrev n : ℕ
     n = length query.columns
@@ -127,7 +127,7 @@ module _ (row_is : (row other : List Val) → is_same_row row other ≡ true →
           subst (λ (c : ℕ). 1025 + spend (λ (k : List Val). most_read (functions_of values) + by_result (function_values (length key) (functions_of values) (members c k rows)) (λ vs. cost [] (filter query.having ∷ []) (select query.items) (k ++ vs))) (keys c rows) ≤ N) (sym many)
           (subst (λ (m : ℕ). 1025 + spend (λ (k : List Val). most_read (functions_of values) + by_result (function_values m (functions_of values) (members n k rows)) (λ vs. cost [] (filter query.having ∷ []) (select query.items) (k ++ vs))) (keys n rows) ≤ N) (sym place)
           (subst (λ (fs : List SetFunctionKind). 1025 + spend (λ (k : List Val). most_read fs + by_result (function_values n fs (members n k rows)) (λ vs. cost [] (filter query.having ∷ []) (select query.items) (k ++ vs))) (keys n rows) ≤ N) (sym functions)
-          (more (spend (λ (k : List Val). most_read kinds + by_result (function_values n kinds (members n k rows)) (λ vs. cost [] (filter query.having ∷ []) (select query.items) (k ++ vs))) (keys n rows)) (group_units general_hashing query rows) units_for (plan_units spec tables) N all units_less units_within)))
+          (more (spend (λ (k : List Val). most_read kinds + by_result (function_values n kinds (members n k rows)) (λ vs. cost [] (filter query.having ∷ []) (select query.items) (k ++ vs))) (keys n rows)) (group_units general_hashing query rows) units_for (planned_units spec tables) N all units_less units_within)))
         where
           more : (s f q u m : ℕ) → 1025 + s ≤ 1 + f → f ≤ q → 1 + (u + q) ≤ m → 1025 + s ≤ m
           more s f q u m h e g = omega (arith, h, e, g)

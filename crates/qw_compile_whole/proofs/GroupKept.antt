@@ -33,7 +33,7 @@ use Rattle.qw_operator.proofs.PairRows.{AreStored}
 use Rattle.qw_operator.proofs.Stood.{Stood}
 use Rattle.qw_emit.proofs.Answered.{IsTold}
 use Rattle.qw_group_pipeline.proofs.ValuesCome.{AreRead}
-use Rattle.qw_compile.specs.PlannedQueries.{kept_by, placed, plan_units}
+use Rattle.qw_compile.specs.PlannedQueries.{kept_by, placed, planned_units}
 use Rattle.qw_compile.proofs.Greatest.{greatest_small}
 use Rattle.qw_compile.proofs.PipelineRuns.{AreStood, fed_over}
 use Rattle.qw_compile.proofs.QueryReach.{table_of}
@@ -133,7 +133,7 @@ module _ (row_is : (row other : List Val) → is_same_row row other ≡ true →
     planned = planned_rows (query_of given.source.parts) tables
 
     abbrev pub units_kept : ℕ
-    units_kept = 1 + ((plan_units (query_of given.source.parts) tables + group_units general_hashing query (planned_rows (query_of given.source.parts) tables)) + length (rows_behind query (planned_rows (query_of given.source.parts) tables)))
+    units_kept = 1 + ((planned_units (query_of given.source.parts) tables + group_units general_hashing query (planned_rows (query_of given.source.parts) tables)) + length (rows_behind query (planned_rows (query_of given.source.parts) tables)))
 
     abbrev pub stored_kept : ℕ
     stored_kept = (table_octets (kept_by (query_of given.source.parts)) tables (placed (query_of given.source.parts)) + group_octets query (planned_rows (query_of given.source.parts) tables)) + length (rows_behind query (planned_rows (query_of given.source.parts) tables)) * row_size (length query.items)
@@ -161,7 +161,7 @@ module _ (row_is : (row other : List Val) → is_same_row row other ≡ true →
         less a b c e f = omega (arith, e, f)
 
     pub units_are : units_kept ≡ 1 + whole_units (asked_whole query) tables
-    units_are = ap (λ (s : Specification). 1 + ((plan_units s tables + group_units general_hashing query (planned_rows s tables)) + length (rows_behind query (planned_rows s tables)))) given.before_is
+    units_are = ap (λ (s : Specification). 1 + ((planned_units s tables + group_units general_hashing query (planned_rows s tables)) + length (rows_behind query (planned_rows s tables)))) given.before_is
 
     pub pages_are : most given_up stored_kept 1 given.source.building ≡ whole_pages (asked_whole query) tables
     pages_are =

@@ -28,7 +28,7 @@ use Rattle.qw_physical.proofs.QueryScans.{ScansOne}
 use Rattle.qw_physical.proofs.Results.{last_alike}
 use Rattle.qw_leaves.proofs.LeafLists.{all_back, all_front}
 use Rattle.qw_operator.proofs.Stood.{Stood, built_of}
-use Rattle.qw_compile.specs.PlannedQueries.{greatest, kept_by, placed, plan_units}
+use Rattle.qw_compile.specs.PlannedQueries.{greatest, kept_by, placed, planned_units}
 use Rattle.qw_compile.proofs.KeptBounds.{stored_few}
 use Rattle.qw_compile.proofs.PipelineRuns.{AreStood, fed_over}
 use Rattle.qw_compile.proofs.PromiseKept as promised
@@ -67,7 +67,7 @@ module _ (row_is : (row other : List Val) → is_same_row row other ≡ true →
     pub plan : IsPlanned (query_of source.parts) tables source.kept source.of.node
     plan = promised.plan row_is value_is source.parts source.kept source.columns source.ps source.are source.of (cut source) tables loaded
 
-    pub cost_within : (front back : List Pipeline) (more : List (List (List Val))) → all_spelled source.kept 0 (pipelines source.of.node) ≡ front ++ back → AreBuilt tables [] front more → costs tables [] (front ++ back) more ≤ plan_units (query_of source.parts) tables
+    pub cost_within : (front back : List Pipeline) (more : List (List (List Val))) → all_spelled source.kept 0 (pipelines source.of.node) ≡ front ++ back → AreBuilt tables [] front more → costs tables [] (front ++ back) more ≤ planned_units (query_of source.parts) tables
     cost_within front back more is built = promised.cost_within row_is value_is source.parts source.kept source.columns source.ps source.are source.of (cut source) tables loaded front back more is built
 
     -- tables of joins hold no more than those of the plan

@@ -37,7 +37,7 @@ use Rattle.qw_feed.specs.Feeds.{Tells}
 use Rattle.qw_physical.proofs.Results.{entries_stored}
 use Rattle.qw_emit.proofs.Answered.{IsTold}
 use Rattle.qw_operator.specs.Costs.{pipeline_cost_to}
-use Rattle.qw_compile.specs.PlannedQueries.{greatest, kept_by, placed, plan_units}
+use Rattle.qw_compile.specs.PlannedQueries.{greatest, kept_by, placed, planned_units}
 use Rattle.qw_compile.proofs.Planned.{are_distinct}
 use Rattle.qw_compile_whole.proofs.FrontLed.{FrontOf, cut, end_takes, front_at, front_count, front_takes, front_words, literals_over}
 use Rattle.qw_compile_whole.proofs.GroupCosts.{pipeline_to_less, present_served, stoods_have}
@@ -103,7 +103,7 @@ module _ (u S : ℕ) (some : 0 < u) (tables : List (List (List Val))) (building 
 -- ---- pipelines that build tables, and the last one
 module _ (row_is : (row other : List Val) → is_same_row row other ≡ true → row ≡ other) (value_is : (a : Val) → value_order a a ≡ ordering.Equal)
     {texts : List (List ℕ)} {layout : Layout} (source : FrontOf texts layout) (widest : ℕ) (widest_low : widest ≤ 24216) (rows_fit : 8 + 16 * length (query_of source.parts).items ≤ widest) (joins_fit : greatest_entry (kept_by (query_of source.parts)) (placed (query_of source.parts)) ≤ widest)
-    (T : ℕ) (room : length source.ps ≤ T) (tables : List (List (List Val))) (loaded : AreOfEntries (entries_of (query_of source.parts).sources) tables) (units_for octets_for S beside N : ℕ) (units_within : 1 + (plan_units (query_of source.parts) tables + units_for) ≤ N)
+    (T : ℕ) (room : length source.ps ≤ T) (tables : List (List (List Val))) (loaded : AreOfEntries (entries_of (query_of source.parts).sources) tables) (units_for octets_for S beside N : ℕ) (units_within : 1 + (planned_units (query_of source.parts) tables + units_for) ≤ N)
     (octets_within : table_octets (kept_by (query_of source.parts)) tables (placed (query_of source.parts)) + octets_for ≤ S) where
   abbrev spec : Specification
   spec = query_of source.parts
@@ -142,7 +142,7 @@ module _ (row_is : (row other : List Val) → is_same_row row other ≡ true →
       subst (λ (l : List Pipeline). spent u l (built_in_order tables [] l) (suc (length front)) + 2 * u < (2 + 2 * length source.building + S / u + 1) * u) (sym parts)
       (built_pays u S (length source.building) some_given tables front p back back (built_of stoods) built (omega (arith, joins, octets_within)) (ap (λ (l : List Pipeline). length l) (sym parts))) in
       reach_paid spec tables source.kept source.of.node the_plan source.building source.last (cut source).same (cut source).same_last (typed_builds row_is value_is source) (are_distinct source.kept source.are.kept_once)
-      (all_front (ScansOne entries) source.building (source.last ∷ []) (scans_whole row_is value_is source)) source.columns source.are.each T (front_at source) texts (front_words source) (front_takes source T room) (plan_units spec tables)
+      (all_front (ScansOne entries) source.building (source.last ∷ []) (scans_whole row_is value_is source)) source.columns source.are.each T (front_at source) texts (front_words source) (front_takes source T room) (planned_units spec tables)
       (cost_within row_is value_is source tables loaded) N u (most u S beside source.building) (omega (arith, units_within)) builds_fit front p back stoods parts are
       (less_then (budget u tables source.building (suc (length front)) + 2 * u) ((2 + 2 * length source.building + S / u + 1) * u) ((most u S beside source.building + 1) * u) pays (more_pages (length source.building) beside (S / u) u))
     where
@@ -159,8 +159,8 @@ module _ (row_is : (row other : List Val) → is_same_row row other ≡ true →
 
   -- ---- the last one, where the tables of joins stand
   module _ (stoods : List Stood) (stood : AreStood tables [] source.building stoods) where
-    last_cost : pipeline_cost tables (built_of stoods) source.last ≤ plan_units spec tables
-    last_cost = cost_last spec tables source.kept source.of.node the_plan source.building source.last (cut source).same (cut source).same_last (plan_units spec tables) (cost_within row_is value_is source tables loaded) stoods stood
+    last_cost : pipeline_cost tables (built_of stoods) source.last ≤ planned_units spec tables
+    last_cost = cost_last spec tables source.kept source.of.node the_plan source.building source.last (cut source).same (cut source).same_last (planned_units spec tables) (cost_within row_is value_is source tables loaded) stoods stood
 
     pub finds : Finds T (front_count source) source.columns (literals_over source T) tables N stoods source.last
     finds =

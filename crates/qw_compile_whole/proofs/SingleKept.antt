@@ -34,7 +34,7 @@ use Rattle.qw_operator.specs.Costs.{pipeline_cost_to}
 use Rattle.qw_group_pipeline.specs.Groups.{most_read}
 use Rattle.qw_group_pipeline.proofs.RowFeeds.{by_result}
 use Rattle.qw_group_pipeline.proofs.ValuesCome.{AreRead, functions_of}
-use Rattle.qw_compile.specs.PlannedQueries.{kept_by, placed, plan_units}
+use Rattle.qw_compile.specs.PlannedQueries.{kept_by, placed, planned_units}
 use Rattle.qw_compile.proofs.PipelineRuns.{AreStood, fed_over}
 use Rattle.qw_compile.proofs.QueryReach.{scan_column, scan_table, table_of}
 use Rattle.qw_whole.specs.WholePromises.{planned_rows, whole_pages, whole_units}
@@ -167,7 +167,7 @@ module _ (row_is : (row other : List Val) → is_same_row row other ≡ true →
       made_cost =
           let functions : functions_of (value_columns query) ≡ kinds = alone.theirs ∙ alone.functions in
           subst (λ (fs : List SetFunctionKind). 1 + (most_read fs + by_result (function_values 0 fs rows) (cost [] (filter folded.having ∷ []) (select folded.items))) ≤ N) (sym functions)
-          (more (most_read kinds + by_result (function_values 0 kinds rows) (cost [] (filter folded.having ∷ []) (select folded.items))) (group_units general_hashing folded rows) (group_units general_hashing query planned) (plan_units (query_of given.source.parts) tables) (length (rows_behind query planned))
+          (more (most_read kinds + by_result (function_values 0 kinds rows) (cost [] (filter folded.having ∷ []) (select folded.items))) (group_units general_hashing folded rows) (group_units general_hashing query planned) (planned_units (query_of given.source.parts) tables) (length (rows_behind query planned))
           (alone_within folded rows alone.no_columns (most_read kinds) (read_less kinds)) units_less)
         where
           more : (s f q u r : ℕ) → s ≤ f → f ≤ q → 1 + s ≤ 1 + ((u + q) + r)

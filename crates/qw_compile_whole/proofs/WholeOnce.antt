@@ -45,7 +45,7 @@ use Rattle.qw_operator.specs.Grouping.{Group, turn_of}
 use Rattle.qw_group_pipeline.specs.Groups.{most_read}
 use Rattle.qw_group_pipeline.proofs.RowFeeds.{by_result}
 use Rattle.qw_group_pipeline.proofs.ValuesCome.{AreRead, functions_of}
-use Rattle.qw_compile.specs.PlannedQueries.{kept_by, placed, plan_units}
+use Rattle.qw_compile.specs.PlannedQueries.{kept_by, placed, planned_units}
 use Rattle.qw_compile.proofs.Greatest.{greatest_small}
 use Rattle.qw_compile.proofs.PipelineRuns.{AreStood, fed_over}
 use Rattle.qw_compile.proofs.QueryReach.{table_of}
@@ -130,7 +130,7 @@ module _ (row_is : (row other : List Val) → is_same_row row other ≡ true →
     behind = rows_behind query (planned_rows (query_of given.source.parts) tables)
 
     abbrev N : ℕ
-    N = 1 + (((plan_units (query_of given.source.parts) tables + group_units general_hashing query (planned_rows (query_of given.source.parts) tables)) + distinct_units general_hashing (rows_behind query (planned_rows (query_of given.source.parts) tables))) + length (once (rows_behind query (planned_rows (query_of given.source.parts) tables))))
+    N = 1 + (((planned_units (query_of given.source.parts) tables + group_units general_hashing query (planned_rows (query_of given.source.parts) tables)) + distinct_units general_hashing (rows_behind query (planned_rows (query_of given.source.parts) tables))) + length (once (rows_behind query (planned_rows (query_of given.source.parts) tables))))
 
     abbrev S : ℕ
     S = ((table_octets (kept_by (query_of given.source.parts)) tables (placed (query_of given.source.parts)) + group_octets query (planned_rows (query_of given.source.parts) tables)) + distinct_octets (length query.items) (rows_behind query (planned_rows (query_of given.source.parts) tables)))
@@ -169,7 +169,7 @@ module _ (row_is : (row other : List Val) → is_same_row row other ≡ true →
         less i q m e = omega (arith, e)
 
     units_are : N ≡ 1 + whole_units (asked_distinct query) tables
-    units_are = ap (λ (s : Specification). 1 + (((plan_units s tables + group_units general_hashing query (planned_rows s tables)) + distinct_units general_hashing (rows_behind query (planned_rows s tables))) + length (once (rows_behind query (planned_rows s tables))))) given.before_is
+    units_are = ap (λ (s : Specification). 1 + (((planned_units s tables + group_units general_hashing query (planned_rows s tables)) + distinct_units general_hashing (rows_behind query (planned_rows s tables))) + length (once (rows_behind query (planned_rows s tables))))) given.before_is
 
     pages_are : M ≡ whole_pages (asked_distinct query) tables
     pages_are =
@@ -345,7 +345,7 @@ module _ (row_is : (row other : List Val) → is_same_row row other ≡ true →
               (subst (λ (l : ℕ). 1025 + spend (λ (k : List Val). most_read (functions_of []) + by_result (function_values l (functions_of []) (members m k entered)) (λ vs. cost [] (filter again.having ∷ []) (select again.items) (k ++ vs))) (keys m entered) ≤ N) (sym place)
               (subst (λ (fs : List SetFunctionKind). 1025 + spend (λ (k : List Val). most_read fs + by_result (function_values m fs (members m k entered)) (λ vs. cost [] (filter again.having ∷ []) (select again.items) (k ++ vs))) (keys m entered) ≤ N) (sym functions)
               (more (spend (λ (k : List Val). most_read [] + by_result (function_values m [] (members m k entered)) (λ vs. cost [] (filter again.having ∷ []) (select again.items) (k ++ vs))) (keys m entered)) (group_units general_hashing again entered) (distinct_units general_hashing entered) (distinct_units general_hashing behind)
-              (plan_units (query_of given.source.parts) tables) (group_units general_hashing query planned) (length (once behind)) all (units_once (shown query) whole.some_item entered entered_long general_hashing) second_units)))
+              (planned_units (query_of given.source.parts) tables) (group_units general_hashing query planned) (length (once behind)) all (units_once (shown query) whole.some_item entered entered_long general_hashing) second_units)))
             where
               more : (s f d e u q r : ℕ) → 1025 + s ≤ 1 + f → f ≡ d → d ≡ e → 1025 + s ≤ 1 + (((u + q) + e) + r)
               more s f d e u q r a b c = omega (arith, a, b, c)
@@ -394,7 +394,7 @@ module _ (row_is : (row other : List Val) → is_same_row row other ≡ true →
             (subst (λ (es : List Expression). 1025 + spend (λ (k : List Val). most_read kinds + by_result (function_values n kinds (members n k rows)) (λ vs. cost_to es (turn_of into entries chosen) [] (filter given.behind_is.having ∷ []) (k ++ vs))) (keys n rows) ≤ N) (sym into_values)
             (summed (spend (λ (k : List Val). most_read kinds + by_result (function_values n kinds (members n k rows)) (λ vs. cost_to given.behind_is.items (turn_of into entries chosen) [] (filter given.behind_is.having ∷ []) (k ++ vs))) (keys n rows))
             (spend (λ (k : List Val). most_read kinds + by_result (function_values n kinds (members n k rows)) (λ vs. cost [] (filter given.behind_is.having ∷ []) (select given.behind_is.items) (k ++ vs))) (keys n rows))
-            (total (turn_of into entries chosen) W) (group_units general_hashing folded rows) (group_units general_hashing query planned) (distinct_units general_hashing W) (distinct_units general_hashing behind) (plan_units (query_of given.source.parts) tables) (length (once behind))
+            (total (turn_of into entries chosen) W) (group_units general_hashing folded rows) (group_units general_hashing query planned) (distinct_units general_hashing W) (distinct_units general_hashing behind) (planned_units (query_of given.source.parts) tables) (length (once behind))
             less all (units_few rows by_planned) turns (second_units W (IsPermutation-refl W))))))
           where
             summed : (a s t f q d e u r : ℕ) → a ≤ s + t → 1025 + s ≤ 1 + f → f ≤ q → t ≤ d → d ≡ e → 1025 + a ≤ 1 + (((u + q) + e) + r)

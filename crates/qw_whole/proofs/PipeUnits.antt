@@ -121,8 +121,8 @@ module _ (h : Hashing) (tables : List (List (List Val))) where
         rows = ap (λ (f : Flow (List Val)). f.rows) shown_flow
             ∙ ap (λ (rs : List (List Val)). flat_map (λ (row : List Val). rows_given (selected items row)) (flat_map (λ (row : List Val). rows_given (kept having row)) rs)) c.rows;
         units = three (pipelines_units h tables [] S.builds) (pipeline_units h tables built S.last) (pipeline_units h tables built tested) (pipeline_units h tables built shown)
-            (tested_units having F.rows) (made_units items (each (kept having) F)) units (stage_units h (show having items) made)
-            (then_units built tested (make items) ∙ ap (λ (f : Flow (List Val)). pipeline_units h tables built tested + made_units items f) tested_flow)
+            (tested_units having F.rows) (made_units items (each (kept having) F).rows) units (stage_units h (show having items) made)
+            (then_units built tested (make items) ∙ ap (λ (f : Flow (List Val)). pipeline_units h tables built tested + made_units items f.rows) tested_flow)
             (then_units built S.last (test having)) c.units (ap (stage_units h (show having items)) c.rows);
         count = c.count;
       }

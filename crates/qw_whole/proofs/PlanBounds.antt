@@ -14,11 +14,11 @@ use Rattle.qw_plan.specs.Placed.{placed_plan}
 use Rattle.qw_plan.specs.Plan.{Plan, rows, written}
 use Rattle.qw_plan.specs.Stages.{select_of}
 use Rattle.qw_plan.specs.Widths.{plan_width}
-use Rattle.qw_compile.specs.PlannedQueries.{kept_by, placed, units}
+use Rattle.qw_compile.specs.PlannedQueries.{kept_by, placed, planned_units}
 use Rattle.qw_layout.specs.Row.{entry_size}
 use Rattle.qw_whole.specs.GroupTables.{all_groups, chosen_units, distinct_octets, distinct_size, distinct_units, group_keys, group_octets, group_size, read_units, rows_behind, table_octets, table_units}
 use Rattle.qw_whole.specs.PlanBounds.{columns_kept, plan_pages, plan_rows, plan_taken, plan_units}
-use Rattle.qw_whole.specs.WholePromises.{Taken, body_units, one_more, pages_for, planned_rows, taken, taken_by_joins, whole_pages, whole_units}
+use Rattle.qw_whole.specs.WholePromises.{Taken, body_units, one_more, pages_for, planned_rows, result_rows, taken, taken_by_joins, units_before, whole_pages, whole_units}
 use Rattle.qw_whole.proofs.PlanColumns.{greatest_same, kept_same, octets_same}
 
 abbrev pub plan_of : Whole → Plan
@@ -33,18 +33,28 @@ grouped_units query tables =
     let rs : List (List Val) = planned_rows (front query) tables in
     let n : ℕ = length query.columns in
     let functions = kinds_of query.functions in
-    shuffle (units (front query) tables) (table_units general_hashing (group_keys n rs) (map (key_of n) rs)) (sum_by (chosen_units n functions) rs) (length (groups n rs) * read_units functions)
-    (tested_units query.having (all_groups query rs).rows) (made_units query.items (each (kept query.having) (all_groups query rs)))
+    shuffle (planned_units (front query) tables) (table_units general_hashing (group_keys n rs) (map (key_of n) rs)) (sum_by (chosen_units n functions) rs) (length (groups n rs) * read_units functions)
+    (tested_units query.having (all_groups query rs).rows) (made_units query.items (each (kept query.having) (all_groups query rs)).rows)
 
 units_by_body : (body : Body) (is_distinct : Bool) (tables : List (List (List Val)))
-    → whole_units (record { body = body; distinct = is_distinct }) tables ≡ plan_units general_hashing tables (plan_of (record { body = body; distinct = is_distinct }))
+    → units_before (record { body = body; distinct = is_distinct }) tables ≡ plan_units general_hashing tables (plan_of (record { body = body; distinct = is_distinct }))
 units_by_body (plain specification) false tables = refl
 units_by_body (plain specification) true tables = refl
 units_by_body (grouped query) false tables = grouped_units query tables
 units_by_body (grouped query) true tables = ap (λ (n : ℕ). n + distinct_units general_hashing (rows_behind query (planned_rows (front query) tables))) (grouped_units query tables)
 
-pub same_units : (query : Whole) (tables : List (List (List Val))) → whole_units query tables ≡ plan_units general_hashing tables (placed_plan (written (select_of query)))
-same_units query tables = units_by_body query.body query.distinct tables
+-- the rows of the result are those that the plan makes
+rows_by_body : (body : Body) (is_distinct : Bool) (tables : List (List (List Val)))
+    → result_rows (record { body = body; distinct = is_distinct }) tables ≡ plan_rows tables (plan_of (record { body = body; distinct = is_distinct }))
+rows_by_body (plain specification) false tables = refl
+rows_by_body (plain specification) true tables = refl
+rows_by_body (grouped query) false tables = refl
+rows_by_body (grouped query) true tables = refl
+
+pub same_units : (query : Whole) (tables : List (List (List Val)))
+    → whole_units query tables ≡ plan_units general_hashing tables (placed_plan (written (select_of query))) + length (plan_rows tables (placed_plan (written (select_of query))))
+same_units query tables =
+    ap₂ (λ (n : ℕ) (made : List (List Val)). n + length made) (units_by_body query.body query.distinct tables) (rows_by_body query.body query.distinct tables)
 
 -- ---- pages
 few_kinds : (query : Grouped) → length (kinds_of query.functions) ≡ length query.functions

@@ -27,13 +27,14 @@ plan_rows tables (stage s below) = (stage_flow s (unraised (plan_rows tables bel
 -- ---- instructions
 
 -- A table of the groups; what MIN and MAX compare at each row; what reading its values takes at each group. HAVING at each row, and the select list at
--- each that it keeps, with the rows that are made. A table of the distinct rows, and these.
+-- each that it keeps. A table of the distinct rows.
 abbrev pub stage_units : Hashing → Stage → List (List Val) → ℕ
 stage_units h (group columns functions) rs =
     table_units h (group_keys columns rs) (map (key_of columns) rs) + sum_by (chosen_units columns functions) rs + length (groups columns rs) * read_units functions
-stage_units h (show having items) rs = tested_units having rs + made_units items (each (kept having) (unraised rs))
+stage_units h (show having items) rs = tested_units having rs + made_units items (each (kept having) (unraised rs)).rows
 stage_units h distinct rs = distinct_units h rs
 
+-- up to the rows that the plan makes, which count where they are the result's
 abbrev pub plan_units : Hashing → (tables : List (List (List Val))) → Plan → ℕ
 plan_units h tables (rows node) = units_of h tables node
 plan_units h tables (stage s below) = plan_units h tables below + stage_units h s (plan_rows tables below)

@@ -15,7 +15,7 @@ use Rattle.qw_pipe.specs.General.{general_hashing}
 use Rattle.qw_pipe.specs.Octets as joins
 use Rattle.qw_map.specs.Layout.{row_size}
 use Rattle.qw_promise.specs.Promise.{Promise}
-use Rattle.qw_compile.specs.PlannedQueries.{kept_by, placed, plan_units}
+use Rattle.qw_compile.specs.PlannedQueries.{kept_by, placed, planned_units}
 use Rattle.qw_whole.specs.GroupTables.{distinct_octets, distinct_size, distinct_units, group_octets, group_size, group_units, rows_behind}
 
 -- the select list
@@ -45,8 +45,8 @@ result_rows query tables = if_distinct query.distinct (body_rows query.body tabl
 
 -- up to the rows that the select list makes
 abbrev pub body_units : Body → (tables : List (List (List Val))) → ℕ
-body_units (plain specification) tables = plan_units specification tables
-body_units (grouped query) tables = plan_units (front query) tables + group_units general_hashing query (planned_rows (front query) tables)
+body_units (plain specification) tables = planned_units specification tables
+body_units (grouped query) tables = planned_units (front query) tables + group_units general_hashing query (planned_rows (front query) tables)
 
 -- and with the table of distinct rows
 abbrev pub units_before : Whole → (tables : List (List (List Val))) → ℕ
