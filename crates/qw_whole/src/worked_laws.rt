@@ -23,9 +23,9 @@ pub fn units_of_labels()
 {}
 
 /// Without GROUP BY there is one group with no key: of the three rows of ITEM, `SELECT COUNT(*)` takes 3, one entry, 1,024 slots, nothing that is
-/// folded, one for each row that meets the entry, and a result row: 1,032, as of n rows 2 n + 1,026. `SUM(PRICE)` beside it takes no more, `AVG(PRICE)` beside them takes 128 more, and twice no more
-/// than once. `MAX(LABEL)` compares at most 3 octets at each row, 9 more than COUNT(*), and MIN beside it no more. Of no row there are the
-/// entry, the slots and the result row.
+/// folded, one for each row that meets the entry, and a result row: 1,032, as of n rows 2 n + 1,026. `SUM(PRICE)` beside it takes no more;
+/// `AVG(PRICE)` beside them takes 128 more, and twice no more than once. `MAX(LABEL)` compares at most 3 octets at each row, 9 more than COUNT(*), and
+/// MIN beside it no more. Of no row there are the entry, the slots and the result row.
 pub fn units_of_one_group()
     ensures count { whole_units (all_of (of_items [] [] (count_rows ∷ []) [] (number_at 0 0 ∷ []))) four_tables ≡ 1032 }
     ensures sum { whole_units (all_of (of_items [] [] (count_rows ∷ applied_to Sum price ∷ []) [] (number_at 0 0 ∷ number_at 2 1 ∷ []))) four_tables ≡ 1032 }
