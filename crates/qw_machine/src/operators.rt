@@ -1,6 +1,6 @@
 //! What the machine does at an instruction that holds no other, but for accesses to memory. Values are numbers without a type.
 
-ghost use Rattle.std.specs.Prelude.{◌≡◌, ℕ, List, ◌+◌, ◌*◌, ◌<◌, ◌≤◌, length};
+ghost use Rattle.std.specs.Prelude.{◌≡◌, ℕ, List, ◌+◌, ◌*◌, ◌<◌, ◌≤◌, length, Some, slice_get, slice_set};
 ghost use Rattle.qw_linear.specs.Memory.{page};
 ghost use Rattle.qw_module.specs.Step.{op_wants};
 ghost use Rattle.qw_machine.specs.Inner.Operated.{CanOperate, IsDone};
@@ -53,8 +53,8 @@ pub(crate) fn operate(
         Op::LocalGet(x) => operands.push(locals[x as usize]),
         Op::LocalSet(x) => locals[x as usize] = operands.pop(),
         Op::LocalTee(x) => locals[x as usize] = operands.top(),
-        Op::GlobalGet(x) => operands.push(globals[x as usize]),
-        Op::GlobalSet(x) => globals[x as usize] = operands.pop(),
+        Op::GlobalGet(x) => operands.push(global_value(globals, x)),
+        Op::GlobalSet(x) => set_global(globals, x, operands.pop()),
         Op::Const(number) => operands.push(value_of(number)),
         Op::Unary(ty, operator) => {
             let x = operands.pop();
@@ -117,4 +117,23 @@ fn select(operands: &mut Stack<u64>)
     let second = operands.pop();
     let first = operands.pop();
     operands.push(if condition == 0 { second } else { first });
+}
+
+/// The value of a global (4.4.3, `global.get`).
+// A call, and so is its counterpart: in the dispatch, an access to a local would end in a jump to the code that they share.
+#[inline(never)]
+fn global_value(globals: &[u64], x: u32) -> u64
+    requires { x < length globals.now }
+    ensures { slice_get globals.now x ≡ Some result }
+{
+    globals[x as usize]
+}
+
+/// Gives a global a value (4.4.3, `global.set`).
+#[inline(never)]
+fn set_global(globals: &mut [u64], x: u32, value: u64)
+    requires { x < length globals.old }
+    ensures { globals.new ≡ slice_set globals.old x value }
+{
+    globals[x as usize] = value;
 }
