@@ -11,6 +11,7 @@ use Rattle.qw_check.specs.Check.{HasFault, SpellsValid}
 use Rattle.qw_check.specs.declared.check.CheckFault.TheVariants as check_faults
 use Rattle.qw_map.specs.Layout.{Layout}
 use Rattle.qw_promise.specs.Compiled.{IsCompiled}
+use Rattle.qw_whole.specs.Layouts.{IsLayoutOf}
 use Rattle.qw_whole.specs.WholePromises.{promise_of_whole}
 use Rattle.qw_bench.specs.Standing.{Standing}
 use Rattle.qw_command_line.specs.Words.{run, compile, check, gen, Reading, RunOptions, command, no_command, out_of_range, TextNames, reading}
@@ -72,11 +73,13 @@ CompileSettles files names statement _ = ⊥
 abbrev pub IsScriptFile : Files → TextNames → (name : List ℕ) → Type 0
 IsScriptFile files names name = (name ≡ names.schema) ⊎ ((schema : List Table) × SchemaIs files names.schema schema × (name ≡ names.queries))
 
--- the octets spell a compiled module of the query
+-- The octets spell a compiled module of the query, whose layout is the one that the query tells: so who has the query can lay its columns and its text
+-- literals before the module and run it.
 pub record SpellsCompiled (one : Asked) (octets : List ℕ) : Type 0 where
   pub layout : Layout
   pub m : Module
   pub compiled : IsCompiled (promise_of_whole one.whole) layout m
+  pub told : IsLayoutOf one.whole layout
   pub spelled : SpellsModule (contents_of m) octets
 
 -- what is written of a statement

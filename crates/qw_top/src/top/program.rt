@@ -6,6 +6,7 @@ ghost use Rattle.qw_types.specs.Contents.{Contents};
 ghost use Rattle.qw_types.specs.Schema.{AreColumns};
 ghost use Rattle.qw_types.specs.declared.schema.Table.{Table};
 ghost use Rattle.qw_promise.specs.Compiled.{IsCompiled};
+ghost use Rattle.qw_whole.specs.Layouts.{IsLayoutOf};
 ghost use Rattle.qw_whole.specs.WholePromises.{promise_of_whole};
 ghost use Rattle.qw_bench.specs.Bench.{IsColumnIn};
 ghost use Rattle.qw_top.specs.Inner.Queries.{IsJobOf, IsOver, asked_of};
@@ -28,6 +29,7 @@ use std::alloc::Global;
 pub fn compiled(alloc: Global, schema: &Schema, query: &TypedQuery) -> Result<Compiled, NoMemory>
     requires { IsOver schema.now query.now }
     ensures compiled { IfOk result (λ made. IsCompiled (promise_of_whole (asked_of query.now).whole) made.layout made.module) }
+    ensures layout { IfOk result (λ made. IsLayoutOf (asked_of query.now).whole made.layout) }
     ensures columns { IfOk result (λ made. (tables : List Contents) → AreContentsOf schema.now tables → AllByRecursion (IsColumnIn tables) made.layout.columns) }
 {
     limits_kept(schema);
