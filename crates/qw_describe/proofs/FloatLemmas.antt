@@ -1,6 +1,5 @@
 -- What is told has no float.
 use Rattle.std.proofs.Common.{◌≡◌, ◌||◌, Bool, false, List, [], ◌∷◌, ℕ, Option, Some, None, map, refl, ap₂}
-use Rattle.std.specs.List.{zip}
 use Rattle.serde_json.specs.Data.{Data}
 use Rattle.serde_json.specs.View.{items_of}
 use Rattle.serde_json.specs.Written.{has_float, items_have_float}
@@ -14,7 +13,8 @@ use Rattle.qw_module.specs.declared.module.Import.{Import}
 use Rattle.qw_module.specs.declared.module.Import.TheVariants as import
 use Rattle.qw_map.specs.Layout.{Layout}
 use Rattle.qw_order.specs.declared.sort_key.SortKey.{SortKey}
-use Rattle.qw_describe.specs.Description.{told, told_column, told_import, told_key, told_kind, told_number, told_option, told_result, told_table, told_type, told_used}
+use Rattle.qw_sink.specs.declared.sink.Head.{Head}
+use Rattle.qw_describe.specs.Description.{told, told_column, told_head, told_import, told_key, told_kind, told_number, told_option, told_table, told_type, told_used}
 
 neither : (b c : Bool) → b ≡ false → c ≡ false → (b || c) ≡ false
 neither b c first second = ap₂ (λ x y. x || y) first second
@@ -49,16 +49,16 @@ none_in_kind (kind.Number scale) = refl
 none_in_kind kind.Date = refl
 none_in_kind kind.Text = refl
 
-none_in_result : (column : List ℕ × Kind) → has_float (told_result column) ≡ false
-none_in_result column = neither _ _ (none_in_kind column.1) refl
+none_in_head : (head : Head) → has_float (told_head head) ≡ false
+none_in_head head = neither _ _ (none_in_kind head.kind) refl
 
-pub none_in_told : (tables : List Table) (imports : List Import) (layout : Layout) (names : List (List ℕ)) (keys : List SortKey)
-    → has_float (told tables imports layout names keys) ≡ false
+pub none_in_told : (tables : List Table) (imports : List Import) (layout : Layout) (header : List Head) (keys : List SortKey)
+    → has_float (told tables imports layout header keys) ≡ false
 unfolding told
-none_in_told tables imports layout names keys =
+none_in_told tables imports layout header keys =
     neither _ _ (none_in_list told_used layout.columns (λ used. refl))
     (neither _ _ (none_in_list told_import imports none_in_import)
     (neither _ _ (none_in_list told_number layout.literals (λ n. refl))
     (neither _ _ (none_in_list told_key keys (λ key. refl))
-    (neither _ _ (none_in_list told_result (zip names layout.cells) none_in_result)
+    (neither _ _ (none_in_list told_head header none_in_head)
     (neither _ _ (none_in_list told_table tables none_in_table) refl)))))

@@ -1,2 +1,1 @@
 mod FloatLemmas
-mod ZipLemmas

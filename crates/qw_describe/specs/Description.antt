@@ -1,7 +1,6 @@
 -- What a host is told of a compiled statement, in the terms of JSON (RFC 8259; docs/FORMATS.md). An object's members stand in the order of
 -- their keys.
 use Rattle.std.specs.Prelude.{ℕ, not, List, Option, Some, None, codes, map}
-use Rattle.std.specs.List.{zip}
 use Rattle.serde_json.specs.Data.{Data, null, boolean, number, unsigned, string, array, object, Members, member, no_members}
 use Rattle.serde_json.specs.View.{items_of}
 use Rattle.qw_types.specs.declared.kind.Kind.{Kind}
@@ -15,6 +14,7 @@ use Rattle.qw_module.specs.declared.module.Import.TheVariants as import
 use Rattle.qw_map.specs.Layout.{Layout}
 use Rattle.qw_map.specs.declared.layout.Used.{Used}
 use Rattle.qw_order.specs.declared.sort_key.SortKey.{SortKey}
+use Rattle.qw_sink.specs.declared.sink.Head.{Head}
 
 -- ---- JSON
 
@@ -79,9 +79,9 @@ told_kind (kind.Number scale) = named (codes "NUMBER") (member (codes "scale") (
 told_kind kind.Date = named (codes "DATE") no_members
 told_kind kind.Text = named (codes "TEXT") no_members
 
--- a result column, by its name and its kind: the kind of its values, and its name
-abbrev pub told_result : List ℕ × Kind → Data
-told_result column = object (member (codes "kind") (told_kind column.1) (member (codes "name") (string column.0) no_members))
+-- a result column: the kind of its values, and its name
+abbrev pub told_head : Head → Data
+told_head head = object (member (codes "kind") (told_kind head.kind) (member (codes "name") (string head.name) no_members))
 
 -- a key of ORDER BY (ISO/IEC 9075:1992, 13.1): whether it is DESC, and the result column, counted from 0
 abbrev pub told_key : SortKey → Data
@@ -91,11 +91,11 @@ told_key key = object (member (codes "descending") (boolean key.is_descending) (
 
 -- What a host is told: the columns that the module reads in the order of the descriptor's entries, its imports in their order, the octets of its
 -- texts, the keys of its order, the result columns, and the tables of the schema.
-unfoldable pub told : List Table → List Import → Layout → (names : List (List ℕ)) → List SortKey → Data
-told tables imports layout names keys =
+unfoldable pub told : List Table → List Import → Layout → (header : List Head) → List SortKey → Data
+told tables imports layout header keys =
     object (member (codes "columns") (list_of (map told_used layout.columns))
     (member (codes "imports") (list_of (map told_import imports))
     (member (codes "literals") (list_of (map told_number layout.literals))
     (member (codes "order") (list_of (map told_key keys))
-    (member (codes "results") (list_of (map told_result (zip names layout.cells)))
+    (member (codes "results") (list_of (map told_head header))
     (member (codes "tables") (list_of (map told_table tables)) no_members))))))

@@ -6,6 +6,7 @@ use Rattle.qw_types.specs.declared.value.Ty.TheVariants as ty
 use Rattle.qw_module.specs.declared.module.Import.{Import}
 use Rattle.qw_module.specs.declared.module.Import.TheVariants as import
 use Rattle.qw_map.specs.Layout.{Layout}
+use Rattle.qw_sink.specs.declared.sink.Head.{Head}
 
 -- CREATE TABLE ITEM (ID INTEGER NOT NULL, PRICE DECIMAL(9, 2), SOLD DATE, LABEL VARCHAR(10))
 abbrev pub item_table : Table
@@ -32,3 +33,6 @@ pens_layout = record {
   literals = codes "pen";
   cells = kind.Number 0 ∷ kind.Number 2 ∷ [];
 }
+
+abbrev pub pens_header : List Head
+pens_header = record { name = codes "ID"; kind = kind.Number 0 } ∷ record { name = codes "PRICE"; kind = kind.Number 2 } ∷ []

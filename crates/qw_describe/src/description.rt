@@ -6,18 +6,18 @@ ghost use Rattle.serde_json.specs.View.{view};
 ghost use Rattle.serde_json.specs.Written.{compact_text};
 ghost use Rattle.qw_describe.specs.Description.{told};
 
-use crate::results::tell_results;
 use crate::tell::tell_all;
 use qw_map::layout::Layout;
 use qw_module::module::Import;
 use qw_order::SortKey;
+use qw_sink::sink::Head;
+use qw_types::NoMemory;
 use qw_types::schema::Table;
-use qw_types::{NoMemory, Text};
 use serde_json::{Value, json};
 use std::alloc::{AllocError, Global};
 
-/// The description of a module with these imports and this layout, over tables, whose result columns have these names and are sorted by these
-/// keys: one object in JSON, without spaces or line ends.
+/// The description of a module with these imports and this layout, over tables, whose result has this header and is sorted by
+/// these keys: one object in JSON, without spaces or line ends.
 ///
 /// # Errors
 ///
@@ -27,12 +27,12 @@ pub fn description(
     tables: &[Table],
     imports: &[Import],
     layout: &Layout,
-    names: &[Text],
+    header: &[Head],
     keys: &[SortKey],
 ) -> Result<String, NoMemory>
-    ensures { IfOk result (λ text. string_bytes text ≡ compact_text (told tables.now imports.now layout.now names.now keys.now)) }
+    ensures { IfOk result (λ text. string_bytes text ≡ compact_text (told tables.now imports.now layout.now header.now keys.now)) }
 {
-    let value = tell(alloc, tables, imports, layout, names, keys)?;
+    let value = tell(alloc, tables, imports, layout, header, keys)?;
     Ok(value.to_string(alloc)?)
 }
 
@@ -43,16 +43,16 @@ fn tell(
     tables: &[Table],
     imports: &[Import],
     layout: &Layout,
-    names: &[Text],
+    header: &[Head],
     keys: &[SortKey],
 ) -> Result<Value, AllocError>
-    ensures { IfOk result (λ value. view value ≡ told tables.now imports.now layout.now names.now keys.now) }
+    ensures { IfOk result (λ value. view value ≡ told tables.now imports.now layout.now header.now keys.now) }
 {
     let tables = tell_all(alloc, tables)?;
     let imports = tell_all(alloc, imports)?;
     let columns = tell_all(alloc, layout.columns())?;
     let literals = tell_all(alloc, layout.literals())?;
-    let results = tell_results(alloc, names, layout.cells())?;
+    let results = tell_all(alloc, header)?;
     let order = tell_all(alloc, keys)?;
     json!(in alloc; {
         "tables": tables,

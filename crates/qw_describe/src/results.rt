@@ -1,13 +1,9 @@
 //! The columns of a result, and the keys of their order, in JSON.
 
-ghost use Rattle.std.specs.Prelude.{◌≡◌, map, IfOk};
-ghost use Rattle.std.specs.List.{zip};
-ghost use Rattle.serde_json.specs.View.{view};
-ghost use Rattle.qw_describe.specs.Description.{list_of, told_result};
-
 use crate::tell::Tell;
 use qw_order::SortKey;
-use qw_types::{Kind, Text};
+use qw_sink::sink::Head;
+use qw_types::Kind;
 use serde_json::{Value, json};
 use std::alloc::{AllocError, Global};
 
@@ -25,6 +21,17 @@ impl Tell for Kind {
     }
 }
 
+impl Tell for Head {
+    ghost use Rattle.qw_describe.specs.Description.{told_head};
+
+    ghost told = { told_head };
+
+    fn tell(&self, alloc: Global) -> Result<Value, AllocError> {
+        let kind = self.kind.tell(alloc)?;
+        json!(in alloc; {"name": self.name.as_str(), "kind": kind})
+    }
+}
+
 impl Tell for SortKey {
     ghost use Rattle.qw_describe.specs.Description.{told_key};
 
@@ -33,27 +40,4 @@ impl Tell for SortKey {
     fn tell(&self, alloc: Global) -> Result<Value, AllocError> {
         json!(in alloc; {"position": self.position, "descending": self.is_descending})
     }
-}
-
-/// The columns of a result in an array, by their names and kinds.
-pub(crate) fn tell_results(
-    alloc: Global,
-    names: &[Text],
-    kinds: &[Kind],
-) -> Result<Value, AllocError>
-    ensures { IfOk result (λ value. view value ≡ list_of (map told_result (zip names.now kinds.now))) }
-{
-    let mut values = Vec::new(alloc);
-    for (name, kind) in names.iter().zip(kinds) {
-        values.push(tell_result(alloc, name, *kind)?)?;
-    }
-    Ok(Value::Array(values))
-}
-
-/// A column of a result.
-fn tell_result(alloc: Global, name: &Text, kind: Kind) -> Result<Value, AllocError>
-    ensures { IfOk result (λ value. view value ≡ told_result (name.now, kind)) }
-{
-    let kind = kind.tell(alloc)?;
-    json!(in alloc; {"name": name.as_str(), "kind": kind})
 }

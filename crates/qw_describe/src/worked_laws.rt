@@ -3,11 +3,11 @@
 ghost use Rattle.std.specs.Prelude.{◌≡◌, ◌++◌, ◌∷◌, [], true, codes};
 ghost use Rattle.serde_json.specs.Written.{compact_text};
 ghost use Rattle.qw_describe.specs.Description.{told};
-ghost use Rattle.qw_describe.specs.Worked.{item_table, module_imports, pens_layout};
+ghost use Rattle.qw_describe.specs.Worked.{item_table, module_imports, pens_header, pens_layout};
 
 /// What is told of `SELECT ID, PRICE FROM ITEM WHERE LABEL = 'pen' ORDER BY PRICE DESC`.
 pub fn description_of_pens()
-    ensures { compact_text (told (item_table ∷ []) module_imports pens_layout (codes "ID" ∷ codes "PRICE" ∷ []) (record { position = 1; is_descending = true } ∷ []))
+    ensures { compact_text (told (item_table ∷ []) module_imports pens_layout pens_header (record { position = 1; is_descending = true } ∷ []))
         ≡ codes "{\"columns\":[{\"column\":3,\"table\":0},{\"column\":0,\"table\":0},{\"column\":1,\"table\":0}],"
         ++ (codes "\"imports\":[{\"kind\":\"memory\",\"max\":null,\"min\":1,\"module\":\"q\",\"name\":\"memory\"},"
         ++ (codes "{\"kind\":\"function\",\"module\":\"q\",\"name\":\"raise\"},{\"kind\":\"function\",\"module\":\"q\",\"name\":\"pages\"}],"

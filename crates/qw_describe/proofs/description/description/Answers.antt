@@ -8,5 +8,5 @@ pub returns : goal.returns
 returns c =
     let value = view c.in_ok-value.value in
     let none : has_float value ≡ false =
-    ap has_float c.in_ok-value.ensures ∙ none_in_told c.args.tables.now c.args.imports.now c.args.layout.now c.args.names.now c.args.keys.now in
+    ap has_float c.in_ok-value.ensures ∙ none_in_told c.args.tables.now c.args.imports.now c.args.layout.now c.args.header.now c.args.keys.now in
     c.in_ok-to_string.ensures.text none ∙ ap compact_text c.in_ok-value.ensures
