@@ -31,7 +31,7 @@ abbrev pub told_option : Option ℕ → Data
 told_option None = null
 told_option (Some n) = told_number n
 
--- an object of one to three members and more behind them
+-- an object that begins with its name, and more members behind it
 abbrev pub named : List ℕ → Members → Data
 named name more = object (member (codes "name") (string name) more)
 
