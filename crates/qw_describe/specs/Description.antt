@@ -1,5 +1,4 @@
--- What a host is told of a compiled statement, in the terms of JSON (RFC 8259; docs/FORMATS.md). An object's members stand in the order of
--- their keys.
+-- What a host is told of a compiled statement, in the terms of JSON (RFC 8259). An object's members stand in the order of their keys.
 use Rattle.std.specs.Prelude.{ℕ, not, List, Option, Some, None, codes, map}
 use Rattle.serde_json.specs.Data.{Data, null, boolean, number, unsigned, string, array, object, Members, member, no_members}
 use Rattle.serde_json.specs.View.{items_of}
