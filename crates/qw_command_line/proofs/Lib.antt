@@ -1,3 +1,4 @@
+mod LayoutLemmas
 mod ProgramLemmas
 mod ReadLemmas
 mod ReadingLemmas

@@ -29,7 +29,8 @@ taken_answers words app entered r is faults matches answers =
     let same : entered ≡ subcommand_of program words = matches (ap is_simple is ∙ program_is_simple) ∙ ap (λ (a : App). subcommand_of a words) is in
     rw (none, ← same) answers
 
-some_fault : (error : Error) (fault : WordsFault) (kinds : Kinds) → HasKind kinds error → (kind_of error ≡ kind.OutOfMemory → fault ≡ NoMemory) → (fault ≡ NoMemory → ⊥) → kinds ≡ [] → ⊥
+-- words that aren't taken have a fault
+pub some_fault : (error : Error) (fault : WordsFault) (kinds : Kinds) → HasKind kinds error → (kind_of error ≡ kind.OutOfMemory → fault ≡ NoMemory) → (fault ≡ NoMemory → ⊥) → kinds ≡ [] → ⊥
 some_fault error fault kinds (inl wanted) memory other none = other (memory wanted)
 some_fault error fault kinds (inr among) memory other none = subst (IsAmong (kind_of error)) none among
 

@@ -1,4 +1,5 @@
 pub mod Inner
+pub mod LayoutWords
 pub mod Read
 pub mod Words
 pub mod Worked

@@ -39,3 +39,10 @@ Answers reading (Ok read) = reading ≡ command (command_of read)
 Answers reading (Err (Refused text)) = reading ≡ no_command
 Answers reading (Err (OutOfRange number)) = reading ≡ out_of_range number
 Answers reading (Err NoMemory) = Unit {0}
+
+-- the same of words that tell a statement, as `compile` has them
+abbrev pub AnswersStatement : Reading → Result CompileWords WordsFault → Type 0
+AnswersStatement reading (Ok words) = reading ≡ command (compile (texts_of words) words.statement)
+AnswersStatement reading (Err (Refused text)) = reading ≡ no_command
+AnswersStatement reading (Err (OutOfRange number)) = reading ≡ out_of_range number
+AnswersStatement reading (Err NoMemory) = Unit {0}

@@ -90,9 +90,13 @@ with_file_options app = with_rule (with_rule app (option (name_of Null))) (optio
 abbrev pub run_app : App
 run_app = with_file_options (with_run_options bare_run_app)
 
+-- `.. SCHEMA QUERIES --statement K`
+abbrev pub with_statement : App → App
+with_statement app = with_rule (with_rule (with_rule app (place (codes "SCHEMA"))) (place (codes "QUERIES"))) statement_option
+
 -- `compile SCHEMA QUERIES --statement K`
 abbrev pub compile_app : App
-compile_app = with_rule (with_rule (with_rule (new_app (codes "compile")) (place (codes "SCHEMA"))) (place (codes "QUERIES"))) statement_option
+compile_app = with_statement (new_app (codes "compile"))
 
 -- `check MODULE`
 abbrev pub check_app : App

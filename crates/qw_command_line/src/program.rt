@@ -1,8 +1,9 @@
-//! The commands that the program has, as `clap` takes them.
+//! The commands that the program has, and the program `qwasm-layout`, as `clap` takes them.
 
 ghost use Rattle.std.specs.Prelude.{IfOk};
 ghost use Rattle.clap.specs.Words.{App, with_rule};
 ghost use Rattle.qw_command_line.specs.Inner.Programs.{IsApp};
+ghost use Rattle.qw_command_line.specs.LayoutWords as layout_spec;
 ghost use Rattle.qw_command_line.specs.Words as spec;
 
 use crate::command::Number;
@@ -65,24 +66,22 @@ fn compile<'a>(alloc: Global) -> Result<Command<'a>, AllocError>
     let compile = Command::new(alloc, "compile").about(
         "Writes the WebAssembly module of a query to standard output",
     );
-    let compile = with_place(
-        alloc,
-        compile,
-        "SCHEMA",
-        "The file of CREATE TABLE statements",
-    )?;
-    let compile = with_place(
-        alloc,
-        compile,
-        "QUERIES",
-        "The file of the script, 1 to 64 queries",
-    )?;
-    let statement = Arg::new(alloc, "statement")
-        .long("statement")
-        .value_name("K")
-        .required(true)
-        .help("The number of the query in the script, from 1");
-    compile.arg(statement)
+    with_statement(alloc, compile)
+}
+
+/// The program `qwasm-layout SCHEMA QUERIES --statement K`: its words come without its own name.
+///
+/// # Errors
+///
+/// Want of memory.
+pub(crate) fn layout_program<'a>(alloc: Global) -> Result<Command<'a>, AllocError>
+    ensures { IfOk result (λ program. IsApp program layout_spec.layout_program) }
+{
+    let program = Command::new(alloc, "qwasm-layout")
+        .about("Tells in JSON what a host has to know of the WebAssembly module of a query")
+        .no_binary_name(true)
+        .bin_name("qwasm-layout")?;
+    with_statement(alloc, program)
 }
 
 /// `check MODULE`.
@@ -174,6 +173,30 @@ fn with_file_options<'a>(alloc: Global, command: Command<'a>) -> Result<Command<
         "N",
         "Parts of each table's file, 1 to 999: t.1.csv to t.N.csv for table T",
     )
+}
+
+/// The command with the words that tell a statement: `SCHEMA QUERIES --statement K`.
+fn with_statement<'a>(alloc: Global, command: Command<'a>) -> Result<Command<'a>, AllocError>
+    ensures { IfOk result (λ more. (app : App) → IsApp command.entry app → IsApp more (spec.with_statement app)) }
+{
+    let command = with_place(
+        alloc,
+        command,
+        "SCHEMA",
+        "The file of CREATE TABLE statements",
+    )?;
+    let command = with_place(
+        alloc,
+        command,
+        "QUERIES",
+        "The file of the script, 1 to 64 queries",
+    )?;
+    let statement = Arg::new(alloc, "statement")
+        .long("statement")
+        .value_name("K")
+        .required(true)
+        .help("The number of the query in the script, from 1");
+    command.arg(statement)
 }
 
 /// The command with one more place, which has to be filled, and a line of help on it.

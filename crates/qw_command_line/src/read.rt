@@ -4,7 +4,7 @@ ghost use Rattle.std.specs.Prelude.{◌≡◌, ◌≤◌, ℕ, Option, Some, map
 ghost use Rattle.std.specs.String.{string_bytes};
 ghost use Rattle.clap.specs.Words.{Text, first_of, found_of, kind_of, rows_of, subcommand_rows_of};
 ghost use Rattle.qw_command_line.specs.Inner.Values.{IsRefusal, IsValue, gen_read, null_read, number_read, options_read, parts_read, run_read};
-ghost use Rattle.qw_command_line.specs.Read.{Answers};
+ghost use Rattle.qw_command_line.specs.Read.{Answers, AnswersStatement};
 ghost use Rattle.qw_command_line.specs.Words as spec;
 
 use crate::command::{
@@ -37,7 +37,7 @@ pub fn read<'a>(alloc: Global, words: &'a [String]) -> Result<Command<'a>, Words
 }
 
 /// Why words aren't read that `clap` answers with this error. Its text is for the user.
-fn refusal(alloc: Global, error: &Error) -> WordsFault
+pub(crate) fn refusal(alloc: Global, error: &Error) -> WordsFault
     ensures refusal { IsRefusal result }
     ensures memory { kind_of error.now ≡ ErrorKind.OutOfMemory → result ≡ WordsFault.NoMemory }
 {
@@ -122,15 +122,32 @@ fn run_words<'a>(
 fn read_compile<'a>(alloc: Global, matches: &ArgMatches<'a>) -> Result<Command<'a>, WordsFault>
     ensures { Answers (spec.read_compile (rows_of (found_of matches.now))) result }
 {
+    match statement_words(alloc, matches) {
+        Ok(words) => Ok(Command::Compile(words)),
+        Err(fault) => Err(fault),
+    }
+}
+
+/// The words that tell a statement, among the matches of a command that has their places.
+///
+/// # Errors
+///
+/// As of [`read`].
+pub(crate) fn statement_words<'a>(
+    alloc: Global,
+    matches: &ArgMatches<'a>,
+) -> Result<CompileWords<'a>, WordsFault>
+    ensures { AnswersStatement (spec.read_compile (rows_of (found_of matches.now))) result }
+{
     let schema = value(alloc, matches, "SCHEMA")?;
     let queries = value(alloc, matches, "QUERIES")?;
     let word = value(alloc, matches, "statement")?;
     match value_in_range(Number::Statement, word) {
-        Some(statement) => Ok(Command::Compile(CompileWords {
+        Some(statement) => Ok(CompileWords {
             schema,
             queries,
             statement,
-        })),
+        }),
         None => Err(WordsFault::OutOfRange(Number::Statement)),
     }
 }

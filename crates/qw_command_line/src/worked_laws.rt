@@ -2,6 +2,7 @@
 #![tactic(auto, unfolding(crate::specs::Words::reading, clap::proofs::OnLiterals::clap_on_literals))]
 
 ghost use Rattle.std.specs.Prelude.{◌≡◌, ◌-◌, ◌^◌, [], ◌∷◌, codes, Some, None, replicate, true, false};
+ghost use Rattle.qw_command_line.specs.LayoutWords.{layout_reading};
 ghost use Rattle.qw_command_line.specs.Words as spec;
 ghost use Rattle.qw_command_line.specs.Worked.{run_with, runs, with_files};
 ghost use Rattle.qw_command_line.specs.declared.command.Number.TheVariants.{Quantum, Pages, Steps, Statement, Seed, Rows, Null, Parts};
@@ -101,4 +102,19 @@ pub fn worked_table_files()
     ensures generation_parts { spec.reading (codes "gen" ∷ codes "0" ∷ codes "0" ∷ codes "--parts=1" ∷ []) ≡ spec.no_command }
     ensures compile { spec.reading (codes "compile" ∷ codes "s" ∷ codes "q" ∷ codes "--statement=1" ∷ codes "--null=N" ∷ []) ≡ spec.no_command }
     ensures check { spec.reading (codes "check" ∷ codes "m" ∷ codes "--parts=1" ∷ []) ≡ spec.no_command }
+{}
+
+/// Words of `qwasm-layout`, which are those of `compile` without its name, and are refused as these are.
+#[tactic(auto, unfolding(crate::specs::LayoutWords::layout_reading, clap::proofs::OnLiterals::clap_on_literals))]
+pub fn worked_layout_words()
+    ensures statement { layout_reading (codes "s" ∷ codes "q" ∷ codes "--statement" ∷ codes "1" ∷ []) ≡ spec.command (spec.compile (record { schema = codes "s"; queries = codes "q" }) 1) }
+    ensures anywhere { layout_reading (codes "--statement=064" ∷ codes "s" ∷ codes "q" ∷ []) ≡ spec.command (spec.compile (record { schema = codes "s"; queries = codes "q" }) 64) }
+    ensures zero { layout_reading (codes "s" ∷ codes "q" ∷ codes "--statement" ∷ codes "0" ∷ []) ≡ spec.out_of_range Statement }
+    ensures large { layout_reading (codes "s" ∷ codes "q" ∷ codes "--statement" ∷ codes "65" ∷ []) ≡ spec.out_of_range Statement }
+    ensures sign { layout_reading (codes "s" ∷ codes "q" ∷ codes "--statement" ∷ codes "+1" ∷ []) ≡ spec.out_of_range Statement }
+    ensures no_statement { layout_reading (codes "s" ∷ codes "q" ∷ []) ≡ spec.no_command }
+    ensures too_few { layout_reading (codes "s" ∷ codes "--statement=1" ∷ []) ≡ spec.no_command }
+    ensures too_many { layout_reading (codes "compile" ∷ codes "s" ∷ codes "q" ∷ codes "--statement=1" ∷ []) ≡ spec.no_command }
+    ensures nothing { layout_reading [] ≡ spec.no_command }
+    ensures help { layout_reading (codes "--help" ∷ []) ≡ spec.no_command }
 {}
