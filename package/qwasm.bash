@@ -23,3 +23,14 @@ _qwasm() {
     esac
 }
 complete -o filenames -F _qwasm qwasm
+
+# That of qwasm-layout's words, which are those of `compile`.
+_qwasm_layout() {
+    local word=${COMP_WORDS[COMP_CWORD]} before=${COMP_WORDS[COMP_CWORD - 1]}
+    case $before in --statement) return ;; esac
+    case $word in
+    -*) mapfile -t COMPREPLY < <(compgen -W "--statement" -- "$word") ;;
+    *) mapfile -t COMPREPLY < <(compgen -f -- "$word") ;;
+    esac
+}
+complete -o filenames -F _qwasm_layout qwasm-layout

@@ -6,8 +6,8 @@
 //! - `tables`, `reads`, `results`: tables and columns; what a module imports and reads; result columns and keys.
 //! - [`worked_laws`]: a small text.
 //!
-//! What is told is `told` of `specs/Description`. An object's members stand in the order of their keys. No program writes the text yet:
-//! `qwasm-layout`, whose words `qw_command_line` reads, is to be the one.
+//! What is told is `told` of `specs/Description`. An object's members stand in the order of their keys. The program
+//! `qwasm-layout` writes the text, by the call `qwasm_layout` of `qw_top`.
 #![tactic(auto)]
 
 pub mod description;

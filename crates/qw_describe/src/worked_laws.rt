@@ -1,4 +1,4 @@
-//! Small texts, byte for byte. No function here computes anything.
+//! Small texts, octet by octet. No function here computes anything.
 
 ghost use Rattle.std.specs.Prelude.{◌≡◌, ◌++◌, ◌∷◌, [], true, false, Some, codes};
 ghost use Rattle.serde_json.specs.Written.{compact_text};

@@ -36,7 +36,7 @@ pub run_explains : (limits : Limits) (files : Files) (names : Names) (kept : Opt
 run_explains limits files names kept result (inl (cause, h, is)) = subst (RunExplains limits files names kept) (sym is) (settled_explains limits files names kept cause h)
 run_explains limits files names kept result (inr fault) = fault_explains limits files names kept result fault
 
-want_ends : (result : Status) (old new : Option (List ℕ)) → NotesLine want_of_memory_line NoMemory result old new → (result ≡ WriteFailed) ⊎ (result ≡ NoMemory)
+pub want_ends : (result : Status) (old new : Option (List ℕ)) → NotesLine want_of_memory_line NoMemory result old new → (result ≡ WriteFailed) ⊎ (result ≡ NoMemory)
 want_ends result old new (inl (is, took)) = inr is
 want_ends result old new (inr (ends, front)) = ends
 

@@ -8,6 +8,7 @@ use Rattle.qw_check.specs.declared.check.CheckFault.TheVariants as check_faults
 use Rattle.qw_command_line.specs.Words.{TextNames}
 use Rattle.qw_top.specs.Call.{CheckSettles, CompileSettles, CompileWrites, HasScript, IsScriptFile, LeavesText, SpellsCompiled, TextExplains}
 use Rattle.qw_top.specs.Causes.{Cause, module_refused, module_too_long, no_statement, status_of_cause}
+use Rattle.qw_top.specs.LayoutCall.{IsStatement}
 use Rattle.qw_top.specs.Limits.{most_module_octets}
 use Rattle.qw_top.specs.declared.stop.Stop.{Stop}
 use Rattle.qw_top.specs.declared.stop.Stop.TheVariants.{NoMemory as NoMemoryLeft}
@@ -165,7 +166,9 @@ module _ (files : Files) (names : TextNames) (k : ℕ) where
   no_statement_stops now schema queries stop same declared asked few stops =
       cause_stops (CompileSettles files names k) (IsScriptFile files names) (no_statement k) stop (refl, (schema, queries, script_is now schema queries same declared asked, few)) stops
 
-  pub statement_compiled : (now : Files) (schema : List Table) (queries : List Asked) (one : Asked) (octets : List ℕ) → now ≡ files → SchemaIs files names.schema schema → QueriesAre now names.queries schema queries →
-      slice_get queries (k - 1) ≡ Some one → SpellsCompiled one octets → CompileWrites files names k octets
-  statement_compiled now schema queries one octets same declared asked there spells =
-      (one, (schema, queries, script_is now schema queries same declared asked, there), spells)
+  pub statement_found : (now : Files) (schema : List Table) (queries : List Asked) (one : Asked) → now ≡ files → SchemaIs files names.schema schema → QueriesAre now names.queries schema queries →
+      slice_get queries (k - 1) ≡ Some one → IsStatement files names k schema one
+  statement_found now schema queries one same declared asked there = (queries, script_is now schema queries same declared asked, there)
+
+  pub statement_compiled : (schema : List Table) (one : Asked) (octets : List ℕ) → IsStatement files names k schema one → SpellsCompiled one octets → CompileWrites files names k octets
+  statement_compiled schema one octets found spells = (one, (schema, found.0, found.1, found.2), spells)

@@ -11,6 +11,7 @@ mod EachLemmas
 mod EntryLemmas
 mod GeneratedLemmas
 mod InputLemmas
+mod LayoutLemmas
 mod OutputLemmas
 mod PlainLemmas
 mod QueryLemmas

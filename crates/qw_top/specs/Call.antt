@@ -73,8 +73,8 @@ CompileSettles files names statement _ = ⊥
 abbrev pub IsScriptFile : Files → TextNames → (name : List ℕ) → Type 0
 IsScriptFile files names name = (name ≡ names.schema) ⊎ ((schema : List Table) × SchemaIs files names.schema schema × (name ≡ names.queries))
 
--- The octets spell a compiled module of the query, whose layout is the one that the query tells: so who has the query can lay its columns and its text
--- literals before the module and run it.
+-- The octets spell a compiled module of the query, whose layout is one that the query tells: exactly the columns that are read, and the text literals in
+-- the order in which they first stand.
 pub record SpellsCompiled (one : Asked) (octets : List ℕ) : Type 0 where
   pub layout : Layout
   pub m : Module

@@ -6,6 +6,7 @@ pub mod Delivered
 pub mod FileNames
 pub mod Generated
 pub mod Inner
+pub mod LayoutCall
 pub mod Limits
 pub mod Notes
 pub mod Output

@@ -1,7 +1,8 @@
 //! From the bytes of the files to the bytes of the report.
 //!
-//! The program makes one call, [`qwasm`]. It takes the words of the command line, a shelf of files, a sink for the
-//! report, one for the lines on what went wrong, and a place for the bench, and answers the [`Status`] of the run.
+//! The program `qwasm` makes one call, [`qwasm`]. It takes the words of the command line, a shelf of files, a sink for the
+//! report, one for the lines on what went wrong, and a place for the bench, and answers the [`Status`] of the run. The program
+//! `qwasm-layout` calls [`qwasm_layout`] so.
 //!
 //! - [`files`]: a whole file, within its limit, and the names of files.
 //! - `table_file`: the files of a table, loaded as they are read.
@@ -31,4 +32,5 @@ pub mod top;
 pub mod worked_laws;
 
 pub use status::Status;
+pub use top::layout::qwasm_layout;
 pub use top::qwasm;

@@ -35,11 +35,13 @@ mod check;
 mod compile;
 mod header;
 mod inputs;
+pub mod layout;
 mod perform;
 pub mod program;
 pub mod queries;
 mod report;
 mod run;
+mod statement;
 
 /// Does what the words of a command line ask for, which come without the program's own name: runs queries over files or over generated
 /// input and writes their report to `out`, or writes the module of a statement, or says of a file that it is a valid module. `notes` gets

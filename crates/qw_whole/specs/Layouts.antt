@@ -51,8 +51,8 @@ texts_of (grouped query) = texts_among (leaves_of (front query) ++ (flat_map con
 
 -- ---- the layout
 
--- Its columns are exactly those that are read, each as its table declares it. The octets behind them are those of the query's text literals, one text right behind
--- another, in the order in which they first stand; one that stands twice or more may lie there once or more often.
+-- Its columns are exactly those that are read, each as its table declares it. The octets behind them are those of the query's text literals, one text right
+-- behind another, in the order in which they first stand. How often each lies there, and where again, isn't told here.
 pub record IsLayoutOf (whole : Whole) (layout : Layout) : Type 0 where
   pub columns : AreUsedAt (entries_of (sources_in whole.body)) (columns_read whole.body) layout.columns
   pub texts : List (List ℕ)

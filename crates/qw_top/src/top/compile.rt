@@ -1,6 +1,6 @@
 //! `compile`: the module of a statement.
 
-ghost use Rattle.std.specs.Prelude.{◌≡◌, ◌≢◌, ◌⊎◌, ◌-◌, ◌≤◌, ◌<◌, None, Some, IfErr, IfOk, IfSome, IsTrue, length, slice_get};
+ghost use Rattle.std.specs.Prelude.{◌≡◌, ◌≢◌, ◌⊎◌, IfErr, IfOk, IfSome, IsTrue};
 ghost use Rattle.qw_io.specs.Faults.{IsCounted};
 ghost use Rattle.qw_command_line.specs.Read.{texts_of};
 ghost use Rattle.qw_top.specs.Asking.{AsksWithin};
@@ -14,12 +14,11 @@ ghost use Rattle.qw_top.specs.Output.{with_text};
 ghost use Rattle.qw_top.specs.Top.{Asked};
 
 use super::answer::answer;
-use super::inputs::{read_queries, read_schema};
 use super::program::compiled;
-use crate::causes::Cause;
+use super::statement::read_statement;
 use crate::notes::note_stop;
 use crate::status::Status;
-use crate::stop::{Stop, refused};
+use crate::stop::Stop;
 use qw_binary::encode::encode;
 use qw_command_line::command::CompileWords;
 use qw_io::{Shelf, Sink};
@@ -77,21 +76,8 @@ fn octets_of_statement<'a, F: Shelf>(
     ensures shelf { HasRead (failed_stop result) (told_by F.Shelf files.old) (told_by F.Shelf files.new) }
     ensures within { AsksWithin (IsTextLimit names.now.schema.now names.now.queries.now) (F.watched files.old) (F.watched files.new) }
 {
-    let schema = read_schema(alloc, names.schema, files)?;
-    let queries = read_queries(alloc, names.queries, &schema, files)?;
-    match statement_of(&queries, names.statement) {
-        Some(query) => Ok(octets_of(alloc, &schema, query)?),
-        None => Err(refused(alloc, Cause::NoStatement(names.statement))),
-    }
-}
-
-/// The query of this number, counted from 1.
-fn statement_of(queries: &[TypedQuery], statement: u64) -> Option<&TypedQuery>
-    requires { 1 ≤ length queries.now }
-    ensures there { IfSome result (λ query. slice_get queries.now (statement - 1) ≡ Some query.now) }
-    ensures missing { result ≡ None → length queries.now < statement }
-{
-    queries.get(statement.saturating_sub(1) as usize)
+    let found = read_statement(alloc, names, files)?;
+    Ok(octets_of(alloc, &found.schema, &found.query)?)
 }
 
 /// The octets of the module of a query over a schema. A compiled module is always spelled.
