@@ -10,6 +10,51 @@ use crate::command::Number;
 use clap::{Arg, ArgAction, Command};
 use std::alloc::{AllocError, Global};
 
+// How each command ends, and what the lines mean that users meet first. The documents have all of it.
+
+const RUN_ENDS: &str = "Status:
+  0  rows of every query          6  a file could not be read
+  1  an SQL exception of a query  7  an output could not be written
+  2  words that are refused       8  PAGES: a query's page limit
+  3  the schema is refused        9  want of memory
+  4  a table's file is refused   10  STEPS: a query's instruction limit
+  5  the queries are refused     11  total pages: more than a memory has
+
+Lines on standard error:
+  not grammar in statement K  the K-th statement is none of the profile
+  not a token at N            no token begins at octet N of the file, counted from 0
+  T: bad header               the first line of T's file has to name the schema's columns, in their order
+
+docs/DIALECTS.md says what to write for LIMIT, !=, \"text\" and other things from elsewhere, docs/FORMATS.md what each line means.";
+
+const STATEMENT_ENDS: &str = "Status:
+  0  it is written                6  a file could not be read
+  2  words that are refused       7  an output could not be written
+  3  the schema is refused        9  want of memory
+  5  the queries are refused, or there is no statement K
+
+Lines on standard error:
+  not grammar in statement K  the K-th statement is none of the profile
+  not a token at N            no token begins at octet N of the file, counted from 0
+
+docs/DIALECTS.md says what to write for things from elsewhere, docs/FORMATS.md what each line means.";
+
+const CHECK_ENDS: &str = "Status:
+  0  the file is a valid module   6  the file could not be read
+  2  words that are refused       7  an output could not be written
+  5  it is none                   9  want of memory
+
+docs/FORMATS.md says what the line of a refusal means.";
+
+const GENERATED_ENDS: &str = "Status:
+  0  rows of every query          8  PAGES: a query's page limit
+  1  an SQL exception of a query  9  want of memory
+  2  words that are refused      10  STEPS: a query's instruction limit
+  7  an output could not be written
+ 11  total pages: more than a memory has
+
+docs/FORMATS.md says how the tables are generated.";
+
 /// The program: its words come without its own name, and one of its commands has to be given.
 ///
 /// # Errors
@@ -41,9 +86,9 @@ fn run<'a>(alloc: Global) -> Result<Command<'a>, AllocError>
 fn bare_run<'a>(alloc: Global) -> Result<Command<'a>, AllocError>
     ensures { IfOk result (λ run. IsApp run spec.bare_run_app) }
 {
-    let run = Command::new(alloc, "run").about(
-        "Runs the queries of a script over table files, and reports their rows",
-    );
+    let run = Command::new(alloc, "run")
+        .about("Runs the queries of a script over table files, and reports their rows")
+        .after_help(RUN_ENDS);
     let run = with_place(alloc, run, "SCHEMA", "The file of CREATE TABLE statements")?;
     let run = with_place(
         alloc,
@@ -63,9 +108,9 @@ fn bare_run<'a>(alloc: Global) -> Result<Command<'a>, AllocError>
 fn compile<'a>(alloc: Global) -> Result<Command<'a>, AllocError>
     ensures { IfOk result (λ compile. IsApp compile spec.compile_app) }
 {
-    let compile = Command::new(alloc, "compile").about(
-        "Writes the WebAssembly module of a query to standard output",
-    );
+    let compile = Command::new(alloc, "compile")
+        .about("Writes the WebAssembly module of a query to standard output")
+        .after_help(STATEMENT_ENDS);
     with_statement(alloc, compile)
 }
 
@@ -79,6 +124,7 @@ pub(crate) fn layout_program<'a>(alloc: Global) -> Result<Command<'a>, AllocErro
 {
     let program = Command::new(alloc, "qwasm-layout")
         .about("Tells in JSON what a host has to know of the WebAssembly module of a query")
+        .after_help(STATEMENT_ENDS)
         .no_binary_name(true)
         .bin_name("qwasm-layout")?;
     with_statement(alloc, program)
@@ -88,9 +134,9 @@ pub(crate) fn layout_program<'a>(alloc: Global) -> Result<Command<'a>, AllocErro
 fn check<'a>(alloc: Global) -> Result<Command<'a>, AllocError>
     ensures { IfOk result (λ check. IsApp check spec.check_app) }
 {
-    let check = Command::new(alloc, "check").about(
-        "Says whether a file is a valid module of WebAssembly 1.0, or why it is none",
-    );
+    let check = Command::new(alloc, "check")
+        .about("Says whether a file is a valid module of WebAssembly 1.0, or why it is none")
+        .after_help(CHECK_ENDS);
     with_place(
         alloc,
         check,
@@ -110,9 +156,9 @@ fn generate<'a>(alloc: Global) -> Result<Command<'a>, AllocError>
 fn bare_generate<'a>(alloc: Global) -> Result<Command<'a>, AllocError>
     ensures { IfOk result (λ generate. IsApp generate spec.bare_gen_app) }
 {
-    let generate = Command::new(alloc, "gen").about(
-        "Runs three queries over generated tables, and reports their rows",
-    );
+    let generate = Command::new(alloc, "gen")
+        .about("Runs three queries over generated tables, and reports their rows")
+        .after_help(GENERATED_ENDS);
     let generate = with_place(
         alloc,
         generate,

@@ -63,9 +63,8 @@ greatest query = max (row_size (length query.items)) (greatest_entry (kept_by qu
 abbrev pub stored : Specification → (tables : List (List (List Val))) → ℕ
 stored query tables = table_octets (kept_by query) tables (placed query) + length (node_flow tables (placed query)).rows * row_size (length query.items)
 
--- The most pages that a run holds, or asks for with those held. An entry or a row that doesn't fit the rest of a page begins another, and the
--- rest, which is smaller than it, is given up: so each page but the first and the last has more than a page less the greatest of them of what
--- is stored. Before and behind a directory as much as a page may be given up besides.
+-- The most pages that a run holds, or asks for with those held. No entry and no row spans pages, so a page wastes less than the greatest of them,
+-- and all pages but the first and the last are filled to more than a page less that. A directory may waste a page before it and one behind.
 abbrev pub page_bound : Specification → List (List (List Val)) → ℕ
 page_bound query tables = 2 + 2 * table_count (placed query) + stored query tables / (page - greatest query)
 

@@ -45,7 +45,7 @@ pub(crate) fn compile_groups(
     ensures layout { IfOk result (λ compiled. IsLayoutOf (record { body = asked.grouped (grouped_of query.now); distinct = distinct }) compiled.layout) }
     ensures short { IsShortGroups distinct query.now → IfErr result (λ fault. fault ≡ faults.NoMemory) }
 {
-    // That rows which aren't distinct are the same row is what the bounds on hash tables rest on.
+    // For the proof alone: the bounds need that equal keys are equal rows.
     order_laws();
     // That a grouped query is typed within its limits is known where a part of it is taken.
     let _sources = query.sources();

@@ -43,7 +43,7 @@ pub(crate) fn compile_plain(
     ensures short { IsShortPlain distinct query.now → IfErr result (λ fault. fault ≡ faults.NoMemory) }
 {
     if distinct {
-        // That rows which aren't distinct are the same row is what the bounds on hash tables rest on.
+        // For the proof alone: the bounds need that equal keys are equal rows.
         order_laws();
         let made = statement_of_plain_distinct(alloc, query)?;
         finish(alloc, made)

@@ -51,7 +51,7 @@ pub(crate) fn grouped_passes(alloc: Global, query: &GroupedQuery) -> Result<Grou
     requires sized { AllByRecursion (λ (e : specified.Entry). AllByRecursion (λ (c : schema.ColumnType). IsSized c.ty) e.columns) (entries_of (grouped_of query.now).sources) }
     ensures { IfOk result (λ made. AreGroupedPasses query.now made) }
 {
-    // That rows which aren't distinct are the same row is what the rows that go into groups are told by.
+    // For the proof alone: rows that go into groups are told by keys, of which equal ones are equal rows.
     order_laws();
     // That a grouped query is typed within its limits is known where a part of it is taken.
     let _sources = query.sources();

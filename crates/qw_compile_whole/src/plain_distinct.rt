@@ -39,7 +39,7 @@ pub fn statement_of_plain_distinct(
     ensures short { IsShortDistinct query.now → IfOk result (λ found. IfSome found (λ made. length made.block.code.items ≤ 2097152)) }
     ensures few_locals { IsShortDistinct query.now → IfOk result (λ found. IfSome found (λ made. length made.locals.items ≤ 2097152)) }
 {
-    // That rows which aren't distinct are the same row is what the rows that go into groups are told by.
+    // For the proof alone: rows that go into groups are told by keys, of which equal ones are equal rows.
     order_laws();
     let columns = columns_of(alloc, query)?;
     let used = used_of(alloc, query, &columns.read)?;

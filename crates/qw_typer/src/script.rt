@@ -23,8 +23,8 @@ use std::alloc::Global;
 ///
 /// # Errors
 ///
-/// `Fault` where a query has a fault: the first such query, counted from 1, one of its faults, and a token of the construct at
-/// fault. `NoMemory` where memory is wanting.
+/// `Fault` where a query has a fault: the number of the first faulty query, from 1, one of its faults, and the token that it is
+/// reported at. `NoMemory` where memory is wanting.
 pub fn type_script<'a>(
     alloc: Global,
     schema: &'a Schema,

@@ -88,10 +88,9 @@ taken query tables =
     then one_more (taken_by_body query.body tables) (distinct_octets (length (items_in query.body)) (body_rows query.body tables)) (distinct_size (length (items_in query.body)))
     else taken_by_body query.body tables
 
--- The most pages that a run holds, or asks for with those held, where tables take so much and there are so many result rows of so many cells. An
--- entry or a row that doesn't fit the rest of a page begins another, and the rest, which is smaller than it, is given up: so each page but the
--- first and the last has more than a page less the greatest of them of what is stored. Before and behind a directory as much as a page may be
--- given up besides.
+-- The most pages that a run holds, or asks for with those held, where tables take so much and there are so many result rows of so many cells. No
+-- entry and no row spans pages, so a page wastes less than the greatest of them, and all pages but the first and the last are filled to more than a
+-- page less that. A directory may waste a page before it and one behind.
 abbrev pub pages_for : Taken → (rows cells : ℕ) → ℕ
 pages_for t rows cells = 2 + 2 * t.tables + (t.octets + rows * row_size cells) / (page - max (row_size cells) t.greatest)
 
